@@ -1,0 +1,74 @@
+-- A few computed cases.
+use mathlib.Core.Path.{_≡_, refl}
+use mathlib.Core.List.{List, [], _∷_}
+use mathlib.Core.Bool.{true, false}
+use Rattle.base.specs.Ascii.{ascii}
+use Rattle.base.specs.First.{first}
+use Rattle.base.specs.Spans.{span, missing, spanOf}
+use Rattle.text.specs.Escape.{escapedAt, slashes}
+use Rattle.text.specs.White.{spaceWidth, isWhite, trimStart, trimEnd, contentEnd}
+use Rattle.key.specs.Keys.{isFirst, isMark, isKey, keyRun, runEnd, keyEnd}
+use Rattle.locator.specs.declared.Locator.{Locator}
+use Rattle.locator.specs.declared.Locator.the-variants.{Nothing, Plain, Labelled}
+use Rattle.locator.specs.Matchers.{matchers}
+use Rattle.locator.specs.Locators.{
+  locatorOf,
+  locatorFrom,
+  labelled,
+  valued,
+  valueEnd,
+  strip,
+  isLoose,
+  valueRun,
+  isValue,
+  labelOf,
+  orPage,
+  matchIn,
+  stands,
+  mayFollow,
+  fits,
+  lower,
+  skipBlanks,
+}
+use Rattle.item.specs.declared.Parsed.{Parsed}
+use Rattle.item.specs.declared.Parsed.the-variants.{Good, Bad}
+use Rattle.item.specs.Items.{itemOf, itemIn, itemAt, locatorStart, prefixEnd, suppresses, winner, wins, keyServes, atSign}
+use Rattle.item.specs.Pieces.{piecesOf, pieces, piecesIn, partsAt, itemsStart, integralAt, stretch}
+
+-- "`[x -@a, p. 3]` prefix `x`, suppressed, page, `3`"
+page-three : itemOf (ascii "[x -@a, p. 3]") 1 12
+    ≡ Good (record { prefix = span 1 1; key = span 5 1; whole = span 8 4; locator = Labelled 9 (span 11 1) missing; suppressed = true })
+unfolding itemOf itemIn itemAt locatorStart prefixEnd suppresses winner wins keyServes atSign
+    locatorOf locatorFrom labelled valued valueEnd strip isLoose valueRun isValue labelOf orPage matchIn stands mayFollow
+    fits lower skipBlanks matchers isFirst isMark isKey keyRun runEnd keyEnd
+    spaceWidth isWhite trimStart trimEnd contentEnd escapedAt slashes first spanOf ascii
+page-three = refl
+
+-- "`[@a,]` has no locator."
+comma : itemOf (ascii "[@a,]") 1 4
+    ≡ Good (record { prefix = missing; key = span 2 1; whole = missing; locator = Nothing; suppressed = false })
+unfolding itemOf itemIn itemAt locatorStart prefixEnd suppresses winner wins keyServes atSign
+    locatorOf locatorFrom labelled valued valueEnd strip isLoose valueRun isValue labelOf orPage matchIn stands mayFollow
+    fits lower skipBlanks matchers isFirst isMark isKey keyRun runEnd keyEnd
+    spaceWidth isWhite trimStart trimEnd contentEnd escapedAt slashes first spanOf ascii
+comma = refl
+
+alone : itemOf (ascii "[ @a ]") 1 5
+    ≡ Good (record { prefix = missing; key = span 3 1; whole = missing; locator = Nothing; suppressed = false })
+unfolding itemOf itemIn itemAt locatorStart prefixEnd suppresses winner wins keyServes atSign
+    locatorOf locatorFrom labelled valued valueEnd strip isLoose valueRun isValue labelOf orPage matchIn stands mayFollow
+    fits lower skipBlanks matchers isFirst isMark isKey keyRun runEnd keyEnd
+    spaceWidth isWhite trimStart trimEnd contentEnd escapedAt slashes first spanOf ascii
+alone = refl
+
+-- "`[\@a]` 5"
+escaped : itemOf (ascii "[\\@a]") 1 4 ≡ Bad
+unfolding itemOf itemIn itemAt locatorStart prefixEnd suppresses winner wins keyServes atSign
+    isFirst isMark isKey keyRun runEnd keyEnd
+    spaceWidth isWhite trimStart trimEnd contentEnd escapedAt slashes first spanOf ascii
+escaped = refl
+
+-- `[+@a;]`: two pieces, the second empty
+two-pieces : piecesOf (ascii "[+@a;]") 0 5 ≡ stretch 2 4 ∷ stretch 5 5 ∷ []
+unfolding piecesOf pieces piecesIn partsAt itemsStart integralAt ascii
+two-pieces = refl

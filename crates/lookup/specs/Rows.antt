@@ -1,0 +1,41 @@
+-- Item records: "16 u16: pairs for prefix, key (without `@`), locator, value, suffix, missing = 0 0 ..; label code;
+-- marks (1 suppressed, 2 integral, added); number; use; label pair into the label bytes."
+use Prim.Native.Nat.{ℕ, _+_, _*_}
+use mathlib.Core.List.{List, [], _∷_, _++_}
+use mathlib.Core.Bool.{Bool, true, false}
+use lib.ListN.{length}
+use Rattle.base.specs.Pick.{pick}
+use Rattle.base.specs.declared.Span.{Span}
+use Rattle.base.specs.Spans.{pairOf, missing}
+use Rattle.locator.specs.Answers.{codeOf, valueOf, suffixOf}
+use Rattle.item.specs.declared.Item.{Item}
+use Rattle.lookup.specs.Groups.{Group}
+
+-- how many numbers an item record has
+abbrev pub itemWidth : ℕ
+itemWidth = 16
+
+unfoldable pub marksOf : Bool → Item → ℕ
+marksOf integral it = pick (it .suppressed) 1 0 + pick integral 2 0
+
+-- the record of an item with its number, its use and its label
+unfoldable pub recordOf : Bool → Item → ℕ → ℕ → Span → List ℕ
+recordOf integral it number use-index label =
+    pairOf (it .prefix) ++ pairOf (it .key) ++ pairOf (it .whole) ++ pairOf (valueOf (it .locator)) ++ pairOf (suffixOf (it .locator))
+    ++ (codeOf (it .locator) ∷ marksOf integral it ∷ number ∷ use-index ∷ pairOf label)
+
+-- "The last four are 0 where not numbered or only looked up."
+unfoldable pub rowOf : Bool → Item → List ℕ
+rowOf integral it = recordOf integral it 0 0 missing
+
+unfoldable pub rowsIn : Bool → List Item → List ℕ
+rowsIn integral [] = []
+rowsIn integral (it ∷ its) = rowOf integral it ++ rowsIn integral its
+
+-- the records of a group's items, one after the other
+unfoldable pub rowsOf : Group → List ℕ
+rowsOf g = rowsIn (g .integral) (g .items)
+
+-- how many numbers they are
+unfoldable pub rowsLength : Group → ℕ
+rowsLength g = itemWidth * length (g .items)
