@@ -1,0 +1,2 @@
+pub mod FromCalls
+pub mod Demand3

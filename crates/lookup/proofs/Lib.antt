@@ -1,0 +1,3 @@
+pub mod AtBracket
+pub mod LooksUp
+pub mod Parts
