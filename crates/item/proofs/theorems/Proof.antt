@@ -1,0 +1,10 @@
+use Rattle.item.proofs.Parts.{item-in-order}
+use Rattle.item.proofs.Groups.{items-in-order}
+use Rattle.item.proofs.theorems.Statement.{statement}
+use Rattle.item.proofs.theorems.Tie as tie
+
+returns : tie.Need-returns
+returns c = (item-in-order, items-in-order)
+
+pub theorems-spec : {M : Type 1} → statement M
+theorems-spec = tie.close (tie.spec returns)

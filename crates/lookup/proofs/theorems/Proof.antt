@@ -1,0 +1,11 @@
+use Rattle.lookup.proofs.AtBracket.{bracket-true}
+use Rattle.lookup.proofs.Parts.{group-in-order}
+use Rattle.lookup.proofs.LooksUp.{look-up-true, look-up-leaves, look-up-keeps}
+use Rattle.lookup.proofs.theorems.Statement.{statement}
+use Rattle.lookup.proofs.theorems.Tie as tie
+
+returns : tie.Need-returns
+returns c = (bracket-true, (group-in-order, (look-up-true, (look-up-leaves, look-up-keeps))))
+
+pub theorems-spec : {M : Type 1} → statement M
+theorems-spec = tie.close (tie.spec returns)
