@@ -1,0 +1,57 @@
+-- The records of a sweep: its groups with their standing, and their items.
+use Prim.Native.Nat.{ℕ, _+_, _-_}
+use mathlib.Core.List.{List, [], _∷_, _++_}
+use mathlib.Core.Bool.{Bool, true, false}
+use lib.ListN.{length}
+use Rattle.base.specs.Pick.{pick}
+use Rattle.lookup.specs.Groups.{Group}
+use Rattle.lookup.specs.Rows.{rowsOf}
+use Rattle.definition.specs.Lines.{inLine, groupEnd}
+
+-- a group of the sweep, with its standing
+pub record Placed : Type 0 where
+  pub group : Group
+  pub standing : ℕ
+
+abbrev pub placed : Group → ℕ → Placed
+placed group standing = record { group = group; standing = standing }
+
+-- how many numbers a group record has
+abbrev pub groupWidth : ℕ
+groupWidth = 5
+
+-- "Group record, 5 u16: pair, first item (items, groups and entries count from 0), item count, standing"
+unfoldable pub groupRow : ℕ → Placed → List ℕ
+groupRow n p =
+    p .group .at ∷ (groupEnd (p .group) - p .group .at) ∷ n ∷ length (p .group .items) ∷ p .standing ∷ []
+
+-- the records of groups, the first of them having item number `n` as its first
+unfoldable pub groupRows : ℕ → List Placed → List ℕ
+groupRows n [] = []
+groupRows n (p ∷ ps) = groupRow n p ++ groupRows (n + length (p .group .items)) ps
+
+-- how many items groups have
+unfoldable pub itemCount : List Group → ℕ
+itemCount [] = 0
+itemCount (g ∷ gs) = length (g .items) + itemCount gs
+
+-- What is known of a group's standing in the sweep: 0 in a definition line, and 1 elsewhere until its keys are known to be defined. The
+-- group before these ended at `from`, and `before` says whether it stood in a definition line.
+unfoldable pub sweptFrom : List ℕ → Bool → ℕ → List Group → List Placed
+sweptFrom text before from [] = []
+sweptFrom text before from (g ∷ gs) =
+    placed g (pick (inLine text before from g) 0 1) ∷ sweptFrom text (inLine text before from g) (groupEnd g) gs
+
+-- whether the last of some groups stands in a definition line, and where it ends
+unfoldable pub insideAfter : List ℕ → Bool → ℕ → List Group → Bool
+insideAfter text before from [] = before
+insideAfter text before from (g ∷ gs) = insideAfter text (inLine text before from g) (groupEnd g) gs
+
+unfoldable pub endAfter : ℕ → List Group → ℕ
+endAfter from [] = from
+endAfter from (g ∷ gs) = endAfter (groupEnd g) gs
+
+-- the records of the groups' items, none of them numbered
+unfoldable pub itemRows : List Group → List ℕ
+itemRows [] = []
+itemRows (g ∷ gs) = rowsOf g ++ itemRows gs
