@@ -1,0 +1,5 @@
+pub mod Labels
+pub mod Order
+pub mod Records
+pub mod Numbers
+pub mod References

@@ -1,0 +1,116 @@
+-- Numbers, uses and labels, as the code writes them into the records, record by record.
+use Prim.Native.Nat.{ℕ, zero, suc, _+_, _*_, _%_}
+use mathlib.Core.List.{List, [], _++_}
+use mathlib.Core.Bool.{Bool, true, false, _&&_, not}
+use lib.ListN.{length, set}
+use lib.Dec.{eqb, ltb}
+use Rattle.base.specs.Pick.{pick}
+use Rattle.base.specs.Last.{last}
+use Rattle.base.specs.Lists.{same}
+use Rattle.lookup.specs.Rows.{itemWidth}
+use Rattle.sweep.specs.Rows.{groupWidth}
+use Rattle.pool.specs.Layout.{hasPool}
+use Rattle.definition.specs.Defs.{isDefined}
+use Rattle.numbering.specs.Records.{itemField, groupField, keyIn, suppressedIn, definitionIn}
+use Rattle.numbering.specs.Labels.{labelText}
+
+-- "Maps become searches over item records": the last item record before `k` that is numbered and has the key of record `k`; `k` where there
+-- is none
+unfoldable pub sameUse : List ℕ → List ℕ → ℕ → ℕ → Bool
+sameUse text items k j = ltb 0 (itemField items j 12) && same (keyIn text items j) (keyIn text items k)
+
+unfoldable pub lastUse : List ℕ → List ℕ → ℕ → ℕ
+lastUse text items k = last (sameUse text items k) k k
+
+-- the number and the use of item record `k`, `sources` being those so far. (A record's number is a u16.)
+unfoldable pub numberIn : List ℕ → List ℕ → ℕ → ℕ → ℕ
+numberIn text items sources k =
+    pick (ltb (lastUse text items k) k) (itemField items (lastUse text items k) 12) ((sources + 1) % 65536)
+
+unfoldable pub useIn : List ℕ → List ℕ → Bool → ℕ → ℕ
+useIn text items pooled k =
+    pick pooled (pick (ltb (lastUse text items k) k) ((itemField items (lastUse text items k) 13 + 1) % 65536) 1) 0
+
+-- the sources after item record `k`
+unfoldable pub sourcesIn : List ℕ → List ℕ → ℕ → ℕ → ℕ
+sourcesIn text items sources k = pick (ltb (lastUse text items k) k) sources (sources + 1)
+
+-- "number; use; label pair into the label bytes": the last four numbers of item record `k`
+unfoldable pub setLast : List ℕ → ℕ → ℕ → ℕ → ℕ → ℕ → List ℕ
+setLast items k number use-index at len =
+    set
+    (set
+    (set
+    (set items (itemWidth * k + 12) number)
+    (itemWidth * k + 13) use-index)
+    (itemWidth * k + 14) at)
+    (itemWidth * k + 15) len
+
+-- the sources, the item and group records, and the label bytes so far
+pub record Numbered : Type 0 where
+  pub sources : ℕ
+  pub items : List ℕ
+  pub groups : List ℕ
+  pub labels : List ℕ
+
+-- What does not change on the way: text, mode, pool, and the count of groups
+module _ (text : List ℕ) (mode : ℕ) (pool : List ℕ) (n : ℕ) where
+  unfoldable pub labelIn : Numbered → ℕ → List ℕ
+  labelIn t k =
+      labelText mode (suppressedIn (t .items) k) (numberIn text (t .items) (t .sources) k)
+      (definitionIn text (t .groups) (t .items) n pool (keyIn text (t .items) k))
+
+  -- one more item of a numbered group: record `k`, with this label
+  unfoldable pub citeAs : Numbered → ℕ → List ℕ → Numbered
+  citeAs t k label = record {
+    sources = sourcesIn text (t .items) (t .sources) k;
+    items =
+      setLast (t .items) k
+      (numberIn text (t .items) (t .sources) k)
+      (useIn text (t .items) (hasPool pool) k)
+      (length (t .labels))
+      (length label);
+    groups = t .groups;
+    labels = t .labels ++ label;
+  }
+
+  unfoldable pub citeIn : Numbered → ℕ → Numbered
+  citeIn t k = citeAs t k (labelIn t k)
+
+  -- the `m` item records from `k` on
+  unfoldable pub citeFrom : ℕ → Numbered → ℕ → Numbered
+  citeFrom zero t k = t
+  citeFrom (suc m) t k = citeFrom m (citeIn t k) (k + 1)
+
+  -- every key of the `m` item records from `k` on is defined
+  unfoldable pub definedFrom : ℕ → Numbered → ℕ → Bool
+  definedFrom zero t k = true
+  definedFrom (suc m) t k =
+      isDefined (definitionIn text (t .groups) (t .items) n pool (keyIn text (t .items) k)) && definedFrom m t (k + 1)
+
+  -- group record `g` with the standing 2
+  unfoldable pub standsNumbered : Numbered → ℕ → Numbered
+  standsNumbered t g = record {
+    sources = t .sources;
+    items = t .items;
+    groups = set (t .groups) (groupWidth * g + 4) 2;
+    labels = t .labels;
+  }
+
+  -- "A group with any undefined key gets no number, use or label", and none in a definition line does
+  unfoldable pub isNumbered : Numbered → ℕ → Bool
+  isNumbered t g =
+      not (eqb (groupField (t .groups) g 4) 0) && definedFrom (groupField (t .groups) g 3) t (groupField (t .groups) g 2)
+
+  unfoldable pub numberGroup : Numbered → ℕ → Numbered
+  numberGroup t g =
+      pick (isNumbered t g) (citeFrom (groupField (t .groups) g 3) (standsNumbered t g) (groupField (t .groups) g 2)) t
+
+  -- the `m` group records from `g` on
+  unfoldable pub numberFrom : ℕ → Numbered → ℕ → Numbered
+  numberFrom zero t g = t
+  numberFrom (suc m) t g = numberFrom m (numberGroup t g) (g + 1)
+
+  -- all of them, from the records as the sweep left them
+  unfoldable pub numberAll : List ℕ → List ℕ → Numbered
+  numberAll items groups = numberFrom n (record { sources = 0; items = items; groups = groups; labels = [] }) 0

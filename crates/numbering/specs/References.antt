@@ -1,0 +1,35 @@
+-- Reference order, from the records.
+use Prim.Native.Nat.{ℕ, zero, suc, _+_}
+use mathlib.Core.List.{List, [], _∷_, map}
+use lib.Dec.{eqb}
+use Rattle.base.specs.Pick.{pick}
+use Rattle.base.specs.First.{first}
+use Rattle.base.specs.Fold.{fold}
+use Rattle.base.specs.Lists.{upFrom}
+use Rattle.pool.specs.Entries.{bytesOr}
+use Rattle.definition.specs.Defs.{defAuthor}
+use Rattle.numbering.specs.Records.{itemField, keyIn, definitionIn}
+use Rattle.numbering.specs.Order.{Ranked, insert}
+
+module _ (text pool groups items : List ℕ) (n m : ℕ) where
+  -- the first of the `m` item records that has the number `k`
+  unfoldable pub firstWith : ℕ → ℕ
+  firstWith k = first (λ j. eqb (itemField items j 12) k) m 0
+
+  -- the key of source number `k`
+  unfoldable pub sourceKeyIn : ℕ → List ℕ
+  sourceKeyIn k = keyIn text items (firstWith k)
+
+  -- "by author bytes, or by key where no author is given"
+  unfoldable pub rankIn : ℕ → List ℕ
+  rankIn k = bytesOr (defAuthor (definitionIn text groups items n pool (sourceKeyIn k))) (sourceKeyIn k)
+
+  -- the `count` sources from number `k` on
+  unfoldable pub rankedIn : ℕ → ℕ → List Ranked
+  rankedIn zero k = []
+  rankedIn (suc count) k = record { number = k; rank = rankIn k } ∷ rankedIn count (k + 1)
+
+  -- "mode 0 by number; mode 1 by author bytes, or by key where no author is given, equal ones by number"
+  unfoldable pub referencesIn : ℕ → ℕ → List ℕ
+  referencesIn mode sources =
+      pick (eqb mode 0) (upFrom 1 sources) (map (λ (r : Ranked). r .number) (fold insert [] (rankedIn sources 1)))
