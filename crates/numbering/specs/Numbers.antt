@@ -65,11 +65,11 @@ module _ (text : List ℕ) (mode : ℕ) (pool : List ℕ) (n : ℕ) where
   citeAs t k label = record {
     sources = sourcesIn text (t .items) (t .sources) k;
     items =
-      setLast (t .items) k
-      (numberIn text (t .items) (t .sources) k)
-      (useIn text (t .items) (hasPool pool) k)
-      (length (t .labels))
-      (length label);
+        setLast (t .items) k
+        (numberIn text (t .items) (t .sources) k)
+        (useIn text (t .items) (hasPool pool) k)
+        (length (t .labels))
+        (length label);
     groups = t .groups;
     labels = t .labels ++ label;
   }

@@ -1,3 +1,4 @@
 pub mod Sweep
 pub mod Rows
 pub mod Stops
+pub mod Facts

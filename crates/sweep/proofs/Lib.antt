@@ -1,0 +1,3 @@
+pub mod Sweeps
+pub mod Sizes
+pub mod Stops
