@@ -1,5 +1,5 @@
 -- The loop's invariant: what the whole scan finds is what the rest of it finds, from `i` at the depth `d`. The measure: the bytes left.
-use Prim.Native.Nat.{_+_, _-_, _≤_, _<_}
+use Prim.Native.Nat.{_-_, _≤_, _<_}
 use mathlib.Core.Path.{_≡_}
 use lib.ListN.{length}
 use borrow.Author.Needs.{needs}
