@@ -6,7 +6,7 @@ use mathlib.Core.List.{List}
 use lib.ListN.{length}
 use borrow.Author.Tests.{le-leb, lt-leb, eq-eqb, ne-eqb}
 use Rattle.base.specs.declared.Span.{Span}
-use Rattle.base.specs.Spans.{spanOf}
+use Rattle.base.specs.Spans.{missing, spanOf}
 use Rattle.locator.specs.declared.Label.{Label}
 use Rattle.locator.specs.declared.Locator.{Locator}
 use Rattle.locator.specs.declared.Locator.the-variants.{Nothing, Plain, Labelled}
@@ -21,6 +21,7 @@ use Rattle.locator.specs.Locators.{
   locatorFrom,
   locatorOf,
 }
+use Rattle.locator.specs.Answers.{codeOf, valueOf, suffixOf}
 use Rattle.locator.proofs.Parts.{run-from, run-by, skip-by}
 use Rattle.locator.proofs.Labels.{label-by}
 
@@ -59,6 +60,49 @@ module _ (s : List ℕ) (a e : ℕ) where
       → v ≡ skipBlanks s (l .after) e → r ≡ valued s (l .code) v e → r ≡ locatorOf s a e
   unfolding locatorOf locatorFrom labelled
   locator-labelled {i} {l} q h t z p r = rw (← q, lt-leb e i h, ← t, ne-eqb (l .code) 0 z, ← p) r
+
+-- code, value and suffix of a locator, case by case
+module _ {l : Locator} where
+  pub code-nothing : l ≡ Nothing → 0 ≡ codeOf l
+  unfolding codeOf
+  code-nothing q = rw q refl
+
+  pub value-nothing : l ≡ Nothing → missing ≡ valueOf l
+  unfolding valueOf
+  value-nothing q = rw q refl
+
+  pub suffix-nothing : l ≡ Nothing → missing ≡ suffixOf l
+  unfolding suffixOf
+  suffix-nothing q = rw q refl
+
+  module _ {suffix : Span} where
+    pub code-plain : l ≡ Plain suffix → 0 ≡ codeOf l
+    unfolding codeOf
+    code-plain q = rw q refl
+
+    pub value-plain : l ≡ Plain suffix → missing ≡ valueOf l
+    unfolding valueOf
+    value-plain q = rw q refl
+
+    pub suffix-plain : l ≡ Plain suffix → suffix ≡ suffixOf l
+    unfolding suffixOf
+    suffix-plain q = rw q refl
+
+    module _ {code : ℕ} {value : Span} where
+      pub code-labelled : l ≡ Labelled code value suffix → code ≡ codeOf l
+      unfolding codeOf
+      code-labelled q = rw q refl
+
+      pub value-labelled : l ≡ Labelled code value suffix → value ≡ valueOf l
+      unfolding valueOf
+      value-labelled q = rw q refl
+
+      pub suffix-labelled : l ≡ Labelled code value suffix → suffix ≡ suffixOf l
+      unfolding suffixOf
+      suffix-labelled q = rw q refl
+
+pub ruleset answers =
+    (code-nothing, value-nothing, suffix-nothing, code-plain, value-plain, suffix-plain, code-labelled, value-labelled, suffix-labelled)
 
 pub ruleset values =
     (run-after, run-within, valued-by, value-start, locator-nothing, locator-plain, locator-labelled)

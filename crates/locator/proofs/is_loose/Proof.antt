@@ -1,9 +1,8 @@
-use Rattle.locator.specs.Locators.{isLoose}
+-- `locator::is_loose` meets its contract: the code is the definition.
 use borrow.Author.Needs.{needs}
+use Rattle.locator.specs.Locators.{isLoose}
 use Rattle.locator.proofs.is_loose.Statement.{statement}
 use Rattle.locator.proofs.is_loose.Tie as tie
-use Rattle.locator.proofs.is_loose.Reads as reads
-use Rattle.locator.proofs.is_loose.Lts as lts
 
 returns : tie.Need-returns
 unfolding isLoose

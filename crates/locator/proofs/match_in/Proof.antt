@@ -1,19 +1,15 @@
+-- `locator::match_in` meets its contract. The loop's invariant: the first `k` rows do not stand. A row is its matcher's by the table's test.
 use Prim.Native.Nat.{_-_}
+use native.Mathlib.Omega.{arith}
 use mathlib.Core.Path.{_≡_}
 use lib.ListN.{length, drop}
+use borrow.Author.Needs.{needs}
 use Rattle.locator.specs.Matchers.{matchers}
 use Rattle.locator.specs.Locators.{matchIn}
 use Rattle.locator.proofs.Rows.{rows as row-laws, row-room, match-next, match-here}
 use Rattle.locator.proofs.Words.{stands-room}
-use native.Mathlib.Omega.{arith}
-use borrow.Author.Needs.{needs}
 use Rattle.locator.proofs.match_in.Statement.{statement}
 use Rattle.locator.proofs.match_in.Tie as tie
-use Rattle.locator.proofs.match_in.Reads as reads
-use Rattle.locator.proofs.match_in.Lts as lts
-use Rattle.locator.proofs.stands_at.Reads as stands-at-reads
-use Rattle.locator.proofs.wide.Reads as wide-reads
-use Rattle.locator.proofs.wide_code.Reads as wide-code-reads
 
 abbrev Inv-loop : tie.InvT-loop
 Inv-loop text i e words rows k₀ k = matchIn matchers text i e ≡ matchIn (drop k matchers) text i e
@@ -21,68 +17,35 @@ Inv-loop text i e words rows k₀ k = matchIn matchers text i e ≡ matchIn (dro
 abbrev μ-loop : tie.MeasureT-loop
 μ-loop text i e words rows k₀ k = length rows - k
 
-loop-holds : tie.Need-loop-holds Inv-loop μ-loop
-loop-holds c = search (row-laws, needs)
-
-mul-wide : tie.Need-mul-wide Inv-loop μ-loop
-mul-wide c = search (row-laws, needs)
-
-index-1-wide : tie.Need-index-1-wide Inv-loop μ-loop
-index-1-wide c = search (row-laws, needs)
-
-index-2-wide : tie.Need-index-2-wide Inv-loop μ-loop
-index-2-wide c = search (row-laws, needs)
-
-wide-requires : tie.Need-wide-requires Inv-loop μ-loop
-wide-requires c κs = search (row-laws, needs)
-
-mul-wide-2 : tie.Need-mul-wide-2 Inv-loop μ-loop
-mul-wide-2 c = search (row-laws, needs)
-
-index-1-wide-2 : tie.Need-index-1-wide-2 Inv-loop μ-loop
-index-1-wide-2 c = search (row-laws, needs)
-
-index-2-wide-2 : tie.Need-index-2-wide-2 Inv-loop μ-loop
-index-2-wide-2 c = search (row-laws, needs)
-
-wide-requires-2 : tie.Need-wide-requires-2 Inv-loop μ-loop
-wide-requires-2 c κs = search (row-laws, needs)
-
-stands-at-requires : tie.Need-stands-at-requires Inv-loop μ-loop
-stands-at-requires c κs = search (row-laws, needs)
-
-mul-wide-code : tie.Need-mul-wide-code Inv-loop μ-loop
-mul-wide-code c = search (row-laws, needs)
-
-index-1-wide-code : tie.Need-index-1-wide-code Inv-loop μ-loop
-index-1-wide-code c = search (row-laws, needs)
-
-index-2-wide-code : tie.Need-index-2-wide-code Inv-loop μ-loop
-index-2-wide-code c = search (row-laws, needs)
-
-wide-code-requires : tie.Need-wide-code-requires Inv-loop μ-loop
-wide-code-requires c κs = search (row-laws, needs)
-
-sub-t25 : tie.Need-sub-t25 Inv-loop μ-loop
-sub-t25 c = search (row-laws, needs)
-
+-- back from a matcher that stands: its test, the row's end and start, the turn, and the function's entry
 add-t26 : tie.Need-add-t26 Inv-loop μ-loop
-add-t26 c = let room = row-room _ _ _ (c .before .before .before .before .before .before .before .before .before .before .before .before .pre .2) (c .before .before .before .before .before .before .before .before .loop-test .taken) (c .before .before .before .before .wide2 .ensures) in omega (arith, stands-room _ _ _ _ _ _ (c .before .before .before .stands-at .ensures) (c .before .before .if1 .taken) (c .before .before .before .before .before .before .before .before .before .before .before .before .pre .0) room)
+add-t26 c =
+    let tested = c .before .before .before in
+    let ended = tested .before in
+    let turn = ended .before .before .before .before in
+    let entry = turn .before .before .before .before in
+    let room = row-room _ _ _ (entry .pre .2) (turn .loop-test .taken) (ended .wide2 .ensures) in
+    omega (arith, stands-room _ _ _ _ _ _ (tested .stands-at .ensures) (c .before .before .if1 .taken) (entry .pre .0) room)
 
 returns : tie.Need-returns Inv-loop μ-loop
-returns c = match-here _ _ _ _ _ _ (c .before .before .before .before .before .before .before .before .before .before .before .before .pre .2) (c .before .before .before .before .before .before .before .before .before .loop .inv) (c .before .before .before .before .before .before .before .before .loop-test .taken) (c .before .before .before .before .before .before .wide .ensures) (c .before .before .before .before .wide2 .ensures) (c .before .before .before .stands-at .ensures) (c .before .before .if1 .taken) (c .wide-code .ensures)
-
-add-k : tie.Need-add-k Inv-loop μ-loop
-add-k c = search (row-laws, needs)
-
-loop-less : tie.Need-loop-less Inv-loop μ-loop
-loop-less c = search (row-laws, needs)
+returns c =
+    let tested = c .before .before .before in
+    let ended = tested .before in
+    let began = ended .before .before in
+    let turn = began .before .before in
+    let entry = turn .before .before .before .before in
+    match-here _ _ _ _ _ _ (entry .pre .2) (turn .before .loop .inv) (turn .loop-test .taken) (began .wide .ensures) (ended .wide2 .ensures)
+    (tested .stands-at .ensures) (c .before .before .if1 .taken) (c .wide-code .ensures)
 
 loop-again : tie.Need-loop-again Inv-loop μ-loop
-loop-again c = match-next _ _ _ _ _ _ (c .before .before .before .before .before .before .before .before .before .before .pre .2) (c .before .before .before .before .before .before .before .loop .inv) (c .before .before .before .before .before .before .loop-test .taken) (c .before .before .before .before .wide .ensures) (c .before .before .wide2 .ensures) (c .before .stands-at .ensures) (c .if1 .left)
-
-returns-2 : tie.Need-returns-2 Inv-loop μ-loop
-returns-2 c = search (row-laws, needs)
+loop-again c =
+    let tested = c .before in
+    let ended = tested .before in
+    let began = ended .before .before in
+    let turn = began .before .before in
+    let entry = turn .before .before .before .before in
+    match-next _ _ _ _ _ _ (entry .pre .2) (turn .before .loop .inv) (turn .loop-test .taken) (began .wide .ensures) (ended .wide2 .ensures)
+    (tested .stands-at .ensures) (c .if1 .left)
 
 pub match-in-spec : {M : Type 1} → statement M
 match-in-spec =
@@ -90,24 +53,24 @@ match-in-spec =
     (tie.spec
     Inv-loop
     μ-loop
-    loop-holds
-    mul-wide
-    index-1-wide
-    index-2-wide
-    wide-requires
-    mul-wide-2
-    index-1-wide-2
-    index-2-wide-2
-    wide-requires-2
-    stands-at-requires
-    mul-wide-code
-    index-1-wide-code
-    index-2-wide-code
-    wide-code-requires
-    sub-t25
+    (λ c. search (row-laws, needs))
+    (λ c. search (row-laws, needs))
+    (λ c. search (row-laws, needs))
+    (λ c. search (row-laws, needs))
+    (λ c κs. search (row-laws, needs))
+    (λ c. search (row-laws, needs))
+    (λ c. search (row-laws, needs))
+    (λ c. search (row-laws, needs))
+    (λ c κs. search (row-laws, needs))
+    (λ c κs. search (row-laws, needs))
+    (λ c. search (row-laws, needs))
+    (λ c. search (row-laws, needs))
+    (λ c. search (row-laws, needs))
+    (λ c κs. search (row-laws, needs))
+    (λ c. search (row-laws, needs))
     add-t26
     returns
-    add-k
-    loop-less
+    (λ c. search (row-laws, needs))
+    (λ c. search (row-laws, needs))
     loop-again
-    returns-2)
+    (λ c. search (row-laws, needs)))

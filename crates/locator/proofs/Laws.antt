@@ -1,0 +1,147 @@
+-- What callers cite of a locator: its code, and where its parts lie. `l` is what `parse_locator` gave.
+use Prim.Native.Nat.{ℕ, _+_, _-_, _≤_, _<_}
+use native.Mathlib.Omega.{arith}
+use mathlib.Core.Path.{_≡_, refl, sym, _∙_, ap}
+use mathlib.Core.List.{List, [], _∷_}
+use mathlib.Core.Bool.{Bool, true, false, _&&_}
+use lib.ListN.{length}
+use lib.Dec.{eqb, leb, ltb}
+use borrow.Author.Tests.{leb-true, ltb-true, eqb-true, eqb-false, ne-eqb}
+use Rattle.base.specs.Pick.{pick}
+use Rattle.base.specs.Ascii.{ascii}
+use Rattle.base.specs.Lists.{byteAt}
+use Rattle.base.specs.declared.Span.{Span}
+use Rattle.base.specs.Spans.{span, missing, spanOf, presentOf, InOrder}
+use Rattle.locator.specs.declared.Label.{Label}
+use Rattle.locator.specs.declared.Locator.{Locator}
+use Rattle.locator.specs.declared.Locator.the-variants.{Nothing, Plain, Labelled}
+use Rattle.locator.specs.Matchers.{Matcher, matchers, no-code, code-page}
+use Rattle.locator.specs.Locators.{
+  isDigit,
+  skipBlanks,
+  label,
+  stands,
+  matchIn,
+  orPage,
+  labelOf,
+  valueEnd,
+  valued,
+  labelled,
+  locatorFrom,
+  locatorOf,
+}
+use Rattle.locator.specs.Answers.{codeOf, valueOf, suffixOf}
+use Rattle.locator.proofs.Words.{and-left, and-right}
+use Rattle.locator.proofs.Parts.{locator-in-order}
+
+-- codes: one test over the table
+codesBy : ℕ → List Matcher → Bool
+codesBy n [] = true
+codesBy n (m ∷ ms) = leb (m .code) n && codesBy n ms
+
+matchers-codes : codesBy 16 matchers ≡ true
+unfolding codesBy matchers ascii
+matchers-codes = refl
+
+match-code : (n : ℕ) (ms : List Matcher) (s : List ℕ) (i e : ℕ) → codesBy n ms ≡ true → matchIn ms s i e .code ≤ n
+unfolding codesBy matchIn
+match-code n [] s i e h = omega arith
+match-code n (m ∷ ms) s i e h =
+    go (stands m s i e) (leb-true (m .code) n (and-left (leb (m .code) n) (codesBy n ms) h))
+    (match-code n ms s i e (and-right (leb (m .code) n) (codesBy n ms) h))
+  where
+    go : (t : Bool) → m .code ≤ n → matchIn ms s i e .code ≤ n → pick t (label (m .code) (i + length (m .word))) (matchIn ms s i e) .code ≤ n
+    go true p q = p
+    go false p q = q
+
+pub label-code : (s : List ℕ) (i e : ℕ) → labelOf s i e .code ≤ 16
+unfolding labelOf orPage
+label-code s i e = go (eqb (matchIn matchers s i e .code) no-code && isDigit (byteAt s i)) (match-code 16 matchers s i e matchers-codes)
+  where
+    go : (t : Bool) → matchIn matchers s i e .code ≤ 16 → pick t (label code-page i) (matchIn matchers s i e) .code ≤ 16
+    go true p = omega arith
+    go false p = p
+
+-- a span that is there has a byte or more
+span-there : (x y : ℕ) → spanOf x y .len ≡ 0 → spanOf x y ≡ missing
+unfolding spanOf
+span-there x y = go (ltb x y) refl
+  where
+    go : (t : Bool) → ltb x y ≡ t → pick t (span x (y - x)) missing .len ≡ 0 → pick t (span x (y - x)) missing ≡ missing
+    go true q z = let h = ltb-true x y q in absurd (omega arith)
+    go false q z = refl
+
+-- what holds of nothing, of a plain locator and of a labelled one holds of every locator
+by-cases
+    : (P : Locator → Type 0) (s : List ℕ) (a e : ℕ) → P Nothing → ((i : ℕ) → P (Plain (spanOf i e)))
+    → ((i x y z : ℕ) → P (Labelled (labelOf s i e .code) (spanOf x y) (spanOf z e))) → P (locatorOf s a e)
+unfolding locatorOf locatorFrom labelled valued
+by-cases P s a e n p v = go (leb e i) (eqb (labelOf s i e .code) no-code)
+  where
+    i : ℕ
+    i = skipBlanks s a e
+
+    go : (t u : Bool) → P (pick t Nothing (pick u (Plain (spanOf i e)) (valued s (labelOf s i e .code) (skipBlanks s (labelOf s i e .after) e) e)))
+    go true u = n
+    go false true = p i
+    go false false = v i _ _ _
+
+module _ (s : List ℕ) (a e : ℕ) where
+  pub code-small : {l : Locator} → l ≡ locatorOf s a e → codeOf l ≤ 16
+  unfolding codeOf
+  code-small q = rw q (by-cases (λ l. codeOf l ≤ 16) s a e (omega arith) (λ i. omega arith) (λ i x y z. label-code s i e))
+
+  pub value-missing : {l : Locator} → l ≡ locatorOf s a e → valueOf l .len ≡ 0 → valueOf l ≡ missing
+  unfolding valueOf
+  value-missing q =
+      rw q
+      (by-cases (λ l. valueOf l .len ≡ 0 → valueOf l ≡ missing) s a e (λ h. refl) (λ i h. refl) (λ i x y z. span-there x y))
+
+  pub suffix-missing : {l : Locator} → l ≡ locatorOf s a e → suffixOf l .len ≡ 0 → suffixOf l ≡ missing
+  unfolding suffixOf
+  suffix-missing q =
+      rw q
+      (by-cases (λ l. suffixOf l .len ≡ 0 → suffixOf l ≡ missing) s a e (λ h. refl) (λ i. span-there i e) (λ i x y z. span-there z e))
+
+-- spans in order, one by one
+first-in : (p r : Span) (lo hi : ℕ) → InOrder lo hi (presentOf (p ∷ r ∷ [])) → (p .len ≡ 0 → ⊥) → (lo ≤ p .at) × (p .at + p .len ≤ hi)
+unfolding presentOf
+first-in p r lo hi o n = let w = rw (ne-eqb (p .len) 0 n) at o in (w .0, w .1)
+
+last-in : (p r : Span) (lo hi : ℕ) → InOrder lo hi (presentOf (p ∷ r ∷ [])) → (r .len ≡ 0 → ⊥) → (lo ≤ r .at) × (r .at + r .len ≤ hi)
+unfolding presentOf
+last-in p r lo hi o n = go (eqb (p .len) 0) (rw (ne-eqb (r .len) 0 n) at o)
+  where
+    go : (t : Bool) → InOrder lo hi (pick t (r ∷ []) (p ∷ r ∷ [])) → (lo ≤ r .at) × (r .at + r .len ≤ hi)
+    go true w = (w .0, w .1)
+    go false w = (omega (arith, w .0, w .2 .0), w .2 .1)
+
+-- a span that is there ends by `e`, and one that is missing is 0 0
+ends-by : (p : Span) (e : ℕ) → (p .len ≡ 0 → p ≡ missing) → ((p .len ≡ 0 → ⊥) → p .at + p .len ≤ e) → p .at + p .len ≤ e
+ends-by p e m h = go (eqb (p .len) 0) refl
+  where
+    go : (t : Bool) → eqb (p .len) 0 ≡ t → p .at + p .len ≤ e
+    go true q = rw (m (eqb-true (p .len) 0 q)) (omega arith)
+    go false q = h (eqb-false (p .len) 0 q)
+
+module _ (s : List ℕ) (a e : ℕ) where
+  -- where a part that is there begins
+  pub value-begins : {l : Locator} → l ≡ locatorOf s a e → (valueOf l .len ≡ 0 → ⊥) → a ≤ valueOf l .at
+  value-begins q n = rw q (first-in (valueOf (locatorOf s a e)) (suffixOf (locatorOf s a e)) a e (locator-in-order s a e) (rw q at n) .0)
+
+  pub suffix-begins : {l : Locator} → l ≡ locatorOf s a e → (suffixOf l .len ≡ 0 → ⊥) → a ≤ suffixOf l .at
+  suffix-begins q n = rw q (last-in (valueOf (locatorOf s a e)) (suffixOf (locatorOf s a e)) a e (locator-in-order s a e) (rw q at n) .0)
+
+  -- where a part ends, present or missing
+  pub value-ends : {l : Locator} → l ≡ locatorOf s a e → valueOf l .at + valueOf l .len ≤ e
+  value-ends q =
+      let v = valueOf (locatorOf s a e) in
+      rw q (ends-by v e (value-missing s a e refl) (λ n. first-in v (suffixOf (locatorOf s a e)) a e (locator-in-order s a e) n .1))
+
+  pub suffix-ends : {l : Locator} → l ≡ locatorOf s a e → suffixOf l .at + suffixOf l .len ≤ e
+  suffix-ends q =
+      let w = suffixOf (locatorOf s a e) in
+      rw q (ends-by w e (suffix-missing s a e refl) (λ n. last-in (valueOf (locatorOf s a e)) w a e (locator-in-order s a e) n .1))
+
+pub ruleset laws =
+    (code-small, value-missing, suffix-missing, value-begins, suffix-begins, value-ends, suffix-ends)
