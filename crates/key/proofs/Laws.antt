@@ -94,3 +94,13 @@ key-longer s i q = rw q (omega (arith, run-from s (i + 1)))
 pub key-none : (s : List ℕ) (i : ℕ) → startsKey s i ≡ false → keyEnd s i ≡ i
 unfolding keyEnd
 key-none s i q = rw q
+
+-- the same of what a call gave
+module _ (s : List ℕ) (i : ℕ) {r : ℕ} (p : r ≡ keyEnd s i) where
+  pub key-ge : i ≤ r
+  key-ge = omega (arith, key-from s i)
+
+  pub key-le : i ≤ length s → r ≤ length s
+  key-le h = omega (arith, key-by s i h)
+
+pub ruleset key-bounds = (key-ge, key-le)
