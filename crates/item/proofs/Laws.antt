@@ -6,14 +6,19 @@ use mathlib.Core.List.{List}
 use mathlib.Core.Bool.{Bool, true, false, _&&_, _||_, not, or-false}
 use lib.ListN.{length}
 use lib.Dec.{eqb, ltb}
-use borrow.Author.Tests.{eq-eqb, ne-eqb, lt-ltb, le-ltb}
+use borrow.Author.Tests.{eq-eqb, ne-eqb, lt-ltb, le-ltb, ltb-true}
 use Rattle.base.specs.Pick.{pick}
 use Rattle.base.specs.Lists.{byteAt}
 use Rattle.base.specs.First.{first}
+use Rattle.base.specs.declared.Span.{Span}
+use Rattle.base.specs.Spans.{spanOf}
 use Rattle.text.specs.Escape.{escapedAt}
 use Rattle.text.specs.White.{trimStart, trimEnd}
 use Rattle.text.proofs.Trims.{end-by}
 use Rattle.key.specs.Keys.{keyEnd}
+use Rattle.key.proofs.Laws.{key-by}
+use Rattle.locator.specs.declared.Locator.{Locator}
+use Rattle.locator.specs.Locators.{locatorOf}
 use Rattle.item.specs.declared.Item.{Item}
 use Rattle.item.specs.declared.Parsed.{Parsed}
 use Rattle.item.specs.declared.Parsed.the-variants.{Good, Bad}
@@ -31,6 +36,11 @@ use Rattle.item.specs.Items.{
   isGood,
 }
 use Rattle.item.specs.Pieces.{partsAt, integralAt, itemsStart}
+use Rattle.item.proofs.Parts.{and-left}
+
+abbrev item : Span → Span → Span → Locator → Bool → Item
+item prefix key whole locator suppressed =
+    record { prefix = prefix; key = key; whole = whole; locator = locator; suppressed = suppressed }
 
 -- a search from `i` to `e` at a place: `w` is what the loop's invariant speaks of, `b` what the test gave ----------------------------
 
@@ -153,6 +163,56 @@ module _ (s : List ℕ) (start end : ℕ) {a : ℕ} (p : a ≡ trimStart s start
   unfolding itemOf
   good-is {e} q r = rw (← p, ← q, r) (sym (in-good s a e))
 
+  module _ {e w : ℕ} (q : e ≡ trimEnd s a end) (r : w ≡ winner s a e) where
+    pub item-good : {it : Item} → w < e → it ≡ itemAt s a e w (keyEnd s (w + 1)) → Good it ≡ itemOf s start end
+    unfolding itemOf itemIn
+    item-good h d = rw (← p, ← q, ← r, lt-ltb w e h, d)
+
+    pub item-bad : e ≤ w → Bad ≡ itemOf s start end
+    unfolding itemOf itemIn
+    item-bad h = rw (← p, ← q, ← r, le-ltb w e h)
+
+-- its parts ------------------------------------------------------------------------------------------------------------------------
+
+module _ (s : List ℕ) (a i : ℕ) where
+  pub suppressed-first : i ≤ a → false ≡ suppresses s a i
+  unfolding suppresses
+  suppressed-first h = rw (le-ltb _ _ h)
+
+  pub suppressed-other : a < i → (byteAt s (i - 1) ≡ 45 → ⊥) → false ≡ suppresses s a i
+  unfolding suppresses
+  suppressed-other h f = rw (lt-ltb _ _ h, ne-eqb _ _ f)
+
+  pub suppressed-by : {b : Bool} → a < i → byteAt s (i - 1) ≡ 45 → b ≡ escapedAt s (i - 1) → not b ≡ suppresses s a i
+  unfolding suppresses
+  suppressed-by h d q = rw (lt-ltb _ _ h, eq-eqb _ _ d, q)
+
+  -- there is a `-` before the `@`
+  pub suppressed-past : {b : Bool} → b ≡ suppresses s a i → b ≡ true → 0 < i
+  unfolding suppresses
+  suppressed-past q t =
+      let h = ltb-true a i (and-left (ltb a i) _ (and-left (ltb a i && eqb (byteAt s (i - 1)) 45) _ (sym q ∙ t))) in omega arith
+
+  module _ {b : Bool} {r : ℕ} (q : b ≡ suppresses s a i) where
+    pub prefix-before : b ≡ true → r ≡ trimEnd s a (i - 1) → r ≡ prefixEnd s a i
+    unfolding prefixEnd
+    prefix-before t d = d ∙ rw (sym q ∙ t)
+
+    pub prefix-to : b ≡ false → r ≡ trimEnd s a i → r ≡ prefixEnd s a i
+    unfolding prefixEnd
+    prefix-to f d = d ∙ rw (sym q ∙ f)
+
+-- the key of an `@` at `i` ends in the text
+pub key-fits : (s : List ℕ) (e i : ℕ) {m : ℕ} → m ≡ keyEnd s (i + 1) → i < e → e ≤ length s → m ≤ length s
+key-fits s e i p h g = omega (arith, key-by s (i + 1) (omega arith))
+
+module _ (s : List ℕ) (a e i : ℕ) {m b x : ℕ} {u v w : Span} {l : Locator} {t : Bool} where
+  pub item-is : m ≡ keyEnd s (i + 1) → b ≡ trimStart s (m + 1) e → x ≡ prefixEnd s a i → u ≡ spanOf a x → v ≡ spanOf (i + 1) m → w ≡ spanOf b e
+      → l ≡ locatorOf s b e → t ≡ suppresses s a i
+      → item u v w l t ≡ itemAt s a e i (keyEnd s (i + 1))
+  unfolding itemAt locatorStart
+  item-is m= b= x= u= v= w= l= t= = rw (u=, v=, w=, l=, t=, x=, b=, m=)
+
 pub ruleset laws = (
   integral-is,
   after-plus,
@@ -173,4 +233,13 @@ pub ruleset laws = (
   empty-no-good,
   trimmed-fits,
   good-is,
+  item-good,
+  item-bad,
+  suppressed-first,
+  suppressed-other,
+  suppressed-by,
+  suppressed-past,
+  prefix-before,
+  prefix-to,
+  item-is,
 )

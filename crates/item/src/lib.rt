@@ -2,16 +2,28 @@
 use base::Span;
 use key::parse_key;
 use locator::Locator;
+use locator::parse_locator;
+use locator::span_of;
 use text::byte_at;
 use text::is_escaped_at;
 use text::trim_end;
 use text::trim_start;
 ghost use mathlib.Core.Path.{_≡_};
-ghost use Prim.Native.Nat.{_-_, _≤_, _<_};
+ghost use Prim.Native.Nat.{_+_, _-_, _≤_, _<_};
 ghost use lib.ListN.{length};
 ghost use Rattle.base.specs.First.{first};
 ghost use Rattle.item.specs.Facts.{ItemInOrder, ItemsInOrder};
-ghost use Rattle.item.specs.Items.{keyServes, wins, winner, itemOf, isGood};
+ghost use Rattle.key.specs.Keys.{keyEnd};
+ghost use Rattle.item.specs.Items.{
+  keyServes,
+  wins,
+  winner,
+  suppresses,
+  prefixEnd,
+  itemAt,
+  itemOf,
+  isGood,
+};
 ghost use Rattle.item.specs.Pieces.{partsAt, integralAt, itemsStart};
 ghost use Rattle.item.specs.Judge.{judgedOf};
 
@@ -121,6 +133,72 @@ pub fn is_good_item(text: &[u8], start: usize, end: usize) -> bool
     }
     let e = trim_end(text, a, end);
     find_winner(text, a, e) < e
+}
+
+// Whether an unescaped `-` just before the `@` at `i` suppresses the author, in an item that begins at `a`.
+fn is_suppressed(text: &[u8], a: usize, i: usize) -> bool
+    requires { ⌜ i ≤ length (now text) ⌝ }
+    ensures { λ r. ⌜ r ≡ suppresses (now (text .entry)) a i ⌝ }
+{
+    if i <= a {
+        return false;
+    }
+    if text[i - 1] == 45 {
+        !is_escaped_at(text, i - 1)
+    } else {
+        false
+    }
+}
+
+// Where the prefix of an item that begins at `a` ends, its `@` being at `i`.
+fn prefix_end(text: &[u8], a: usize, i: usize) -> usize
+    requires { ⌜ i ≤ length (now text) ⌝ }
+    ensures { λ r. ⌜ r ≡ prefixEnd (now (text .entry)) a i ⌝ }
+{
+    if is_suppressed(text, a, i) {
+        trim_end(text, a, i - 1)
+    } else {
+        trim_end(text, a, i)
+    }
+}
+
+// The parts of the trimmed item from `a` to `e` whose `@` is at `i`.
+fn item_at(text: &[u8], a: usize, e: usize, i: usize) -> Item
+    requires { ⌜ (i < e) × (e ≤ length (now text)) ⌝ }
+    ensures { λ r. ⌜ r ≡ itemAt (now (text .entry)) a e i (keyEnd (now (text .entry)) (i + 1)) ⌝ }
+{
+    let m = parse_key(text, i + 1);
+    let start = trim_start(text, m + 1, e);
+    let prefix = span_of(a, prefix_end(text, a, i));
+    let key = span_of(i + 1, m);
+    let whole = span_of(start, e);
+    let locator = parse_locator(text, start, e);
+    let suppressed = is_suppressed(text, a, i);
+    Item {
+        prefix,
+        key,
+        whole,
+        locator,
+        suppressed,
+    }
+}
+
+// The item in the stretch from `start` to `end`.
+pub fn parse_item(text: &[u8], start: usize, end: usize) -> Parsed
+    requires { ⌜ end ≤ length (now text) ⌝ }
+    ensures { λ r. ⌜ r ≡ itemOf (now (text .entry)) start end ⌝ }
+{
+    let a = trim_start(text, start, end);
+    if end <= a {
+        return Parsed::Bad;
+    }
+    let e = trim_end(text, a, end);
+    let i = find_winner(text, a, e);
+    if i < e {
+        Parsed::Good(item_at(text, a, e, i))
+    } else {
+        Parsed::Bad
+    }
 }
 
 // The judgement on the items between the bracket at `p` and the close at `c`.
