@@ -1,0 +1,245 @@
+-- What the code's needs cite, each law in the form of a need: premises are what the loop's invariant, the callees and the branches say.
+use Prim.Native.Nat.{ℕ, zero, suc, _+_, _-_, _≤_, _<_}
+use native.Mathlib.Omega.{arith}
+use mathlib.Core.Path.{_≡_, refl, sym, _∙_, ap}
+use mathlib.Core.List.{List}
+use mathlib.Core.Bool.{Bool, true, false, _&&_, _||_, not, or-false}
+use lib.ListN.{length}
+use lib.Dec.{eqb, ltb}
+use borrow.Author.Tests.{eq-eqb, ne-eqb, lt-ltb, le-ltb, ltb-true}
+use Rattle.base.specs.Pick.{pick}
+use Rattle.base.specs.Lists.{byteAt}
+use Rattle.base.specs.First.{first}
+use Rattle.base.specs.declared.Span.{Span}
+use Rattle.base.specs.Spans.{spanOf}
+use Rattle.text.specs.Escape.{escapedAt}
+use Rattle.text.specs.White.{trimStart, trimEnd}
+use Rattle.text.proofs.Trims.{end-by}
+use Rattle.key.specs.Keys.{keyEnd}
+use Rattle.key.proofs.Laws.{key-by}
+use Rattle.locator.specs.declared.Locator.{Locator}
+use Rattle.locator.specs.Locators.{locatorOf}
+use Rattle.item.specs.declared.Item.{Item}
+use Rattle.item.specs.declared.Parsed.{Parsed}
+use Rattle.item.specs.declared.Parsed.the-variants.{Good, Bad}
+use Rattle.item.specs.Items.{
+  atSign,
+  keyServes,
+  wins,
+  winner,
+  suppresses,
+  prefixEnd,
+  locatorStart,
+  itemAt,
+  itemIn,
+  itemOf,
+  isGood,
+}
+use Rattle.item.specs.Pieces.{partsAt, integralAt, itemsStart}
+use Rattle.item.proofs.Parts.{and-left}
+
+abbrev item : Span → Span → Span → Locator → Bool → Item
+item prefix key whole locator suppressed =
+    record { prefix = prefix; key = key; whole = whole; locator = locator; suppressed = suppressed }
+
+-- a search from `i` to `e` at a place: `w` is what the loop's invariant speaks of, `b` what the test gave ----------------------------
+
+module _ (f : ℕ → Bool) (e i : ℕ) {w : ℕ} (p : w ≡ first f (e - i) i) where
+  pub search-out : e ≤ i → i ≡ w
+  unfolding first
+  search-out h = let z : e - i ≡ 0 = omega arith in sym (p ∙ rw z)
+
+  more : i < e → e - i ≡ suc (e - (i + 1))
+  more h = omega arith
+
+  pub search-hit : {b : Bool} → i < e → b ≡ f i → b ≡ true → i ≡ w
+  unfolding first
+  search-hit h q t = sym (p ∙ rw (more h, sym q ∙ t))
+
+  pub search-miss : {b : Bool} → i < e → b ≡ f i → b ≡ false → w ≡ first f (e - (i + 1)) (i + 1)
+  unfolding first
+  search-miss h q t = p ∙ rw (more h, sym q ∙ t)
+
+-- the leading `+` ------------------------------------------------------------------------------------------------------------------
+
+pub integral-is : (s : List ℕ) (p : ℕ) {b : ℕ} → b ≡ byteAt s (p + 1) → eqb b 43 ≡ integralAt s p
+unfolding integralAt
+integral-is s p q = rw q
+
+module _ (s : List ℕ) (p : ℕ) {b : Bool} (q : b ≡ integralAt s p) where
+  pub after-plus : b ≡ true → p + 2 ≡ itemsStart s p
+  unfolding itemsStart
+  after-plus t = rw (sym q ∙ t)
+
+  pub after-bracket : b ≡ false → p + 1 ≡ itemsStart s p
+  unfolding itemsStart
+  after-bracket f = rw (sym q ∙ f)
+
+-- the end of a piece ---------------------------------------------------------------------------------------------------------------
+
+module _ (s : List ℕ) (e i : ℕ) {w : ℕ} (p : w ≡ first (partsAt s) (e - i) i) where
+  pub piece-out : e ≤ i → i ≡ w
+  piece-out h = search-out (partsAt s) e i p h
+
+  pub piece-here : i < e → byteAt s i ≡ 59 → i ≡ w
+  unfolding partsAt
+  piece-here h q = search-hit (partsAt s) e i p h (sym (eq-eqb _ _ q)) refl
+
+  pub piece-on : i < e → (byteAt s i ≡ 59 → ⊥) → w ≡ first (partsAt s) (e - (i + 1)) (i + 1)
+  unfolding partsAt
+  piece-on h q = search-miss (partsAt s) e i p h (sym (ne-eqb _ _ q)) refl
+
+-- the `@` that wins ----------------------------------------------------------------------------------------------------------------
+
+module _ (s : List ℕ) (e k m : ℕ) where
+  pub serves-none : m ≤ k → false ≡ keyServes s e k m
+  unfolding keyServes
+  serves-none h = rw (le-ltb _ _ h)
+
+  pub serves-comma : k < m → m < e → eqb (byteAt s m) 44 ≡ keyServes s e k m
+  unfolding keyServes
+  serves-comma h g = let n : m ≡ e → ⊥ = λ q. omega arith in rw (lt-ltb _ _ h, ne-eqb _ _ n, lt-ltb _ _ g)
+
+  pub serves-end : k < m → e ≤ m → eqb m e ≡ keyServes s e k m
+  unfolding keyServes
+  serves-end h g = rw (lt-ltb _ _ h, le-ltb _ _ g) (sym (or-false (eqb m e)))
+
+module _ (s : List ℕ) (e i : ℕ) where
+  pub wins-other : (byteAt s i ≡ 64 → ⊥) → false ≡ wins s e i
+  unfolding wins atSign
+  wins-other h = rw (ne-eqb _ _ h)
+
+  module _ {b : Bool} (h : byteAt s i ≡ 64) (q : b ≡ escapedAt s i) where
+    pub wins-escaped : b ≡ true → false ≡ wins s e i
+    unfolding wins atSign
+    wins-escaped t = rw (eq-eqb _ _ h, sym q ∙ t)
+
+    pub wins-key : {m : ℕ} {r : Bool} → b ≡ false → m ≡ keyEnd s (i + 1) → r ≡ keyServes s e (i + 1) m → r ≡ wins s e i
+    unfolding wins atSign
+    wins-key f k p = p ∙ rw (eq-eqb _ _ h, sym q ∙ f, k)
+
+module _ (s : List ℕ) (e i : ℕ) {w : ℕ} (p : w ≡ winner s i e) where
+  pub winner-out : e ≤ i → i ≡ w
+  unfolding winner
+  winner-out h = search-out (wins s e) e i p h
+
+  pub winner-here : {b : Bool} → i < e → b ≡ wins s e i → b ≡ true → i ≡ w
+  unfolding winner
+  winner-here h q t = search-hit (wins s e) e i p h q t
+
+  pub winner-on : {b : Bool} → i < e → b ≡ wins s e i → b ≡ false → w ≡ winner s (i + 1) e
+  unfolding winner
+  winner-on h q t = search-miss (wins s e) e i p h q t
+
+-- the item -------------------------------------------------------------------------------------------------------------------------
+
+-- in the trimmed stretch from `a` to `e`
+in-good : (s : List ℕ) (a e : ℕ) → isGood (itemIn s a e) ≡ ltb (winner s a e) e
+unfolding itemIn
+in-good s a e = go (ltb (winner s a e) e) (itemAt s a e (winner s a e) (keyEnd s (winner s a e + 1)))
+  where
+    go : (t : Bool) (it : Item) → isGood (pick t (Good it) Bad) ≡ t
+    go true it = refl
+    go false it = refl
+
+in-empty : (s : List ℕ) (a e : ℕ) → e ≤ a → itemIn s a e ≡ Bad
+unfolding itemIn
+in-empty s a e h = rw (le-ltb (winner s a e) e (omega (arith, winner-out s e a refl h)))
+
+module _ (s : List ℕ) (start end : ℕ) {a : ℕ} (p : a ≡ trimStart s start end) where
+  -- nothing but white space
+  pub item-empty : end ≤ a → Bad ≡ itemOf s start end
+  unfolding itemOf
+  item-empty h = rw (← p) (sym (in-empty s a (trimEnd s a end) (omega (arith, end-by s a end))))
+
+  pub empty-no-good : end ≤ a → false ≡ isGood (itemOf s start end)
+  empty-no-good h = ap isGood (item-empty h)
+
+  -- what is trimmed off the end leaves the stretch in the text
+  pub trimmed-fits : {e : ℕ} → e ≡ trimEnd s a end → a < end → end ≤ length s → e ≤ length s
+  trimmed-fits q h g = omega (arith, end-by s a end)
+
+  pub good-is : {e w : ℕ} → e ≡ trimEnd s a end → w ≡ winner s a e → ltb w e ≡ isGood (itemOf s start end)
+  unfolding itemOf
+  good-is {e} q r = rw (← p, ← q, r) (sym (in-good s a e))
+
+  module _ {e w : ℕ} (q : e ≡ trimEnd s a end) (r : w ≡ winner s a e) where
+    pub item-good : {it : Item} → w < e → it ≡ itemAt s a e w (keyEnd s (w + 1)) → Good it ≡ itemOf s start end
+    unfolding itemOf itemIn
+    item-good h d = rw (← p, ← q, ← r, lt-ltb w e h, d)
+
+    pub item-bad : e ≤ w → Bad ≡ itemOf s start end
+    unfolding itemOf itemIn
+    item-bad h = rw (← p, ← q, ← r, le-ltb w e h)
+
+-- its parts ------------------------------------------------------------------------------------------------------------------------
+
+module _ (s : List ℕ) (a i : ℕ) where
+  pub suppressed-first : i ≤ a → false ≡ suppresses s a i
+  unfolding suppresses
+  suppressed-first h = rw (le-ltb _ _ h)
+
+  pub suppressed-other : a < i → (byteAt s (i - 1) ≡ 45 → ⊥) → false ≡ suppresses s a i
+  unfolding suppresses
+  suppressed-other h f = rw (lt-ltb _ _ h, ne-eqb _ _ f)
+
+  pub suppressed-by : {b : Bool} → a < i → byteAt s (i - 1) ≡ 45 → b ≡ escapedAt s (i - 1) → not b ≡ suppresses s a i
+  unfolding suppresses
+  suppressed-by h d q = rw (lt-ltb _ _ h, eq-eqb _ _ d, q)
+
+  -- there is a `-` before the `@`
+  pub suppressed-past : {b : Bool} → b ≡ suppresses s a i → b ≡ true → 0 < i
+  unfolding suppresses
+  suppressed-past q t =
+      let h = ltb-true a i (and-left (ltb a i) _ (and-left (ltb a i && eqb (byteAt s (i - 1)) 45) _ (sym q ∙ t))) in omega arith
+
+  module _ {b : Bool} {r : ℕ} (q : b ≡ suppresses s a i) where
+    pub prefix-before : b ≡ true → r ≡ trimEnd s a (i - 1) → r ≡ prefixEnd s a i
+    unfolding prefixEnd
+    prefix-before t d = d ∙ rw (sym q ∙ t)
+
+    pub prefix-to : b ≡ false → r ≡ trimEnd s a i → r ≡ prefixEnd s a i
+    unfolding prefixEnd
+    prefix-to f d = d ∙ rw (sym q ∙ f)
+
+-- the key of an `@` at `i` ends in the text
+pub key-fits : (s : List ℕ) (e i : ℕ) {m : ℕ} → m ≡ keyEnd s (i + 1) → i < e → e ≤ length s → m ≤ length s
+key-fits s e i p h g = omega (arith, key-by s (i + 1) (omega arith))
+
+module _ (s : List ℕ) (a e i : ℕ) {m b x : ℕ} {u v w : Span} {l : Locator} {t : Bool} where
+  pub item-is : m ≡ keyEnd s (i + 1) → b ≡ trimStart s (m + 1) e → x ≡ prefixEnd s a i → u ≡ spanOf a x → v ≡ spanOf (i + 1) m → w ≡ spanOf b e
+      → l ≡ locatorOf s b e → t ≡ suppresses s a i
+      → item u v w l t ≡ itemAt s a e i (keyEnd s (i + 1))
+  unfolding itemAt locatorStart
+  item-is m= b= x= u= v= w= l= t= = rw (u=, v=, w=, l=, t=, x=, b=, m=)
+
+pub ruleset laws = (
+  integral-is,
+  after-plus,
+  after-bracket,
+  piece-out,
+  piece-here,
+  piece-on,
+  serves-none,
+  serves-comma,
+  serves-end,
+  wins-other,
+  wins-escaped,
+  wins-key,
+  winner-out,
+  winner-here,
+  winner-on,
+  item-empty,
+  empty-no-good,
+  trimmed-fits,
+  good-is,
+  item-good,
+  item-bad,
+  suppressed-first,
+  suppressed-other,
+  suppressed-by,
+  suppressed-past,
+  prefix-before,
+  prefix-to,
+  item-is,
+)
