@@ -5,9 +5,13 @@ use native.Mathlib.Numerals.{add-one}
 use native.Mathlib.Omega.{arith}
 use mathlib.Core.Path.{_≡_, refl, ap, sym, _∙_}
 use mathlib.Core.List.{List}
+use mathlib.Core.Bool.{true, false}
 use lib.ListN.{length, getD}
-use Rattle.base.specs.Lists.{byteAt}
-use Rattle.pool.specs.Numbers.{leAt, u16At}
+use lib.Dec.{ltb}
+use borrow.Author.Tests.{lt-ltb, le-ltb}
+use Rattle.pool.proofs.PartLaws.{part-byte}
+use Rattle.base.specs.Lists.{byteAt, part}
+use Rattle.pool.specs.Numbers.{leAt, u16At, signed, signedOf}
 
 -- a number of `w` bytes is below 256 ^ w
 pub le-below : (w : ℕ) (s : List ℕ) (i : ℕ) → ((k : ℕ) → byteAt s k < 256) → leAt w s i < 256 ^ w
@@ -50,5 +54,27 @@ le-end w s i k {n} e h = let q : w - k ≡ w = omega arith in let r : i + k ≡ 
 pub two-is : (s : List ℕ) (i : ℕ) → byteAt s i + 256 * byteAt s (i + 1) ≡ u16At s i
 unfolding leAt
 two-is s i = omega arith
+
+-- the number in a part
+pub le-part : (w : ℕ) (s : List ℕ) (a e i : ℕ) → a ≤ e → e ≤ length s → i + w ≤ e - a → leAt w (part s a e) i ≡ leAt w s (a + i)
+unfolding leAt
+le-part zero s a e i p q h = refl
+le-part (suc w) s a e i p q h =
+    let r : a + (i + 1) ≡ a + i + 1 = omega arith in
+    rw (part-byte s a e i p q (omega arith), le-part w s a e (i + 1) p q (omega arith), r) refl
+
+-- its sign
+module _ (n m : ℕ) where
+  pub sign-none : n ≡ m → n < 9223372036854775808 → signed false n ≡ signedOf 8 m
+  unfolding signedOf
+  sign-none e h = rw (← e, lt-ltb n 9223372036854775808 h) refl
+
+  pub sign-there : n ≡ m → 9223372036854775808 ≤ n → n < 18446744073709551616 → signed true (18446744073709551615 - n + 1) ≡ signedOf 8 m
+  unfolding signedOf
+  sign-there e h l =
+      let p : 18446744073709551615 - n + 1 ≡ 18446744073709551616 - n = omega arith in
+      rw (← e, le-ltb n 9223372036854775808 h, p) refl
+
+pub ruleset sign-laws = (sign-none, sign-there)
 
 pub ruleset le-laws = (le-start, le-more, le-end)
