@@ -1,0 +1,6 @@
+pub mod NumberLaws
+pub mod PartLaws
+pub mod FieldLaws
+pub mod LayoutLaws
+pub mod ReaderLaws
+pub mod PoolLaws

@@ -1,0 +1,126 @@
+-- Writing into the rest of an area, piece by piece, in the form of the needs.
+use Prim.Native.Nat.{ℕ, zero, suc, _+_, _-_, _≤_, _<_}
+use native.Mathlib.Omega.{arith}
+use mathlib.Core.Path.{_≡_, refl, ap, sym, _∙_}
+use mathlib.Core.List.{List, [], _∷_, _++_, append-assoc, append-nil}
+use mathlib.Core.Bool.{Bool, true, false}
+use mathlib.Core.Logic.{_⊎_, inl, inr}
+use lib.ListN.{length, take, drop, take-append-drop, set, length-append, length-take, length-drop, drop-of-length-le}
+use lib.Dec.{eqb}
+use lib.Seq.{take-all, take-length, take-at, drop-at, drop-drop, drop-cons, set-at, length-take-le}
+use borrow.Author.Tests.{eq-eqb, ne-eqb}
+use Rattle.base.specs.Pick.{pick}
+use Rattle.base.specs.Lists.{part, written}
+use Rattle.pool.proofs.PartLaws.{part-in, part-length}
+use Rattle.source.specs.Text.{isEmpty, beside}
+use Rattle.source.specs.Lengths.{besideLen, opened}
+
+module _ (a sep b : ℕ) where
+  pub joined-second : a ≡ 0 → b ≡ besideLen a sep b
+  unfolding besideLen
+  joined-second h = rw (eq-eqb a 0 h) refl
+
+  pub joined-first : (a ≡ 0 → ⊥) → b ≡ 0 → a ≡ besideLen a sep b
+  unfolding besideLen
+  joined-first h g = rw (ne-eqb a 0 h, eq-eqb b 0 g) refl
+
+  pub joined-both : (a ≡ 0 → ⊥) → (b ≡ 0 → ⊥) → a + sep + b ≡ besideLen a sep b
+  unfolding besideLen
+  joined-both h g = rw (ne-eqb a 0 h, ne-eqb b 0 g) refl
+
+pub ruleset joined-laws = (joined-second, joined-first, joined-both)
+
+-- an area that was written is as long as it was
+pub written-length : (out s : List ℕ) → length out ≤ length s → length (written out s) ≡ length s
+unfolding written
+written-length out s h = simp (length-append, length-drop) (omega arith)
+
+pub written-front : (out s : List ℕ) (k : ℕ) → k ≡ length out → take k (written out s) ≡ out
+unfolding written
+written-front out s k e = take-at out (drop (length out) s) k (sym e)
+
+pub written-none : (s : List ℕ) → s ≡ written [] s
+unfolding written
+written-none s = refl
+
+-- what was copied
+pub copied : (b s : List ℕ) {out : List ℕ} → out ≡ take (length b) b ++ drop (length b) s → out ≡ written b s
+unfolding written
+copied b s e = e ∙ rw take-length refl
+
+-- the area is `s`, with `out` at the front of `s₀`; its rest from `k` on was lent, and came back with `b` at its front
+pub written-after : (s₀ s out b p : List ℕ) (k : ℕ) → s ≡ written out s₀ → k ≡ length out → length out + length b ≤ length s₀
+    → p ≡ written b (take (length s - k) (drop k s)) → take k s ++ (p ++ drop (length s - k) (drop k s)) ≡ written (out ++ b) s₀
+unfolding written
+written-after s₀ s out b p k e q h g =
+    let d : drop k s ≡ drop (length out) s₀ = rw e (drop-at out (drop (length out) s₀) k (sym q)) in
+    let t : take k s ≡ out = rw e (take-at out (drop (length out) s₀) k (sym q)) in
+    let l : length (drop k s) ≤ length s - k = rw length-drop (omega arith) in
+    let f : take (length s - k) (drop k s) ≡ drop k s = take-all (length s - k) (drop k s) l in
+    let z : drop (length s - k) (drop k s) ≡ [] = drop-of-length-le (drop k s) {i = length s - k} l in
+    let n : drop (length b) (drop (length out) s₀) ≡ drop (length (out ++ b)) s₀ = drop-drop (length b) (length out) s₀ ∙ rw length-append refl in
+    let r : p ≡ b ++ drop (length (out ++ b)) s₀ = g ∙ rw (f, d, n) refl in
+    rw (t, z, r, append-nil) (sym (append-assoc out b (drop (length (out ++ b)) s₀)))
+
+-- one byte more
+pub written-byte : (s₀ s out : List ℕ) (k x : ℕ) → s ≡ written out s₀ → k ≡ length out → length out < length s₀ → set s k x ≡ written (out ++ (x ∷ [])) s₀
+unfolding written
+written-byte s₀ s out k x e q h =
+    let l : length (out ++ (x ∷ [])) ≡ suc (length out) = simp length-append (omega arith) in
+    rw (e, drop-cons s₀ (length out) 0 h, set-at out _ (drop (suc (length out)) s₀) x k (sym q), l) (sym (append-assoc out (x ∷ []) (drop (suc (length out)) s₀)))
+
+-- a part of the pool
+pub part-copied : (pool s : List ℕ) (a n : ℕ) {out : List ℕ} → a + n ≤ length pool → out ≡ written (take (a + n - a) (drop a pool)) s
+    → out ≡ written (part pool a (a + n)) s
+part-copied pool s a n h e = rw (part-in pool a (a + n) (omega arith) h) at e
+
+-- the rest of an area has room for what it and the front have room for together
+pub rest-room : (s : List ℕ) (k n : ℕ) → k + n ≤ length s → n ≤ length (take (length s - k) (drop k s))
+rest-room s k n h = simp (length-take, length-drop) (omega arith)
+
+-- a separator after the first `k` bytes, before `m` more
+module _ (s sep : List ℕ) (k m : ℕ) where
+  kept : k ≤ length s → s ≡ written (take k s) s
+  unfolding written
+  kept h = rw (length-take-le k s h) (sym (take-append-drop k s))
+
+  opened-kept : k ≤ length s → (k ≡ 0) ⊎ (m ≡ 0) → opened sep (take k s) m ≡ take k s
+  unfolding opened
+  opened-kept h (inl e) = rw (length-take-le k s h, eq-eqb k 0 e) refl
+  opened-kept h (inr e) = rw (length-take-le k s h, eq-eqb m 0 e) (go (eqb k 0))
+    where
+      go : (t : Bool) → pick t (take k s) (take k s) ≡ take k s
+      go true = refl
+      go false = refl
+
+  opened-sep : k ≤ length s → (k ≡ 0 → ⊥) → (m ≡ 0 → ⊥) → opened sep (take k s) m ≡ take k s ++ sep
+  unfolding opened
+  opened-sep h n z = rw (length-take-le k s h, ne-eqb k 0 n, ne-eqb m 0 z) refl
+
+  pub start-count : k ≤ length s → k ≡ 0 → 0 ≡ length (opened sep (take k s) m)
+  start-count h e = rw (opened-kept h (inl e), length-take-le k s h) (sym e)
+
+  pub start-area : k ≤ length s → k ≡ 0 → s ≡ written (opened sep (take k s) m) s
+  start-area h e = rw (opened-kept h (inl e)) (kept h)
+
+  pub end-count : k ≤ length s → m ≡ 0 → k ≡ length (opened sep (take k s) m)
+  end-count h e = rw (opened-kept h (inr e), length-take-le k s h) refl
+
+  pub end-area : k ≤ length s → m ≡ 0 → s ≡ written (opened sep (take k s) m) s
+  end-area h e = rw (opened-kept h (inr e)) (kept h)
+
+  pub sep-room : k ≤ length s → (k ≡ 0 → ⊥) → (m ≡ 0 → ⊥) → length (opened sep (take k s) m) ≤ length s → length sep ≤ length (take (length s - k) (drop k s))
+  sep-room h n z l = rest-room s k (length sep) (omega (arith, simp (length-append, length-take-le k s h) at (rw (opened-sep h n z) at l)))
+
+  pub sep-count : k ≤ length s → (k ≡ 0 → ⊥) → (m ≡ 0 → ⊥) → k + length sep ≡ length (opened sep (take k s) m)
+  sep-count h n z = rw (opened-sep h n z) (simp (length-append, length-take-le k s h) refl)
+
+  pub sep-area : {p : List ℕ} → k ≤ length s → (k ≡ 0 → ⊥) → (m ≡ 0 → ⊥) → length (opened sep (take k s) m) ≤ length s
+      → p ≡ written sep (take (length s - k) (drop k s))
+      → take k s ++ (p ++ drop (length s - k) (drop k s)) ≡ written (opened sep (take k s) m) s
+  sep-area {p} h n z l e =
+      let q = length-take-le k s h in
+      let r = rw (opened-sep h n z, length-append) at l in
+      rw (opened-sep h n z) (written-after s s (take k s) sep p k (kept h) (sym q) (omega arith) e)
+
+pub ruleset separate-laws = (start-count, start-area, end-count, end-area, sep-room, sep-count, sep-area)
