@@ -1,0 +1,5 @@
+pub mod Firsts
+pub mod Sames
+pub mod Parts
+pub mod Laws
+pub mod Words

@@ -1,0 +1,20 @@
+-- `definition::bytes::part_of` meets its contract. Assumes nothing.
+use borrow.Author.Needs.{needs}
+use Rattle.definition.proofs.Laws.{part-laws}
+use Rattle.definition.proofs.bytes.part_of.Statement.{statement}
+use Rattle.definition.proofs.bytes.part_of.Tie as tie
+
+pub part-of-spec : {M : Type 1} → statement M
+part-of-spec =
+    tie.close
+    (tie.spec
+    (λ c. search needs)
+    (λ c. search needs)
+    (λ c. search needs)
+    (λ c. search needs)
+    (λ c. search needs)
+    (λ c. search needs)
+    (λ c. search needs)
+    (λ c. search part-laws)
+    (λ c. search part-laws)
+    (λ c. search part-laws))

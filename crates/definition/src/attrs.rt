@@ -1,0 +1,72 @@
+// The attributes of a definition line (`attr_value`): words `name=value` parted by white space.
+use crate::Value;
+use crate::bytes;
+use base::Span;
+ghost use mathlib.Core.Path.{_≡_};
+ghost use Prim.Native.Nat.{_+_, _≤_};
+ghost use lib.ListN.{length};
+ghost use Rattle.base.specs.Lists.{part, same};
+ghost use Rattle.definition.specs.Attributes.{wordEnd, bare, attrValue};
+ghost use Rattle.definition.specs.Lines.{bytesOf};
+ghost use Rattle.definition.specs.Parts.{valueBytes, ValueWithin};
+
+// Where the word that goes on at `from` ends: at white space, or at the end.
+fn word_end(attributes: &[u8], from: usize) -> usize
+    ensures { λ r. ⌜ r ≡ wordEnd (now (attributes .entry)) from ⌝ }
+{
+    let mut i = from;
+    while i < attributes.len() {
+        if text::is_white_at(attributes, i) {
+            return i;
+        }
+        i += 1;
+    }
+    i
+}
+
+// The value from `a` to `e` without double quotes, then without single ones, at both ends.
+fn bare_value(attributes: &[u8], a: usize, e: usize) -> Span
+    requires { ⌜ (a ≤ e) × (e ≤ length (now attributes)) ⌝ }
+    ensures { λ r. ⌜ bytesOf (now (attributes .entry)) r ≡ bare (part (now (attributes .entry)) a e) ⌝ }
+    ensures within { λ r. ⌜ r .at + r .len ≤ length (now (attributes .entry)) ⌝ }
+{
+    let b = bytes::skip_byte(attributes, b'"', a, e);
+    let f = bytes::end_without(attributes, b'"', b, e);
+    let c = bytes::skip_byte(attributes, b'\'', b, f);
+    let g = bytes::end_without(attributes, b'\'', c, f);
+    Span { at: c, len: g - c }
+}
+
+// Whether the part from `a` to `e` is the name `key`.
+fn is_name(attributes: &[u8], a: usize, e: usize, key: &[u8]) -> bool
+    requires { ⌜ (a ≤ e) × (e ≤ length (now attributes)) ⌝ }
+    ensures { λ r. ⌜ r ≡ same (part (now (attributes .entry)) a e) (now (key .entry)) ⌝ }
+{
+    bytes::is_same(&attributes[a..e], key)
+}
+
+// The value of the first word `key=value`. A word without `=` before it ends the search.
+pub fn attr_value(attributes: &[u8], key: &[u8]) -> Value
+    ensures { λ r. ⌜ valueBytes (now (attributes .entry)) r ≡ attrValue (now (attributes .entry)) (now (key .entry)) ⌝ }
+    ensures within { λ r. ⌜ ValueWithin (length (now (attributes .entry))) r ⌝ }
+{
+    let mut at = 0;
+    while at < attributes.len() {
+        let a = text::trim_start(attributes, at, attributes.len());
+        if attributes.len() <= a {
+            return Value::Missing;
+        }
+        let e = word_end(attributes, a);
+        let q = bytes::find_byte(attributes, b'=', a, e);
+        if e <= q {
+            return Value::Missing;
+        }
+        if is_name(attributes, a, q, key) {
+            return Value::Given {
+                part: bare_value(attributes, q + 1, e),
+            };
+        }
+        at = e;
+    }
+    Value::Missing
+}

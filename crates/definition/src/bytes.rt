@@ -1,0 +1,88 @@
+// Searches for a byte, the comparison of two slices, and a part of a slice.
+ghost use mathlib.Core.Path.{_≡_};
+ghost use Prim.Native.Nat.{_+_, _-_, _≤_};
+ghost use lib.ListN.{length};
+ghost use Rattle.base.specs.Lists.{part, same};
+ghost use Rattle.definition.specs.Bytes.{firstOf, firstOther};
+ghost use Rattle.definition.specs.Attributes.{endWithout};
+
+// The first place from `a` up to `e` that holds the byte `b`, or `e`.
+pub fn find_byte(s: &[u8], b: u8, a: usize, e: usize) -> usize
+    requires { ⌜ e ≤ length (now s) ⌝ }
+    ensures { λ r. ⌜ r ≡ firstOf b (now (s .entry)) a e ⌝ }
+{
+    let mut i = a;
+    while i < e {
+        if s[i] == b {
+            return i;
+        }
+        i += 1;
+    }
+    i
+}
+
+// The first place from `a` up to `e` that holds another byte than `b`, or `e`.
+pub fn skip_byte(s: &[u8], b: u8, a: usize, e: usize) -> usize
+    requires { ⌜ e ≤ length (now s) ⌝ }
+    ensures { λ r. ⌜ r ≡ firstOther b (now (s .entry)) a e ⌝ }
+{
+    let mut i = a;
+    while i < e {
+        if s[i] == b {
+            i += 1;
+        } else {
+            return i;
+        }
+    }
+    i
+}
+
+// Where the stretch from `a` to `e` ends without the bytes `b` at its end.
+pub fn end_without(s: &[u8], b: u8, a: usize, e: usize) -> usize
+    requires { ⌜ e ≤ length (now s) ⌝ }
+    ensures { λ r. ⌜ r ≡ endWithout b (now (s .entry)) a (e - a) ⌝ }
+{
+    let mut i = e;
+    while a < i {
+        if s[i - 1] == b {
+            i -= 1;
+        } else {
+            return i;
+        }
+    }
+    a
+}
+
+// Whether two slices hold the same bytes.
+pub fn is_same(a: &[u8], b: &[u8]) -> bool
+    ensures { λ r. ⌜ r ≡ same (now (a .entry)) (now (b .entry)) ⌝ }
+{
+    if a.len() == b.len() {
+        let mut i: usize = 0;
+        while i < a.len() {
+            if a[i] == b[i] {
+                i += 1;
+            } else {
+                return false;
+            }
+        }
+        true
+    } else {
+        false
+    }
+}
+
+// The `len` bytes from `at` on, or none where that is no part of `s`.
+pub fn part_of<'a>(s: &'a [u8], at: usize, len: usize) -> &'a [u8]
+    ensures { λ r. ⌜ now r ≡ part (now (s .entry)) at (at + len) ⌝ }
+{
+    if at <= s.len() {
+        if len <= s.len() - at {
+            &s[at..at + len]
+        } else {
+            &s[..0]
+        }
+    } else {
+        &s[..0]
+    }
+}
