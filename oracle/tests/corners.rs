@@ -215,3 +215,27 @@ fn index_and_scan() {
         });
     }
 }
+
+// Every text of up to six of these bytes: an index entry stands just where the unlimited scan finds a group. (A `[` after the
+// close, which the index does not look at, is left out.)
+#[test]
+fn index_entries() {
+    const BYTES: &[u8] = b"[]@a;, \\";
+    let mut session = Session::default();
+    for length in 0..=6 {
+        for number in 0..BYTES.len().pow(length) {
+            let text: Vec<u8> = (0..length).map(|i| BYTES[number / BYTES.len().pow(i) % BYTES.len()]).collect();
+            session.set_text(&text);
+            for (at, close) in session.index().into_iter().enumerate() {
+                let found = session.look_up(at, true);
+                assert!(close == found.close || found.number == 5 && text[close + 1] == b'[', "{text:?} {at}");
+            }
+        }
+    }
+}
+
+#[test]
+fn white_space() {
+    let white: Vec<u32> = (0..=0x10FFFF).filter(|&c| char::from_u32(c).is_some_and(char::is_whitespace)).collect();
+    assert_eq!(white, generate::WHITE);
+}
