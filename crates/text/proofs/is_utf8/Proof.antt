@@ -1,0 +1,34 @@
+-- `text::is_utf8` meets its contract. The loop's invariant: some number of turns from `at` on, enough for the bytes that are left, gives the
+-- answer. The measure is what is left of the text. Assumes nothing.
+use Prim.Native.Nat.{_-_}
+use lib.ListN.{length}
+use native.Mathlib.Omega.{arith}
+use borrow.Author.Needs.{needs}
+use Rattle.text.specs.Utf8.{utf8}
+use Rattle.text.proofs.Characters.{Rest, rest-laws, char-le}
+use Rattle.text.proofs.is_utf8.Statement.{statement}
+use Rattle.text.proofs.is_utf8.Tie as tie
+
+abbrev Inv-loop : tie.InvT-loop
+Inv-loop text at₀ at = Rest text at (utf8 text)
+
+abbrev μ-loop : tie.MeasureT-loop
+μ-loop text at₀ at = length text - at
+
+pub is-utf8-spec : {M : Type 1} → statement M
+is-utf8-spec =
+    tie.close
+    (tie.spec
+    Inv-loop
+    μ-loop
+    (λ c. search rest-laws)
+    (λ c. search needs)
+    (λ c. search needs)
+    (λ c. search needs)
+    (λ c. search rest-laws)
+    (λ c κs. search needs)
+    (λ c. search rest-laws)
+    (λ c. omega (arith, char-le _ _ (c .before .char-width .ensures)))
+    (λ c. search needs)
+    (λ c. search rest-laws)
+    (λ c. search rest-laws))
