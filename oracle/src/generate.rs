@@ -434,13 +434,14 @@ const STORED: [(u8, &str, u64, usize); 5] =
 /// A record lies within one block, and the rest of a block is filled with zeros.
 const BLOCK: usize = 65_536;
 
-/// The stored list. A record is the kind's number, the length of its body (u16), and its body: the request's numbers, the
-/// answer's numbers (u16 each), then the text. All numbers are little-endian.
-pub fn stored() -> Vec<u8> {
+/// The stored list, with other seeds and so many times as long where asked for. A record is the kind's number, the length of its
+/// body (u16), and its body: the request's numbers, the answer's numbers (u16 each), the answer's bytes where it has them, then
+/// the request's bytes. All numbers are little-endian.
+pub fn stored(seed: u64, times: usize) -> Vec<u8> {
     let mut out = Vec::new();
     let mut session = Session::default();
-    for (number, kind, seed, n) in STORED {
-        let known = requests(seed, n, kind, &mut |request| {
+    for (number, kind, own_seed, n) in STORED {
+        let known = requests(own_seed + seed, n * times, kind, &mut |request| {
             let body = body(&request, &mut session);
             if out.len() % BLOCK + 3 + body.len() > BLOCK {
                 out.resize(out.len().next_multiple_of(BLOCK), 0);
@@ -453,17 +454,21 @@ pub fn stored() -> Vec<u8> {
 }
 
 fn body(request: &Request, session: &mut Session) -> Vec<u8> {
-    let (text, mut numbers) = match request {
-        Request::Utf8(text) => (text, vec![]),
+    let (bytes, mut numbers) = match request {
+        Request::Utf8(text) | Request::Locator(text) => (text, vec![]),
         Request::Escaped(text, at) | Request::Key(text, at) | Request::White(text, at) => (text, vec![*at]),
-        Request::Trim(text, from, to) => (text, vec![*from, *to]),
+        Request::Trim(text, from, to) | Request::Item(text, from, to) => (text, vec![*from, *to]),
+        Request::Close(text, at, limit) => (text, vec![*at, (*limit).min(65_535)]),
+        Request::Source(pool, entry) => (pool, vec![*entry]),
         _ => panic!("a kind that is not stored"),
     };
-    numbers.extend(request.answer(session).expect("a request that can be answered").numbers);
+    let answer = request.answer(session).expect("a request that can be answered");
+    numbers.extend(answer.numbers);
     let mut out = Vec::new();
     for number in numbers {
         out.extend(u16::try_from(number).expect("a number of 16 bits").to_le_bytes());
     }
-    out.extend(text);
+    out.extend(answer.bytes.unwrap_or_default());
+    out.extend(bytes);
     out
 }

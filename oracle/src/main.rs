@@ -4,6 +4,7 @@
 //!     oracle < requests > answers                     a request a line, an answer a line; src/protocol.rs has the table
 //!     oracle generate SEED N KIND                     N made-up requests of a kind, to be answered or to be sent elsewhere
 //!     oracle store > ../crates/replay/data/answers    the stored list that crates/replay replays
+//!     oracle store SEED TIMES > answers               a list with other seeds, TIMES as long, to run target/bin/replay beside
 //!
 //! A place that the Rust's answer does not bear out stops the program.
 
@@ -19,8 +20,9 @@ fn main() {
     match words.as_slice() {
         [] => answer_all(),
         ["generate", seed, n, kind] => write_requests(number(seed), number(n) as usize, kind),
-        ["store"] => io::stdout().write_all(&generate::stored()).expect("output"),
-        _ => stop("oracle | oracle generate SEED N KIND | oracle store"),
+        ["store"] => store(0, 1),
+        ["store", seed, times] => store(number(seed), number(times) as usize),
+        _ => stop("oracle | oracle generate SEED N KIND | oracle store [SEED TIMES]"),
     }
 }
 
@@ -31,6 +33,10 @@ fn stop(why: &str) -> ! {
 
 fn number(word: &str) -> u64 {
     word.parse().unwrap_or_else(|_| stop("no number"))
+}
+
+fn store(seed: u64, times: usize) {
+    io::stdout().write_all(&generate::stored(seed, times)).expect("output");
 }
 
 fn write_requests(seed: u64, n: usize, kind: &str) {

@@ -64,13 +64,16 @@ fn agrees(kind: u8, body: &[u8]) -> bool {
     false
 }
 
-// The tally with a record, where it is of this kind: the kind, the body's length in two bytes, the body.
+// The tally with a record, where it is of this kind: the kind, the body's length in two bytes, the body. One cut off does not agree.
 fn judged(t: Tally, kind: u8, record: &[u8]) -> Tally {
     if record.len() < 3 {
         return t;
     }
     if record[0] != kind {
         return t;
+    }
+    if leaves::number(record, 1) + 3 != record.len() {
+        return counted(t, false);
     }
     counted(t, agrees(kind, &record[3..]))
 }
@@ -118,7 +121,7 @@ fn replay_all(kind: u8, fd: i32) -> Tally {
         same: 0,
         first: 0,
     };
-    let mut turns: u32 = 1000;
+    let mut turns: u32 = 1000000;
     while turns > 0 {
         let step = replay_some(tally, kind, fd);
         tally = step.tally;
