@@ -41,11 +41,11 @@ const AFTER: [&str; 30] = [
 const KEYS: [&str; 8] = ["a", "b", "c", "ant", "a.", "x:1", "_", "k9"];
 
 /// A row of numbers from a seed (splitmix64).
-pub struct Dice(u64);
+pub struct Random(u64);
 
-impl Dice {
-    pub fn new(seed: u64) -> Dice {
-        Dice(seed)
+impl Random {
+    pub fn new(seed: u64) -> Random {
+        Random(seed)
     }
 
     fn next(&mut self) -> u64 {
@@ -66,20 +66,20 @@ impl Dice {
     }
 }
 
-fn letter(point: u32) -> char {
+fn character(point: u32) -> char {
     char::from_u32(point).expect("a code point")
 }
 
 /// Hands `n` requests of a kind to `take`, those that are the same for every seed first; false where there is no such kind.
 pub fn requests(seed: u64, n: usize, kind: &str, take: &mut dyn FnMut(Request)) -> bool {
-    let mut dice = Dice::new(seed);
+    let mut random = Random::new(seed);
     let fixed = fixed(kind);
     let count = fixed.len();
     for request in fixed.into_iter().take(n) {
         take(request);
     }
     for _ in count.min(n)..n {
-        if !request(&mut dice, kind, take) {
+        if !request(&mut random, kind, take) {
             return false;
         }
     }
@@ -87,53 +87,53 @@ pub fn requests(seed: u64, n: usize, kind: &str, take: &mut dyn FnMut(Request)) 
 }
 
 // One made-up request; for `lookup`, `annotate` and `large` a text with several.
-fn request(dice: &mut Dice, kind: &str, take: &mut dyn FnMut(Request)) -> bool {
+fn request(random: &mut Random, kind: &str, take: &mut dyn FnMut(Request)) -> bool {
     match kind {
-        "utf8" => take(Request::Utf8(damaged(dice))),
+        "utf8" => take(Request::Utf8(damaged(random))),
         "escaped" => {
-            let text = slashed(dice);
-            let at = dice.below(text.len() + 1);
+            let text = slashed(random);
+            let at = random.below(text.len() + 1);
             take(Request::Escaped(text, at));
         }
         "key" => {
-            let text = keyed(dice);
-            let at = dice.below(text.len() + 2);
+            let text = keyed(random);
+            let at = random.below(text.len() + 2);
             take(Request::Key(text, at));
         }
         "white" => {
-            let text = spaced(dice);
-            let at = dice.below(text.len() + 1);
+            let text = spaced(random);
+            let at = random.below(text.len() + 1);
             take(Request::White(text.into_bytes(), at));
         }
         "trim" => {
-            let text = spaced(dice);
-            let (from, to) = stretch(dice, &text);
+            let text = spaced(random);
+            let (from, to) = stretch(random, &text);
             take(Request::Trim(text.into_bytes(), from, to));
         }
         "close" => {
-            let text = pieces(dice, 30);
-            let at = dice.below(text.len() + 1);
-            let limit = dice.of(&[1, 5, 20, 63, 64, 65, usize::MAX]);
+            let text = pieces(random, 30);
+            let at = random.below(text.len() + 1);
+            let limit = random.of(&[1, 5, 20, 63, 64, 65, usize::MAX]);
             take(Request::Close(text.into_bytes(), at, limit));
         }
-        "locator" => take(Request::Locator(locator(dice).into_bytes())),
+        "locator" => take(Request::Locator(locator(random).into_bytes())),
         "item" => {
-            let text = if dice.below(2) == 0 { item(dice) } else { pieces(dice, 12) };
-            let (from, to) = if dice.below(3) == 0 { stretch(dice, &text) } else { (0, text.len()) };
+            let text = if random.below(2) == 0 { item(random) } else { pieces(random, 12) };
+            let (from, to) = if random.below(3) == 0 { stretch(random, &text) } else { (0, text.len()) };
             take(Request::Item(text.into_bytes(), from, to));
         }
-        "lookup" => look_ups(dice, take),
+        "lookup" => look_ups(random, take),
         "annotate" => {
-            let text = if dice.below(3) == 0 { text(dice) } else { prose(dice) };
-            annotations(dice, text, take);
+            let text = if random.below(3) == 0 { text(random) } else { prose(random) };
+            annotations(random, text, take);
         }
         "large" => {
-            let text = large(dice);
-            annotations(dice, text, take);
+            let text = large(random);
+            annotations(random, text, take);
         }
         "source" => {
-            let pool = pool(dice);
-            let entry = dice.below(5);
+            let pool = pool(random);
+            let entry = random.below(5);
             take(Request::Source(pool, entry));
         }
         _ => return false,
@@ -143,7 +143,7 @@ fn request(dice: &mut Dice, kind: &str, take: &mut dyn FnMut(Request)) -> bool {
 
 // The requests that every list of a kind begins with.
 fn fixed(kind: &str) -> Vec<Request> {
-    let alone = || WHITE.iter().chain(&NEAR).chain(&WIDE).map(|&point| letter(point).to_string());
+    let alone = || WHITE.iter().chain(&NEAR).chain(&WIDE).map(|&point| character(point).to_string());
     match kind {
         "utf8" => {
             let broken = BROKEN.iter().map(|b| b.to_vec());
@@ -172,23 +172,23 @@ fn fixed(kind: &str) -> Vec<Request> {
 }
 
 // Characters of every width, then, three times in four, damage.
-fn damaged(dice: &mut Dice) -> Vec<u8> {
+fn damaged(random: &mut Random) -> Vec<u8> {
     let mut bytes = Vec::new();
-    for _ in 0..dice.below(12) {
-        let point = if dice.below(3) == 0 { dice.of(&NEAR) } else { dice.of(&WIDE) };
-        bytes.extend(letter(point).to_string().as_bytes());
+    for _ in 0..random.below(12) {
+        let point = if random.below(3) == 0 { random.of(&NEAR) } else { random.of(&WIDE) };
+        bytes.extend(character(point).to_string().as_bytes());
     }
-    let at = dice.below(bytes.len() + 1);
-    match dice.below(8) {
+    let at = random.below(bytes.len() + 1);
+    match random.below(8) {
         0 | 1 => {}
         2 => bytes.truncate(at),
-        3 | 4 if at < bytes.len() => bytes[at] = (dice.next() & 255) as u8,
+        3 | 4 if at < bytes.len() => bytes[at] = (random.next() & 255) as u8,
         5 if at < bytes.len() => {
             bytes.remove(at);
         }
-        6 => bytes.insert(at, (dice.next() & 255) as u8),
+        6 => bytes.insert(at, (random.next() & 255) as u8),
         _ => {
-            let broken = dice.of(&BROKEN);
+            let broken = random.of(&BROKEN);
             bytes.splice(at..at, broken.iter().copied());
         }
     }
@@ -196,112 +196,112 @@ fn damaged(dice: &mut Dice) -> Vec<u8> {
 }
 
 // Runs of backslashes between other characters.
-fn slashed(dice: &mut Dice) -> Vec<u8> {
+fn slashed(random: &mut Random) -> Vec<u8> {
     let mut text = String::new();
-    for _ in 0..1 + dice.below(5) {
-        text.push_str(&"\\".repeat(dice.below(6)));
-        text.push_str(dice.of(&["[", "]", "@", "a", "é", "", ";", "\n"]));
+    for _ in 0..1 + random.below(5) {
+        text.push_str(&"\\".repeat(random.below(6)));
+        text.push_str(random.of(&["[", "]", "@", "a", "é", "", ";", "\n"]));
     }
     text.into_bytes()
 }
 
-fn keyed(dice: &mut Dice) -> Vec<u8> {
+fn keyed(random: &mut Random) -> Vec<u8> {
     let mut text = String::new();
-    for _ in 0..1 + dice.below(16) {
-        match dice.below(4) {
-            0 => text.push(char::from(b'!' + dice.below(94) as u8)),
-            1 => text.push(char::from(dice.of(b"_:.#$%&+?<>~/-"))),
-            2 => text.push_str(dice.of(&PIECES)),
-            _ => text.push(char::from(dice.of(b"abzAZ059_"))),
+    for _ in 0..1 + random.below(16) {
+        match random.below(4) {
+            0 => text.push(char::from(b'!' + random.below(94) as u8)),
+            1 => text.push(char::from(random.of(b"_:.#$%&+?<>~/-"))),
+            2 => text.push_str(random.of(&PIECES)),
+            _ => text.push(char::from(random.of(b"abzAZ059_"))),
         }
     }
     text.into_bytes()
 }
 
-fn spaced(dice: &mut Dice) -> String {
+fn spaced(random: &mut Random) -> String {
     let mut text = String::new();
-    for _ in 0..1 + dice.below(8) {
-        let point = match dice.below(5) {
-            0 => dice.of(&NEAR),
-            1 => dice.of(&WIDE),
-            _ => dice.of(&WHITE),
+    for _ in 0..1 + random.below(8) {
+        let point = match random.below(5) {
+            0 => random.of(&NEAR),
+            1 => random.of(&WIDE),
+            _ => random.of(&WHITE),
         };
-        text.push(letter(point));
+        text.push(character(point));
     }
     text
 }
 
 // Two places between characters, in order.
-fn stretch(dice: &mut Dice, text: &str) -> (usize, usize) {
+fn stretch(random: &mut Random, text: &str) -> (usize, usize) {
     let places: Vec<usize> = (0..=text.len()).filter(|&i| text.is_char_boundary(i)).collect();
-    let (a, b) = (dice.of(&places), dice.of(&places));
+    let (a, b) = (random.of(&places), random.of(&places));
     (a.min(b), a.max(b))
 }
 
-fn pieces(dice: &mut Dice, most: usize) -> String {
-    (0..dice.below(most + 1)).map(|_| dice.of(&PIECES)).collect()
+fn pieces(random: &mut Random, most: usize) -> String {
+    (0..random.below(most + 1)).map(|_| random.of(&PIECES)).collect()
 }
 
-fn locator(dice: &mut Dice) -> String {
-    let mut text = dice.of(&["", "", "", " ", "\t ", "\u{a0}"]).to_string();
-    if dice.below(4) > 0 {
-        for c in dice.of(&MATCHERS).chars() {
-            text.push(if dice.below(5) == 0 { c.to_ascii_uppercase() } else { c });
+fn locator(random: &mut Random) -> String {
+    let mut text = random.of(&["", "", "", " ", "\t ", "\u{a0}"]).to_string();
+    if random.below(4) > 0 {
+        for c in random.of(&MATCHERS).chars() {
+            text.push(if random.below(5) == 0 { c.to_ascii_uppercase() } else { c });
         }
     }
-    for _ in 0..dice.below(6) {
-        text.push_str(dice.of(&AFTER));
+    for _ in 0..random.below(6) {
+        text.push_str(random.of(&AFTER));
     }
     text
 }
 
-fn item(dice: &mut Dice) -> String {
-    let mut text = dice.of(&["", "", " ", "see ", "x\u{a0}", "@a ", "\\@b "]).to_string();
-    text.push_str(dice.of(&["@", "@", "@", "-@", "--@", "\\-@", "@@"]));
-    text.push_str(dice.of(&KEYS));
-    if dice.below(2) == 0 {
+fn item(random: &mut Random) -> String {
+    let mut text = random.of(&["", "", " ", "see ", "x\u{a0}", "@a ", "\\@b "]).to_string();
+    text.push_str(random.of(&["@", "@", "@", "-@", "--@", "\\-@", "@@"]));
+    text.push_str(random.of(&KEYS));
+    if random.below(2) == 0 {
         text.push(',');
-        text.push_str(&locator(dice));
+        text.push_str(&locator(random));
     }
-    text.push_str(dice.of(&["", "", " ", "\u{2003}", "\n"]));
+    text.push_str(random.of(&["", "", " ", "\u{2003}", "\n"]));
     text
 }
 
-fn group(dice: &mut Dice) -> String {
-    let mut text = dice.of(&["[", "[", "[", "[+"]).to_string();
-    for i in 0..dice.of(&[1, 1, 1, 2, 3, 5]) {
+fn group(random: &mut Random) -> String {
+    let mut text = random.of(&["[", "[", "[", "[+"]).to_string();
+    for i in 0..random.of(&[1, 1, 1, 2, 3, 5]) {
         if i > 0 {
             text.push(';');
         }
-        text.push_str(&item(dice));
+        text.push_str(&item(random));
     }
-    text.push_str(dice.of(&["]", "]", "]", "]", "", "](", "][x]"]));
+    text.push_str(random.of(&["]", "]", "]", "]", "", "](", "][x]"]));
     text
 }
 
-fn definition(dice: &mut Dice) -> String {
+fn definition(random: &mut Random) -> String {
     let mut text =
-        format!("{}{}]{}", dice.of(&["[@", "[@", "[+@", "[-@", "[ @"]), dice.of(&KEYS), dice.of(&[": ", ": ", ":   ", ":", ":\t"]));
-    if dice.below(2) == 0 {
-        let author = dice.of(&["author=Ant", "author=\"Bee\"", "author='C'", "author=", "author=\"Le Guin\"", "word"]);
-        let year = dice.of(&["year=1999", "year=", "year=\u{2003}7", "x=1", ""]);
+        format!("{}{}]{}", random.of(&["[@", "[@", "[+@", "[-@", "[ @"]), random.of(&KEYS), random.of(&[": ", ": ", ":   ", ":", ":\t"]));
+    if random.below(2) == 0 {
+        let author = random.of(&["author=Ant", "author=\"Bee\"", "author='C'", "author=", "author=\"Le Guin\"", "word"]);
+        let year = random.of(&["year=1999", "year=", "year=\u{2003}7", "x=1", ""]);
         text.push_str(&format!("{{{author} {year}}}"));
     }
-    text.push_str(dice.of(&["", " Title.", " see [@a].", "x}"]));
+    text.push_str(random.of(&["", " Title.", " see [@a].", "x}"]));
     text
 }
 
 /// A text with groups, definition lines, nesting and stretches without a close, short or past 64 bytes.
-pub fn text(dice: &mut Dice) -> String {
+pub fn text(random: &mut Random) -> String {
     let mut text = String::new();
-    let long = dice.below(3) == 0;
-    for _ in 0..1 + dice.below(6) {
-        match dice.below(7) {
-            0 => text.push_str(&pieces(dice, 12)),
-            1 | 2 => text.push_str(&group(dice)),
-            3 | 4 => text.push_str(&format!("\n{}\n", definition(dice))),
-            5 => text.push_str(dice.of(&["[", "[[", "]", "\\[", " ", "word ", "[x;"])),
-            _ if long => text.push_str(&dice.of(&["x", " ", "[", "\\", "é", "a;"]).repeat(dice.below(70))),
+    let long = random.below(3) == 0;
+    for _ in 0..1 + random.below(6) {
+        match random.below(7) {
+            0 => text.push_str(&pieces(random, 12)),
+            1 | 2 => text.push_str(&group(random)),
+            3 | 4 => text.push_str(&format!("\n{}\n", definition(random))),
+            5 => text.push_str(random.of(&["[", "[[", "]", "\\[", " ", "word ", "[x;"])),
+            _ if long => text.push_str(&random.of(&["x", " ", "[", "\\", "é", "a;"]).repeat(random.below(70))),
             _ => text.push('\n'),
         }
     }
@@ -309,23 +309,23 @@ pub fn text(dice: &mut Dice) -> String {
 }
 
 // A text whose few keys are mostly defined, by its own lines or a pool, so that groups are numbered.
-fn prose(dice: &mut Dice) -> String {
+fn prose(random: &mut Random) -> String {
     let mut lines = Vec::new();
-    for _ in 0..dice.below(5) {
-        lines.push(definition(dice));
+    for _ in 0..random.below(5) {
+        lines.push(definition(random));
     }
-    for _ in 0..1 + dice.below(4) {
-        let mut line = dice.of(&["See ", "", "x"]).to_string();
-        for _ in 0..dice.below(5) {
-            let key = dice.of(&KEYS);
-            match dice.below(6) {
-                0 => line.push_str(&group(dice)),
+    for _ in 0..1 + random.below(4) {
+        let mut line = random.of(&["See ", "", "x"]).to_string();
+        for _ in 0..random.below(5) {
+            let key = random.of(&KEYS);
+            match random.below(6) {
+                0 => line.push_str(&group(random)),
                 1 => line.push_str(&format!("[-@{key}] ")),
-                2 => line.push_str(&format!("[@{key}, p. 3; @{}].", dice.of(&KEYS))),
+                2 => line.push_str(&format!("[@{key}, p. 3; @{}].", random.of(&KEYS))),
                 _ => line.push_str(&format!("[@{key}] ")),
             }
         }
-        lines.insert(dice.below(lines.len() + 1), line);
+        lines.insert(random.below(lines.len() + 1), line);
     }
     lines.join("\n")
 }
@@ -335,13 +335,13 @@ fn brackets(text: &str) -> Vec<usize> {
 }
 
 // A text, look-ups in any order, each also by the unlimited scan, then the index.
-fn look_ups(dice: &mut Dice, take: &mut dyn FnMut(Request)) {
-    let text = text(dice);
+fn look_ups(random: &mut Random, take: &mut dyn FnMut(Request)) {
+    let text = text(random);
     let places = brackets(&text);
     let end = text.len();
     take(Request::Text(text.into_bytes()));
     for _ in 0..places.len().min(12) {
-        let at = if dice.below(20) == 0 { dice.below(end + 2) } else { dice.of(&places) };
+        let at = if random.below(20) == 0 { random.below(end + 2) } else { random.of(&places) };
         take(Request::LookUp(at));
         take(Request::Scan(at));
     }
@@ -349,14 +349,14 @@ fn look_ups(dice: &mut Dice, take: &mut dyn FnMut(Request)) {
 }
 
 // A text, perhaps a look-up that leaves an index, then the annotation over it and by the unlimited scan.
-fn annotations(dice: &mut Dice, text: String, take: &mut dyn FnMut(Request)) {
+fn annotations(random: &mut Random, text: String, take: &mut dyn FnMut(Request)) {
     let places = brackets(&text);
     take(Request::Text(text.into_bytes()));
-    if !places.is_empty() && dice.below(2) == 0 {
-        take(Request::LookUp(dice.of(&places)));
+    if !places.is_empty() && random.below(2) == 0 {
+        take(Request::LookUp(random.of(&places)));
     }
-    let mode = dice.below(2);
-    let pool = if dice.below(2) == 0 { Vec::new() } else { pool(dice) };
+    let mode = random.below(2);
+    let pool = if random.below(2) == 0 { Vec::new() } else { pool(random) };
     take(Request::Annotate(mode, pool.clone()));
     take(Request::Plain(mode, pool));
 }
@@ -367,37 +367,37 @@ fn field(tag: u8, bytes: &[u8], out: &mut Vec<u8>) {
     out.extend(bytes);
 }
 
-fn entry(dice: &mut Dice) -> Vec<u8> {
+fn entry(random: &mut Random) -> Vec<u8> {
     const WORDS: [&str; 7] = ["", "Ant", "Bee", "Le Guin", "é", " ", "A; B"];
     let mut out = Vec::new();
-    field(1, if dice.below(8) == 0 { b"" } else { dice.of(&KEYS).as_bytes() }, &mut out);
-    for _ in 0..dice.of(&[0, 1, 1, 2, 3]) {
+    field(1, if random.below(8) == 0 { b"" } else { random.of(&KEYS).as_bytes() }, &mut out);
+    for _ in 0..random.of(&[0, 1, 1, 2, 3]) {
         field(2, b"", &mut out);
         for tag in 3..=5 {
-            if dice.below(if tag == 5 { 4 } else { 2 }) == 0 {
-                field(tag, dice.of(&WORDS).as_bytes(), &mut out);
+            if random.below(if tag == 5 { 4 } else { 2 }) == 0 {
+                field(tag, random.of(&WORDS).as_bytes(), &mut out);
             }
         }
     }
-    if dice.below(2) == 0 {
-        let year = dice.of(&[1999, 0, -44, i64::MIN, i64::MAX, 7]);
+    if random.below(2) == 0 {
+        let year = random.of(&[1999, 0, -44, i64::MIN, i64::MAX, 7]);
         field(6, &year.to_le_bytes(), &mut out);
     }
-    if dice.below(3) == 0 {
-        field(7, dice.of(&["", "1999a", "n.d."]).as_bytes(), &mut out);
+    if random.below(3) == 0 {
+        field(7, random.of(&["", "1999a", "n.d."]).as_bytes(), &mut out);
     }
-    if dice.below(2) == 0 {
-        field(8, dice.of(&["", "Title", "On <x>"]).as_bytes(), &mut out);
+    if random.below(2) == 0 {
+        field(8, random.of(&["", "Title", "On <x>"]).as_bytes(), &mut out);
     }
     out
 }
 
 // A text of up to 65,535 bytes.
-fn large(dice: &mut Dice) -> String {
-    let most = 1000 + dice.below(64_000);
+fn large(random: &mut Random) -> String {
+    let most = 1000 + random.below(64_000);
     let mut whole = String::new();
     loop {
-        let more = if dice.below(3) == 0 { text(dice) } else { prose(dice) };
+        let more = if random.below(3) == 0 { text(random) } else { prose(random) };
         if whole.len() + more.len() > most {
             return whole;
         }
@@ -406,8 +406,8 @@ fn large(dice: &mut Dice) -> String {
 }
 
 /// A pool, one time in six with a byte changed, taken off or added.
-pub fn pool(dice: &mut Dice) -> Vec<u8> {
-    let entries: Vec<Vec<u8>> = (0..dice.below(5)).map(|_| entry(dice)).collect();
+pub fn pool(random: &mut Random) -> Vec<u8> {
+    let entries: Vec<Vec<u8>> = (0..random.below(5)).map(|_| entry(random)).collect();
     let mut out = (entries.len() as u16).to_le_bytes().to_vec();
     let mut at = 2 + 4 * entries.len();
     for e in &entries {
@@ -418,11 +418,11 @@ pub fn pool(dice: &mut Dice) -> Vec<u8> {
     for e in &entries {
         out.extend(e);
     }
-    let place = dice.below(out.len());
-    match dice.below(18) {
-        0 => out[place] = (dice.next() & 255) as u8,
+    let place = random.below(out.len());
+    match random.below(18) {
+        0 => out[place] = (random.next() & 255) as u8,
         1 => out.truncate(place),
-        2 => out.insert(place, dice.of(&[0, 1, 2, 3, 8, 255])),
+        2 => out.insert(place, random.of(&[0, 1, 2, 3, 8, 255])),
         _ => {}
     }
     out
