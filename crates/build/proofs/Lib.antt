@@ -1,0 +1,4 @@
+pub mod Again
+pub mod Lent
+pub mod Local
+pub mod Calling
