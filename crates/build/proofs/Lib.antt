@@ -2,3 +2,4 @@ pub mod Again
 pub mod Lent
 pub mod Local
 pub mod Calling
+pub mod Turns

@@ -5,7 +5,7 @@ ghost use lib.ListN.{length, set, getD};
 ghost use mathlib.Core.Path.{_≡_};
 ghost use Rattle.index.specs.Built.{blank};
 ghost use Rattle.index.specs.Scan.{planAt, stepIndex, stepRecords};
-ghost use Rattle.build.specs.Turn.{Ready};
+ghost use Rattle.build.specs.Turn.{Ready, Enough, built};
 use index::Bracket;
 use index::Scan;
 
@@ -54,4 +54,15 @@ fn step(text: &[u8], c: Scan, index: &mut [u16], records: &mut [Bracket]) -> Sca
     store(records, p.slot, p.top);
     index::write_entry(index, p);
     p.next
+}
+
+// Builds the index of the text, in one pass.
+pub fn bracket_pairs(text: &[u8], index: &mut [u16], records: &mut [Bracket])
+    requires { ⌜ Enough (now text) (now index) (now records) ⌝ }
+    ensures { λ _. ⌜ (now (index .exit), now (records .exit)) ≡ built (now (text .entry)) (now (index .entry)) (now (records .entry)) ⌝ }
+{
+    let mut c = index::begin(text);
+    while index::is_more(text, c) {
+        c = step(text, c, index, records);
+    }
 }
