@@ -1,7 +1,7 @@
 -- Every offset and length of a good item is at most the end of its stretch, and its code at most 16: what a caller's casts ask for.
 use Prim.Native.Nat.{ℕ, zero, suc, _+_, _-_, _≤_, _<_}
 use native.Mathlib.Omega.{arith}
-use mathlib.Core.Path.{_≡_, refl, sym, subst}
+use mathlib.Core.Path.{_≡_, refl, sym, _∙_, subst}
 use mathlib.Core.List.{List, [], _∷_}
 use mathlib.Core.Bool.{Bool, true, false, _&&_}
 use lib.ListN.{length}
@@ -36,6 +36,7 @@ use Rattle.locator.specs.Locators.{
 use Rattle.locator.specs.Answers.{codeOf, valueOf, suffixOf}
 use Rattle.locator.proofs.Parts.{locator-in-order}
 use Rattle.item.specs.declared.Item.{Item}
+use Rattle.item.specs.declared.Parsed.{Parsed}
 use Rattle.item.specs.declared.Parsed.the-variants.{Good, Bad}
 use Rattle.item.specs.Items.{winner, prefixEnd, locatorStart, itemAt, itemIn, itemOf}
 use Rattle.item.specs.Facts.{partsOf, LocatorWithin, ItemWithin}
@@ -179,7 +180,12 @@ item-within s a e n {it} h k =
       };
     }
 
--- the same in the arms of a `match` on the locator
+-- the same of what a call of `parse_item` gave, in the arm of a `match` on it
+pub parsed-within : (s : List ℕ) (a e n : ℕ) {r : Parsed} {it : Item} → r ≡ itemOf s a e → r ≡ Good it → e ≤ length s → length s ≤ n
+    → ItemWithin n it
+parsed-within s a e n p q h k = item-within s a e n (sym p ∙ q) (omega arith)
+
+-- and in the arms of a `match` on the locator
 module _ {n : ℕ} {l : Locator} (w : LocatorWithin n l) where
   pub plain-suffix : {x : Span} → l ≡ Plain x → x .at + x .len ≤ n
   unfolding suffixOf
