@@ -32,8 +32,10 @@ use Rattle.locator.specs.Locators.{
 }
 use Rattle.item.specs.declared.Parsed.{Parsed}
 use Rattle.item.specs.declared.Parsed.the-variants.{Good, Bad}
+use Rattle.item.specs.declared.Judged.the-variants.{Good as AllGood, Bad as FirstBad}
 use Rattle.item.specs.Items.{itemOf, itemIn, itemAt, locatorStart, prefixEnd, suppresses, winner, wins, keyServes, atSign}
-use Rattle.item.specs.Pieces.{piecesOf, pieces, piecesIn, partsAt, itemsStart, integralAt, stretch}
+use Rattle.item.specs.Pieces.{piecesOf, pieces, piecesIn, partsAt, itemsStart, integralAt, stretch, parsed, allGood}
+use Rattle.item.specs.Judge.{judgedOf, judgedIn, firstBad}
 
 -- "`[x -@a, p. 3]` prefix `x`, suppressed, page, `3`"
 page-three : itemOf (ascii "[x -@a, p. 3]") 1 12
@@ -61,6 +63,15 @@ unfolding itemOf itemIn itemAt locatorStart prefixEnd suppresses winner wins key
     spaceWidth isWhite trimStart trimEnd contentEnd escapedAt slashes first spanOf ascii
 alone = refl
 
+-- "The first .. wins": `[@a, @b]` has the key `a`
+first-wins : itemOf (ascii "[@a, @b]") 1 7
+    ≡ Good (record { prefix = missing; key = span 2 1; whole = span 5 2; locator = Plain (span 5 2); suppressed = false })
+unfolding itemOf itemIn itemAt locatorStart prefixEnd suppresses winner wins keyServes atSign
+    locatorOf locatorFrom labelled valued valueEnd strip isLoose valueRun isValue labelOf orPage matchIn stands mayFollow
+    fits lower skipBlanks matchers isFirst isMark isKey keyRun runEnd keyEnd
+    spaceWidth isWhite trimStart trimEnd contentEnd escapedAt slashes first spanOf ascii
+first-wins = refl
+
 -- "`[\@a]` 5"
 escaped : itemOf (ascii "[\\@a]") 1 4 ≡ Bad
 unfolding itemOf itemIn itemAt locatorStart prefixEnd suppresses winner wins keyServes atSign
@@ -72,3 +83,25 @@ escaped = refl
 two-pieces : piecesOf (ascii "[+@a;]") 0 5 ≡ stretch 2 4 ∷ stretch 5 5 ∷ []
 unfolding piecesOf pieces piecesIn partsAt itemsStart integralAt ascii
 two-pieces = refl
+
+-- "one bad item means none": `[+@a;@b]`, `[@a;b;]`, `[+]`
+both-good : judgedOf (ascii "[+@a;@b]") 0 7 ≡ AllGood 2
+unfolding judgedOf judgedIn firstBad allGood parsed piecesOf pieces piecesIn partsAt itemsStart integralAt
+    itemOf itemIn itemAt locatorStart prefixEnd suppresses winner wins keyServes atSign
+    isFirst isMark isKey keyRun runEnd keyEnd
+    spaceWidth isWhite trimStart trimEnd contentEnd escapedAt slashes first spanOf ascii
+both-good = refl
+
+second-bad : judgedOf (ascii "[@a;b;]") 0 6 ≡ FirstBad 1
+unfolding judgedOf judgedIn firstBad allGood parsed piecesOf pieces piecesIn partsAt itemsStart integralAt
+    itemOf itemIn itemAt locatorStart prefixEnd suppresses winner wins keyServes atSign
+    isFirst isMark isKey keyRun runEnd keyEnd
+    spaceWidth isWhite trimStart trimEnd contentEnd escapedAt slashes first spanOf ascii
+second-bad = refl
+
+only-plus : judgedOf (ascii "[+]") 0 2 ≡ FirstBad 0
+unfolding judgedOf judgedIn firstBad allGood parsed piecesOf pieces piecesIn partsAt itemsStart integralAt
+    itemOf itemIn itemAt locatorStart prefixEnd suppresses winner wins keyServes atSign
+    isFirst isMark isKey keyRun runEnd keyEnd
+    spaceWidth isWhite trimStart trimEnd contentEnd escapedAt slashes first spanOf ascii
+only-plus = refl
