@@ -3,3 +3,4 @@ pub mod Sames
 pub mod Parts
 pub mod Laws
 pub mod Words
+pub mod Values

@@ -30,11 +30,14 @@ fn bare_value(attributes: &[u8], a: usize, e: usize) -> Span
     ensures { λ r. ⌜ bytesOf (now (attributes .entry)) r ≡ bare (part (now (attributes .entry)) a e) ⌝ }
     ensures within { λ r. ⌜ r .at + r .len ≤ length (now (attributes .entry)) ⌝ }
 {
-    let b = bytes::skip_byte(attributes, b'"', a, e);
-    let f = bytes::end_without(attributes, b'"', b, e);
-    let c = bytes::skip_byte(attributes, b'\'', b, f);
-    let g = bytes::end_without(attributes, b'\'', c, f);
-    Span { at: c, len: g - c }
+    let from = bytes::skip_byte(attributes, b'"', a, e);
+    let to = bytes::end_without(attributes, b'"', from, e);
+    let start = bytes::skip_byte(attributes, b'\'', from, to);
+    let end = bytes::end_without(attributes, b'\'', start, to);
+    Span {
+        at: start,
+        len: end - start,
+    }
 }
 
 // Whether the part from `a` to `e` is the name `key`.
@@ -52,21 +55,21 @@ pub fn attr_value(attributes: &[u8], key: &[u8]) -> Value
 {
     let mut at = 0;
     while at < attributes.len() {
-        let a = text::trim_start(attributes, at, attributes.len());
-        if attributes.len() <= a {
+        let start = text::trim_start(attributes, at, attributes.len());
+        if attributes.len() <= start {
             return Value::Missing;
         }
-        let e = word_end(attributes, a);
-        let q = bytes::find_byte(attributes, b'=', a, e);
-        if e <= q {
+        let end = word_end(attributes, start);
+        let equals = bytes::find_byte(attributes, b'=', start, end);
+        if end <= equals {
             return Value::Missing;
         }
-        if is_name(attributes, a, q, key) {
+        if is_name(attributes, start, equals, key) {
             return Value::Given {
-                part: bare_value(attributes, q + 1, e),
+                part: bare_value(attributes, equals + 1, end),
             };
         }
-        at = e;
+        at = end;
     }
     Value::Missing
 }

@@ -5,7 +5,7 @@ ghost use mathlib.Core.Path.{_≡_};
 ghost use Prim.Native.Nat.{_+_, _-_, _≤_, _<_};
 ghost use lib.ListN.{length};
 ghost use Rattle.base.specs.Lists.{part};
-ghost use Rattle.definition.specs.Lines.{breakAt, braceAt, startsLine, colonAfter, afterSpaces, attributesOf, bytesOf};
+ghost use Rattle.definition.specs.Lines.{breakAt, braceOrBreak, startsLine, colonAfter, afterSpaces, attributesOf, bytesOf};
 
 // The first LF from `a` up to `e`, or `e`.
 pub fn break_at(text: &[u8], a: usize, e: usize) -> usize
@@ -15,12 +15,20 @@ pub fn break_at(text: &[u8], a: usize, e: usize) -> usize
     bytes::find_byte(text, b'\n', a, e)
 }
 
-// The first `}` from `a` up to `e`, or `e`.
-fn brace_at(text: &[u8], a: usize, e: usize) -> usize
+// The first `}` or LF from `a` up to `e`, or `e`.
+fn brace_or_break(text: &[u8], a: usize, e: usize) -> usize
     requires { ⌜ e ≤ length (now text) ⌝ }
-    ensures { λ r. ⌜ r ≡ braceAt (now (text .entry)) a e ⌝ }
+    ensures { λ r. ⌜ r ≡ braceOrBreak (now (text .entry)) a e ⌝ }
 {
-    bytes::find_byte(text, b'}', a, e)
+    let mut i = a;
+    while i < e {
+        let b = text[i];
+        if (b == b'}') | (b == b'\n') {
+            return i;
+        }
+        i += 1;
+    }
+    i
 }
 
 // Whether a line starts at the place `at`.
@@ -58,20 +66,22 @@ pub fn attributes(text: &[u8], close: usize, next: usize) -> Span
     ensures { λ r. ⌜ bytesOf (now (text .entry)) r ≡ attributesOf (now (text .entry)) close next ⌝ }
     ensures within { λ r. ⌜ r .at + r .len ≤ length (now (text .entry)) ⌝ }
 {
-    let a = after_spaces(text, close);
-    if text.len() <= a {
+    let start = after_spaces(text, close);
+    if text.len() <= start {
         return Span { at: 0, len: 0 };
     }
-    if text[a] != b'{' {
+    if text[start] != b'{' {
         return Span { at: 0, len: 0 };
     }
-    let e = break_at(text, a, next);
-    let z = brace_at(text, a, e);
-    if e <= z {
+    let brace = brace_or_break(text, start, next);
+    if next <= brace {
+        return Span { at: 0, len: 0 };
+    }
+    if text[brace] != b'}' {
         return Span { at: 0, len: 0 };
     }
     Span {
-        at: a + 1,
-        len: z - (a + 1),
+        at: start + 1,
+        len: brace - (start + 1),
     }
 }

@@ -1,6 +1,6 @@
 -- `definition::line::attributes` meets its contract. Assumes nothing.
 use borrow.Author.Needs.{needs}
-use Rattle.definition.proofs.Laws.{attributes-laws}
+use Rattle.definition.proofs.Laws.{brace-ge, attributes-laws}
 use Rattle.definition.proofs.line.attributes.Statement.{statement}
 use Rattle.definition.proofs.line.attributes.Tie as tie
 
@@ -13,9 +13,10 @@ attributes-spec =
     (λ c. search needs)
     (λ c. search (attributes-laws, needs))
     (λ c κs. search needs)
-    (λ c κs. search (attributes-laws, needs))
+    (λ c. search (attributes-laws, needs))
+    (λ c. search needs)
     (λ c. search (attributes-laws, needs))
     (λ c. search needs)
     (λ c. search needs)
-    (λ c. search (attributes-laws, needs))
+    (λ c. brace-ge _ _ _ _ (c .before .before .before .brace-or-break .ensures) (search) (search))
     (λ c. search (attributes-laws, needs)))
