@@ -2,10 +2,11 @@
 // The borrow checker does not cover a slice of structs, so each function here is a line of calls, proved by a walk of its MIR.
 ghost use Prim.Native.Nat.{_-_, _<_};
 ghost use lib.ListN.{length, set, getD};
+ghost use mathlib.Core.Bool.{true};
 ghost use mathlib.Core.Path.{_≡_};
 ghost use Rattle.index.specs.Built.{blank};
 ghost use Rattle.index.specs.Scan.{planAt, stepIndex, stepRecords};
-ghost use Rattle.build.specs.Turn.{Ready, Enough, built};
+ghost use Rattle.build.specs.Turn.{Ready, Enough, built, built-when};
 use index::Bracket;
 use index::Scan;
 
@@ -64,5 +65,15 @@ pub fn bracket_pairs(text: &[u8], index: &mut [u16], records: &mut [Bracket])
     let mut c = index::begin(text);
     while index::is_more(text, c) {
         c = step(text, c, index, records);
+    }
+}
+
+// The same where it is wanted; else nothing.
+pub fn build_when(want: bool, text: &[u8], index: &mut [u16], records: &mut [Bracket])
+    requires { ⌜ (want ≡ true → Enough (now text) (now index) (now records)) ⌝ }
+    ensures { λ _. ⌜ (now (index .exit), now (records .exit)) ≡ built-when want (now (text .entry)) (now (index .entry)) (now (records .entry)) ⌝ }
+{
+    if want {
+        bracket_pairs(text, index, records);
     }
 }
