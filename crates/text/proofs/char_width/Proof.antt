@@ -1,4 +1,4 @@
--- `text::char_width` meets its contract, test by test. Assumes nothing.
+-- `text::char_width` meets its contract: the first byte tells which test decides. Assumes nothing.
 use borrow.Author.Needs.{needs}
 use Rattle.text.proofs.Characters.{char-laws}
 use Rattle.text.proofs.char_width.Statement.{statement}
@@ -13,13 +13,15 @@ char-width-spec =
     (λ c. search needs)
     (λ c κs. search needs)
     (λ c κs. search needs)
-    (λ c. search char-laws)
-    (λ c. search needs)
-    (λ c κs. search needs)
     (λ c κs. search needs)
     (λ c. search char-laws)
     (λ c. search needs)
     (λ c κs. search needs)
     (λ c κs. search needs)
+    (λ c κs. search needs)
     (λ c. search char-laws)
+    (λ c. search needs)
+    (λ c κs. search needs)
+    (λ c κs. search needs)
+    (λ c κs. search needs)
     (λ c. search char-laws))

@@ -5,7 +5,7 @@ use lib.ListN.{length}
 use native.Mathlib.Omega.{arith}
 use borrow.Author.Needs.{needs}
 use Rattle.text.specs.Utf8.{utf8}
-use Rattle.text.proofs.Characters.{Rest, rest-laws, char-le}
+use Rattle.text.proofs.Characters.{Rest, rest-laws, char-le, step-within}
 use Rattle.text.proofs.is_utf8.Statement.{statement}
 use Rattle.text.proofs.is_utf8.Tie as tie
 
@@ -23,8 +23,9 @@ is-utf8-spec =
     μ-loop
     (λ c. search rest-laws)
     (λ c. search needs)
-    (λ c. search needs)
-    (λ c. search needs)
+    (λ c κs. search needs)
+    (λ c. omega (arith, step-within _ _ (c .ascii-step .ensures)))
+    (λ c. omega (arith, step-within _ _ (c .ascii-step .ensures)))
     (λ c. search rest-laws)
     (λ c κs. search needs)
     (λ c. search rest-laws)
