@@ -4,7 +4,6 @@ use native.Mathlib.Omega.{arith}
 use mathlib.Core.Path.{_≡_, refl, sym, _∙_, ap}
 use mathlib.Core.List.{List, [], _∷_}
 use mathlib.Core.Bool.{Bool, true, false, not}
-use mathlib.Core.Option.{Option, none, some}
 use lib.ListN.{length, take, drop}
 use lib.Dec.{eqb, ltb}
 use borrow.Author.Tests.{lt-ltb, le-ltb}
@@ -14,24 +13,14 @@ use Rattle.base.specs.Spans.{span}
 use Rattle.base.specs.declared.Span.{Span}
 use Rattle.base.proofs.Searches.{first-from, first-by}
 use Rattle.text.specs.White.{isWhite, trimStart}
-use Rattle.text.proofs.Trims.{start-from, start-by, start-plain}
+use Rattle.text.proofs.Trims.{start-from, start-plain}
 use Rattle.definition.specs.Bytes.{firstOf, firstOther}
-use Rattle.definition.specs.declared.Value.{Value}
 use Rattle.definition.specs.declared.Value.the-variants.{Given, Missing}
 use Rattle.definition.specs.Attributes.{wordEnd, wordsIn, wordsOf, equalsAt, endWithout, stripped, bare, valueIn, attrValue}
 use Rattle.definition.specs.Lines.{bytesOf}
 use Rattle.definition.specs.Parts.{valueBytes}
 use Rattle.definition.proofs.Firsts.{first-out, first-stop, first-more}
-use Rattle.definition.proofs.Parts.{
-  part-is,
-  part-length,
-  take-part,
-  drop-part,
-  without-from,
-  without-by,
-  equals-shift,
-  stripped-shift,
-}
+use Rattle.definition.proofs.Parts.{part-is, part-length, take-part, drop-part, without-from, without-by, equals-shift, stripped-shift}
 
 -- where a word ends --------------------------------------------------------------------------------------------------------------
 
