@@ -3,3 +3,4 @@ pub mod Lent
 pub mod Local
 pub mod Calling
 pub mod Turns
+pub mod Calls
