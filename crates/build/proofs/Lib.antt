@@ -1,4 +1,3 @@
-pub mod Again
 pub mod Lent
 pub mod Local
 pub mod Calling
