@@ -148,6 +148,10 @@ module _ (n : NameParts) where
   unfolding nameLen nameLenBy
   names-fit h e = rw e at h
 
+by-literal : (l : List ℕ) (f g : Option (List ℕ)) → nameBy (some l) f g ≡ l
+unfolding nameBy
+by-literal l f g = refl
+
 by-family : (f g : Option (List ℕ)) → nameBy none f g ≡ familyPart f g
 unfolding nameBy familyPart givenPart
 by-family none g = refl
@@ -166,3 +170,21 @@ module _ (s : List ℕ) (n : NameParts) where
   names-written area e o = rw (e, by-family) o
 
 pub ruleset name-laws = (found-inside, name-literal, name-family, literal-fits, names-fit, literal-written, names-written)
+
+-- its length
+family-length : (s : List ℕ) (f g : Found) → Inside s f → Inside s g → familyLen f g ≡ length (familyPart (bytesAt s f) (bytesAt s g))
+unfolding familyLen familyPart
+family-length s (At p) g b c =
+    let l = part-length s (p .at) (p .at + p .len) (omega arith) b in
+    let m = given-length s g c in
+    rw length-append (omega arith)
+family-length s Missing g b c = refl
+
+by-length : (s : List ℕ) (l f g : Found) → Inside s l → Inside s f → Inside s g → nameLenBy l f g ≡ length (nameBy (bytesAt s l) (bytesAt s f) (bytesAt s g))
+unfolding nameLenBy
+by-length s (At p) f g a b c = let l = part-length s (p .at) (p .at + p .len) (omega arith) a in rw by-literal (omega arith)
+by-length s Missing f g a b c = rw by-family (family-length s f g b c)
+
+pub name-length : (s : List ℕ) (n : NameParts) → Inside s (n .literal) → Inside s (n .family) → Inside s (n .given) → nameLen n ≡ length (nameOf (nameAtParts s n))
+unfolding nameLen nameOf
+name-length s n a b c = by-length s (n .literal) (n .family) (n .given) a b c

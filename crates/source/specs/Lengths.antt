@@ -8,6 +8,8 @@ use Rattle.base.specs.Pick.{pick}
 use Rattle.pool.specs.declared.Found.{Found}
 use Rattle.pool.specs.declared.Found.the-variants.{At, Missing}
 use Rattle.pool.specs.declared.NameParts.{NameParts}
+use Rattle.pool.specs.Entries.{Name}
+use Rattle.source.specs.Text.{nameOf}
 
 -- the length of `beside`, with a separator of `sep` bytes
 unfoldable pub besideLen : ℕ → ℕ → ℕ → ℕ
@@ -47,3 +49,7 @@ nameLenBy Missing family given = familyLen family given
 
 unfoldable pub nameLen : NameParts → ℕ
 nameLen n = nameLenBy (n .literal) (n .family) (n .given)
+
+-- the length of the names so far, and one more
+unfoldable pub addLen : ℕ → Name → ℕ
+addLen n name = besideLen n 2 (length (nameOf name))
