@@ -196,4 +196,16 @@ close-64 s p k h = close-found s p k 64 h
 pub none-64 : ShortNone
 none-64 s p h l = sym (close-all s p 64 l) ∙ h
 
-pub ruleset close-laws = (close-far, close-found, close-after, close-inside, close-byte, within-after, within-inside, within-byte, close-all, close-64, none-64)
+pub ruleset close-laws = (
+  close-far,
+  close-found,
+  close-after,
+  close-inside,
+  close-byte,
+  within-after,
+  within-inside,
+  within-byte,
+  close-all,
+  close-64,
+  none-64,
+)

@@ -18,7 +18,33 @@ use Rattle.index.specs.declared.Reads.{Reads}
 use Rattle.index.specs.declared.Scan.{Scan}
 use Rattle.index.specs.declared.Plan.{Plan}
 use Rattle.index.specs.Built.{blank}
-use Rattle.index.specs.Scan.{reach, parted, around, counted, allGoodIn, stepIndex, keyHere, latest, readOn, opens, closes, parts, nextInner, nextScan, scanPlan, clearPlan, planOf, more, Fine, nextWith, planWith, openPlan, closePlan, partPlan, passPlan}
+use Rattle.index.specs.Scan.{
+  reach,
+  parted,
+  around,
+  counted,
+  allGoodIn,
+  stepIndex,
+  keyHere,
+  latest,
+  readOn,
+  opens,
+  closes,
+  parts,
+  nextInner,
+  nextScan,
+  scanPlan,
+  clearPlan,
+  planOf,
+  more,
+  Fine,
+  nextWith,
+  planWith,
+  openPlan,
+  closePlan,
+  partPlan,
+  passPlan,
+}
 use Rattle.index.proofs.Tokens.{and-left, and-right}
 
 -- the bracket records
@@ -91,18 +117,21 @@ module _ (s : List ℕ) (i : ℕ) (r : Reads) where
   unfolding readOn latest keyHere
   read-no-key h f p l = rw (white-ascii s i (omega arith), h, f, ← p, le-ltb _ _ l)
 
-  pub read-key : {e k : ℕ} → byteAt s i ≡ 64 → r .esc ≡ false → e ≡ keyEnd s (i + 1) → i + 1 < e → k ≡ pick (eqb (byteAt s e) 44) (i + 1) (r .comma)
+  pub read-key : {e k : ℕ} → byteAt s i ≡ 64 → r .esc ≡ false → e ≡ keyEnd s (i + 1) → i + 1 < e
+      → k ≡ pick (eqb (byteAt s e) 44) (i + 1) (r .comma)
       → record { esc = false; comma = k; key = i + 1; end = e; content = i + 1 } ≡ readOn s i r
   unfolding readOn latest keyHere
   read-key h f p l q = rw (white-ascii s i (omega arith), h, f, ← p, lt-ltb _ _ l, q)
 
-  pub read-plain : {k : ℕ} → (byteAt s i ≡ 59 → ⊥) → eqb (byteAt s i) 64 && not (r .esc) ≡ false → k ≡ pick (isWhite s i) (r .content) (i + 1)
+  pub read-plain : {k : ℕ} → (byteAt s i ≡ 59 → ⊥) → eqb (byteAt s i) 64 && not (r .esc) ≡ false
+      → k ≡ pick (isWhite s i) (r .content) (i + 1)
       → record { esc = eqb (byteAt s i) 92 && not (r .esc); comma = r .comma; key = r .key; end = r .end; content = k } ≡ readOn s i r
   unfolding readOn latest keyHere
   read-plain h f q = rw (ne-eqb _ _ h, f, q)
 
 -- the plans of the four kinds of turn, from what the calls gave
-pub plan-next : (c next : Scan) (place mark : ℕ) {n : Scan} {p : Plan} → n ≡ next → p ≡ planWith c n place mark → p ≡ planWith c next place mark
+pub plan-next : (c next : Scan) (place mark : ℕ) {n : Scan} {p : Plan} → n ≡ next → p ≡ planWith c n place mark
+    → p ≡ planWith c next place mark
 plan-next c next place mark q e = e ∙ rw q
 
 module _ (c : Scan) (w : Reads) where
@@ -129,11 +158,13 @@ module _ (s : List ℕ) (c : Scan) (outer : Bracket) {w : Reads} (e : w ≡ read
   unfolding scanPlan nextScan nextInner opens closes parts
   plan-at-open f h q = q ∙ rw (e, h, f)
 
-  pub plan-at-close : {p : Plan} → c .reads .esc ≡ false → byteAt s (c .at) ≡ 93 → 0 < c .depth → p ≡ closePlan c outer w → p ≡ scanPlan s c outer
+  pub plan-at-close : {p : Plan} → c .reads .esc ≡ false → byteAt s (c .at) ≡ 93 → 0 < c .depth → p ≡ closePlan c outer w
+      → p ≡ scanPlan s c outer
   unfolding scanPlan nextScan nextInner opens closes parts
   plan-at-close f h d q = q ∙ rw (e, h, f, lt-ltb _ _ d)
 
-  pub plan-at-lone : {p : Plan} → c .reads .esc ≡ false → byteAt s (c .at) ≡ 93 → c .depth ≤ 0 → p ≡ passPlan c w → p ≡ scanPlan s c outer
+  pub plan-at-lone : {p : Plan} → c .reads .esc ≡ false → byteAt s (c .at) ≡ 93 → c .depth ≤ 0 → p ≡ passPlan c w
+      → p ≡ scanPlan s c outer
   unfolding scanPlan nextScan nextInner opens closes parts
   plan-at-lone f h d q = q ∙ rw (e, h, f, le-ltb _ _ d)
 
@@ -144,7 +175,15 @@ module _ (s : List ℕ) (c : Scan) (outer : Bracket) {w : Reads} (e : w ≡ read
 
 module _ (s : List ℕ) (c : Scan) (top : Bracket) where
   pub plan-clears : {n : Scan} → n ≡ nextWith c (c .depth) (c .inner) (c .bad) (c .reads)
-      → record { next = n; slot = c .at - length s; top = blank; writes = eqb (byteAt s (c .at - length s)) 93; place = c .at - length s; mark = 0 } ≡ clearPlan s c
+      → record {
+        next = n;
+        slot = c .at - length s;
+        top = blank;
+        writes = eqb (byteAt s (c .at - length s)) 93;
+        place = c .at - length s;
+        mark = 0;
+      }
+      ≡ clearPlan s c
   unfolding clearPlan
   plan-clears e = rw e
 
@@ -170,4 +209,39 @@ module _ (p : Plan) (index : List ℕ) where
   unfolding stepIndex
   entry-kept e = rw e
 
-pub ruleset laws = (pick-yes, pick-no, pick-eq, pick-ne, sign-here, sign-live, end-fits, read-parts, read-no-key, read-key, read-plain, parted-new, parted-old, around-new, around-old, counted-one, counted-none, reach-key, reach-comma, entry-set, entry-kept, plan-next, plan-closed, plan-parted, plan-at-part, plan-at-escaped, plan-at-open, plan-at-close, plan-at-lone, plan-at-other, plan-clears, plan-in, plan-past, turn-left)
+pub ruleset laws = (
+  pick-yes,
+  pick-no,
+  pick-eq,
+  pick-ne,
+  parted-new,
+  parted-old,
+  around-new,
+  around-old,
+  counted-one,
+  counted-none,
+  reach-key,
+  reach-comma,
+  sign-here,
+  sign-live,
+  end-fits,
+  read-parts,
+  read-no-key,
+  read-key,
+  read-plain,
+  plan-next,
+  plan-closed,
+  plan-parted,
+  plan-at-part,
+  plan-at-escaped,
+  plan-at-open,
+  plan-at-close,
+  plan-at-lone,
+  plan-at-other,
+  plan-clears,
+  plan-in,
+  plan-past,
+  turn-left,
+  entry-set,
+  entry-kept,
+)

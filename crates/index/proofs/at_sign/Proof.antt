@@ -4,4 +4,15 @@ use Rattle.index.proofs.at_sign.Statement.{statement}
 use Rattle.index.proofs.at_sign.Tie as tie
 
 pub at-sign-spec : {M : Type 1} → statement M
-at-sign-spec = tie.close (tie.spec (λ c. search needs) (λ c. search needs) (λ c. search needs) (λ c κs. search needs) (λ c. search needs) (λ c. search laws) (λ c κs. search needs) (λ c. search (laws, needs)) (λ c. search laws))
+at-sign-spec =
+    tie.close
+    (tie.spec
+    (λ c. search needs)
+    (λ c. search needs)
+    (λ c. search needs)
+    (λ c κs. search needs)
+    (λ c. search needs)
+    (λ c. search laws)
+    (λ c κs. search needs)
+    (λ c. search (laws, needs))
+    (λ c. search laws))

@@ -4,4 +4,14 @@ use Rattle.index.proofs.close_plan.Statement.{statement}
 use Rattle.index.proofs.close_plan.Tie as tie
 
 pub close-plan-spec : {M : Type 1} → statement M
-close-plan-spec = tie.close (tie.spec (λ c κs. search needs) (λ c κs. search needs) (λ c. search needs) (λ c κs. search needs) (λ c κs. search needs) (λ c. search needs) (λ c κs. search needs) (λ c. search laws))
+close-plan-spec =
+    tie.close
+    (tie.spec
+    (λ c κs. search needs)
+    (λ c κs. search needs)
+    (λ c. search needs)
+    (λ c κs. search needs)
+    (λ c κs. search needs)
+    (λ c. search needs)
+    (λ c κs. search needs)
+    (λ c. search laws))

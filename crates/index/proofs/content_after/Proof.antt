@@ -4,4 +4,11 @@ use Rattle.index.proofs.content_after.Statement.{statement}
 use Rattle.index.proofs.content_after.Tie as tie
 
 pub content-after-spec : {M : Type 1} → statement M
-content-after-spec = tie.close (tie.spec (λ c κs. search needs) (λ c. search needs) (λ c. search needs) (λ c. search laws) (λ c. search laws))
+content-after-spec =
+    tie.close
+    (tie.spec
+    (λ c κs. search needs)
+    (λ c. search needs)
+    (λ c. search needs)
+    (λ c. search laws)
+    (λ c. search laws))

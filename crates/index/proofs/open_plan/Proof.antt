@@ -4,4 +4,11 @@ use Rattle.index.proofs.open_plan.Statement.{statement}
 use Rattle.index.proofs.open_plan.Tie as tie
 
 pub open-plan-spec : {M : Type 1} → statement M
-open-plan-spec = tie.close (tie.spec (λ c. search needs) (λ c. search needs) (λ c κs. search needs) (λ c κs. search needs) (λ c. search laws))
+open-plan-spec =
+    tie.close
+    (tie.spec
+    (λ c. search needs)
+    (λ c. search needs)
+    (λ c κs. search needs)
+    (λ c κs. search needs)
+    (λ c. search laws))

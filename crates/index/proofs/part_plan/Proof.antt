@@ -4,4 +4,12 @@ use Rattle.index.proofs.part_plan.Statement.{statement}
 use Rattle.index.proofs.part_plan.Tie as tie
 
 pub part-plan-spec : {M : Type 1} → statement M
-part-plan-spec = tie.close (tie.spec (λ c κs. search needs) (λ c κs. search needs) (λ c κs. search needs) (λ c κs. search needs) (λ c κs. search needs) (λ c. search laws))
+part-plan-spec =
+    tie.close
+    (tie.spec
+    (λ c κs. search needs)
+    (λ c κs. search needs)
+    (λ c κs. search needs)
+    (λ c κs. search needs)
+    (λ c κs. search needs)
+    (λ c. search laws))

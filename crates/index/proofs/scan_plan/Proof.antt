@@ -4,4 +4,20 @@ use Rattle.index.proofs.scan_plan.Statement.{statement}
 use Rattle.index.proofs.scan_plan.Tie as tie
 
 pub scan-plan-spec : {M : Type 1} → statement M
-scan-plan-spec = tie.close (tie.spec (λ c. search needs) (λ c κs. search needs) (λ c κs. search needs) (λ c. search laws) (λ c κs. search needs) (λ c. search laws) (λ c κs. search needs) (λ c. search laws) (λ c κs. search needs) (λ c. search laws) (λ c κs. search needs) (λ c. search laws) (λ c κs. search needs) (λ c. search laws))
+scan-plan-spec =
+    tie.close
+    (tie.spec
+    (λ c. search needs)
+    (λ c κs. search needs)
+    (λ c κs. search needs)
+    (λ c. search laws)
+    (λ c κs. search needs)
+    (λ c. search laws)
+    (λ c κs. search needs)
+    (λ c. search laws)
+    (λ c κs. search needs)
+    (λ c. search laws)
+    (λ c κs. search needs)
+    (λ c. search laws)
+    (λ c κs. search needs)
+    (λ c. search laws))
