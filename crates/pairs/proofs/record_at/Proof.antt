@@ -1,4 +1,4 @@
--- `build::record_at` meets its contract: a walk of its MIR, by hand. The borrow is opened, record i is taken out of the row, read and put back, and the borrow is closed at the same list.
+-- `pairs::record_at` meets its contract: a walk of its MIR, by hand. The borrow is opened, record i is taken out of the row, read and put back, and the borrow is closed at the same list.
 -- Assumes nothing.
 use mathlib.Core.Path.{refl, sym}
 use Prim.Native.Nat.{ℕ, _<_, _*_, _^_}
@@ -41,10 +41,10 @@ use Rattle.index.specs.declared.Bracket.{Bracket}
 use Rattle.index.specs.Built.{blank}
 use Rattle.index.proofs.Bracket as T
 use Rattle.index.proofs.Bracket.Laws as T′
-use Rattle.build.proofs.record_at.Key.{name as #build·record-at}
-use Rattle.build.proofs.record_at as f
-use Rattle.build.proofs.record_at.Statement as stated
-use Rattle.build.proofs.record_at.Code as code
+use Rattle.pairs.proofs.record_at.Key.{name as #pairs·record-at}
+use Rattle.pairs.proofs.record_at as f
+use Rattle.pairs.proofs.record_at.Statement as stated
+use Rattle.pairs.proofs.record_at.Code as code
 
 abbrev stayed : Stays (f.ended .signature .params) (f.ended .kept)
 stayed = (stay-slice (0 ∷ []) tt (plain (λ _. T.the-row)), (stay-none (λ _. usize) yes, tt))
@@ -121,5 +121,5 @@ pub record-at-spec : {M : Type 1} → stated.statement M
 unfolding code.routine tablesOf
 record-at-spec 𝓤 H 𝓜 𝓖 𝓡 =
     entered 𝓤 H (tripleOf 𝓤 H (𝓖 .A) f.signature (f.spec 𝓤 H (𝓖 .A) (𝓜 .mem) (𝓡 .run)))
-    (tables 𝓤 H 𝓜 𝓡 code.env .C) (tables 𝓤 H 𝓜 𝓡 code.env .Λ) #build·record-at code.function (code.unfolded 𝓤 H 𝓜 𝓡)
+    (tables 𝓤 H 𝓜 𝓡 code.env .C) (tables 𝓤 H 𝓜 𝓡 code.env .Λ) #pairs·record-at code.function (code.unfolded 𝓤 H 𝓜 𝓡)
     (record-at-meets 𝓤 H (𝓖 .A) (givenOf 𝓤 H 𝓜 𝓖) (𝓜 .mem) (𝓡 .run) (tablesOf 𝓤 H 𝓜 (tables 𝓤 H 𝓜 𝓡 code.env)))

@@ -1,4 +1,4 @@
--- `build::build_when` meets its contract: a walk of its MIR, by hand, with a branch. Where the test holds, `bracket_pairs` is lent the index and the records, and both come back; both arms go on to one lemma for what follows (`leaves`).
+-- `pairs::build_when` meets its contract: a walk of its MIR, by hand, with a branch. Where the test holds, `bracket_pairs` is lent the index and the records, and both come back; both arms go on to one lemma for what follows (`leaves`).
 -- Assumes nothing.
 use mathlib.Core.Path.{_≡_, refl, sym, ap}
 use Prim.Native.Nat.{ℕ}
@@ -39,18 +39,18 @@ use denote.Triple.Walked.{says, needs, Stays, stay-none, stay-slice, stay-none-s
 use denote.Exit.{yes}
 use Rattle.index.specs.declared.Bracket.{Bracket}
 use Rattle.index.specs.Scan.{Both}
-use Rattle.build.specs.Turn.{Enough, built, built-when}
+use Rattle.pairs.specs.Turn.{Enough, built, built-when}
 use Rattle.index.proofs.Bracket as T
-use Rattle.build.proofs.Lent.{at-list, lent, back}
-use Rattle.build.proofs.Calling.{calls-row-last, copied, last-list, no-last}
-use Rattle.build.proofs.bracket_pairs as pairs
-use Rattle.build.proofs.bracket_pairs.Symbol as pairs-def
-use Rattle.build.proofs.bracket_pairs.Symbol.{name as #build·bracket-pairs}
-use Rattle.build.proofs.bracket_pairs.Met as pairs-thm
-use Rattle.build.proofs.build_when.Key.{name as #build·build-when}
-use Rattle.build.proofs.build_when as f
-use Rattle.build.proofs.build_when.Statement as stated
-use Rattle.build.proofs.build_when.Code as code
+use Rattle.pairs.proofs.Lent.{at-list, lent, back}
+use Rattle.pairs.proofs.Calling.{calls-row-last, copied, last-list, no-last}
+use Rattle.pairs.proofs.bracket_pairs as pairs
+use Rattle.pairs.proofs.bracket_pairs.Symbol as pairs-def
+use Rattle.pairs.proofs.bracket_pairs.Symbol.{name as #pairs·bracket-pairs}
+use Rattle.pairs.proofs.bracket_pairs.Met as pairs-thm
+use Rattle.pairs.proofs.build_when.Key.{name as #pairs·build-when}
+use Rattle.pairs.proofs.build_when as f
+use Rattle.pairs.proofs.build_when.Statement as stated
+use Rattle.pairs.proofs.build_when.Code as code
 
 abbrev stayed : Stays (f.ended .signature .params) (f.ended .kept)
 stayed = (stay-none (λ _. Boolean) yes, (stay-none-slice (0 ∷ []) tt (plain (λ _. u8)) yes, (stay-slice (1 ∷ []) tt (plain (λ _. u16)), (stay-slice (2 ∷ []) tt (plain (λ _. T.the-row)), tt))))
@@ -119,7 +119,7 @@ module _ {M : Type 1} (𝓤 : URA M) (H : Heap 𝓤) (A : Atoms 𝓤) (W : Given
       nothing ! $ move ! (1 ∷ 0 ∷ []) $ fjoin ! $ move ! (1 ∷ 0 ∷ []) $ fjoin ! $ move ! (1 ∷ 0 ∷ []) $ fjoin ! $ owned ! Boolean (Is Boolean) (bool-makes 𝓤 H A W) c (vbool c ∷ []) refl $ fjoin ! $ frame ! $
       feqI ! (List Val) (vunit ∷ []) (vunit ∷ []) refl $ done !
 
-  module _ (C : Calls 𝓤 H) (Λ : Loops 𝓤 H) (fm : FmC 𝓤 H (W .laws) C) (known : Triple 𝓤 (C #build·bracket-pairs) (tripleOf 𝓤 H A pairs.signature (pairs.spec 𝓤 H A mem run))) (room₀ : Room u8 (length ts)) (room₁ : Room u16 (length is₀)) (room₂ : Room T.the-row (length ys₀)) where
+  module _ (C : Calls 𝓤 H) (Λ : Loops 𝓤 H) (fm : FmC 𝓤 H (W .laws) C) (known : Triple 𝓤 (C #pairs·bracket-pairs) (tripleOf 𝓤 H A pairs.signature (pairs.spec 𝓤 H A mem run))) (room₀ : Room u8 (length ts)) (room₁ : Room u16 (length is₀)) (room₂ : Room T.the-row (length ys₀)) where
     module _ (l₀ l₁ l₂ l₃ l₄ l₅ l₆ l₇ l₈ l₉ l₁₀ : ℕ) where
       abbrev En : Env 𝓤 H
       En = (tyUnit, l₀) ∷ (tyBool, l₁) ∷ (textTy, l₂) ∷ (indexTy, l₃) ∷ (recordsTy, l₄) ∷ (tyBool, l₅) ∷ (tyUnit, l₆) ∷ (ref₁, l₇) ∷ (sliceTy ref₁, l₈) ∷ (ref₂, l₉) ∷ (sliceTy ref₂, l₁₀) ∷ []
@@ -170,14 +170,14 @@ module _ {M : Type 1} (𝓤 : URA M) (H : Heap 𝓤) (A : Atoms 𝓤) (W : Given
         move ! (22 ∷ 23 ∷ 24 ∷ 25 ∷ 26 ∷ 27 ∷ []) $ keep ! (0 ∷ 1 ∷ 2 ∷ 3 ∷ 4 ∷ 5 ∷ 6 ∷ 7 ∷ 8 ∷ 9 ∷ 10 ∷ 11 ∷ 12 ∷ 13 ∷ 14 ∷ 15 ∷ 16 ∷ 17 ∷ 18 ∷ 19 ∷ 20 ∷ 21 ∷ 22 ∷ 23 ∷ 24 ∷ 25 ∷ 26 ∷ 27 ∷ []) $ body l₀ l₁ l₂ l₃ l₄ l₅ l₆ l₇ l₈ l₉ l₁₀ enough)))))))))))
 
 module _ {M : Type 1} (𝓤 : URA M) (H : Heap 𝓤) (A : Atoms 𝓤) (W : Given 𝓤 H A) (mem : Memory → SProp 𝓤) (run : Routine → Fun 𝓤) where
-  build-when-walks : (C : Calls 𝓤 H) (Λ : Loops 𝓤 H) → FmC 𝓤 H (W .laws) C → Triple 𝓤 (C #build·bracket-pairs) (tripleOf 𝓤 H A pairs.signature (pairs.spec 𝓤 H A mem run)) → Walks 𝓤 H A f.ended stayed (WpFn 𝓤 H C Λ code.function) (f.clauses 𝓤 H A mem run)
+  build-when-walks : (C : Calls 𝓤 H) (Λ : Loops 𝓤 H) → FmC 𝓤 H (W .laws) C → Triple 𝓤 (C #pairs·bracket-pairs) (tripleOf 𝓤 H A pairs.signature (pairs.spec 𝓤 H A mem run)) → Walks 𝓤 H A f.ended stayed (WpFn 𝓤 H C Λ code.function) (f.clauses 𝓤 H A mem run)
   build-when-walks C Λ fm known = walked 𝓤 H A f.ended stayed (f.clauses 𝓤 H A mem run) (WpFn 𝓤 H C Λ code.function)
       (λ κs. (bool-vals, (slice-vals, (slice-vals, (slice-vals, tt))))) (λ κs. (bool-tells, (shr-slice-tells (named 0) (κs .0) u8, (mut-slice-tells (named 1) (κs .1 .0) u16, (mut-slice-tells (named 2) (κs .1 .1 .0) T.the-row, tt)))))
       (λ κs qs bounds a g are. needs 𝓤 (a .0 ≡ true → Enough (a .1 .0 .now) (a .1 .1 .0 .now) (a .1 .1 .1 .0 .now)) _
       (walk 𝓤 H A W mem run (κs .0) (κs .1 .0) (κs .1 .1 .0) (qs .0) (qs .1 .0) (qs .1 .1 .0) (a .1 .0 .ptr .0) (a .1 .0 .ptr .1) (a .1 .1 .0 .ptr .0) (a .1 .1 .0 .ptr .1) (a .1 .1 .1 .0 .ptr .0) (a .1 .1 .1 .0 .ptr .1)
       (a .1 .0 .name) (a .1 .1 .0 .name) (a .1 .1 .1 .0 .name) (a .0) (a .1 .0 .now) (a .1 .1 .0 .now) (a .1 .1 .1 .0 .now) C Λ fm known (are .1 .0 .0 .1) (are .1 .1 .0 .0 .1) (are .1 .1 .1 .0 .0 .1)))
 
-build-when-meets : {M : Type 1} (𝓤 : URA M) (H : Heap 𝓤) (A : Atoms 𝓤) → Given 𝓤 H A → (mem : Memory → SProp 𝓤) (run : Routine → Fun 𝓤) (𝓣 : Tables 𝓤 H) → Triple 𝓤 (𝓣 .C #build·bracket-pairs) (tripleOf 𝓤 H A pairs.signature (pairs.spec 𝓤 H A mem run))
+build-when-meets : {M : Type 1} (𝓤 : URA M) (H : Heap 𝓤) (A : Atoms 𝓤) → Given 𝓤 H A → (mem : Memory → SProp 𝓤) (run : Routine → Fun 𝓤) (𝓣 : Tables 𝓤 H) → Triple 𝓤 (𝓣 .C #pairs·bracket-pairs) (tripleOf 𝓤 H A pairs.signature (pairs.spec 𝓤 H A mem run))
     → Meets 𝓤 H A f.signature (WpFn 𝓤 H (𝓣 .C) (𝓣 .Λ) code.function) (f.spec 𝓤 H A mem run)
 build-when-meets 𝓤 H A W mem run 𝓣 known =
     walk-meets 𝓤 H A f.ended stayed W (goes-none 𝓤 H A W 3 (λ _. Boolean) yes (λ κs x f. refl), (goes-none-slice 𝓤 H A W 3 (0 ∷ []) tt (plain (λ _. u8)) yes, (goes-slice 𝓤 H A W 3 1 tt (plain (λ _. u16)), (goes-slice 𝓤 H A W 3 2 tt (plain (λ _. T.the-row)), tt))))
@@ -187,6 +187,6 @@ pub build-when-spec : {M : Type 1} → stated.statement M
 unfolding code.routine tablesOf
 build-when-spec 𝓤 H 𝓜 𝓖 𝓡 =
     entered 𝓤 H (tripleOf 𝓤 H (𝓖 .A) f.signature (f.spec 𝓤 H (𝓖 .A) (𝓜 .mem) (𝓡 .run)))
-    (tables 𝓤 H 𝓜 𝓡 code.env .C) (tables 𝓤 H 𝓜 𝓡 code.env .Λ) #build·build-when code.function (code.unfolded 𝓤 H 𝓜 𝓡)
+    (tables 𝓤 H 𝓜 𝓡 code.env .C) (tables 𝓤 H 𝓜 𝓡 code.env .Λ) #pairs·build-when code.function (code.unfolded 𝓤 H 𝓜 𝓡)
     (build-when-meets 𝓤 H (𝓖 .A) (givenOf 𝓤 H 𝓜 𝓖) (𝓜 .mem) (𝓡 .run) (tablesOf 𝓤 H 𝓜 (tables 𝓤 H 𝓜 𝓡 code.env))
-    (cited 𝓤 H (tripleOf 𝓤 H (𝓖 .A) pairs.signature (pairs.spec 𝓤 H (𝓖 .A) (𝓜 .mem) (𝓡 .run))) 𝓜 𝓡 code.env #build·bracket-pairs pairs-def.routine code.calls-build·bracket-pairs (pairs-thm.met 𝓤 H 𝓜 𝓖 𝓡)))
+    (cited 𝓤 H (tripleOf 𝓤 H (𝓖 .A) pairs.signature (pairs.spec 𝓤 H (𝓖 .A) (𝓜 .mem) (𝓡 .run))) 𝓜 𝓡 code.env #pairs·bracket-pairs pairs-def.routine code.calls-pairs·bracket-pairs (pairs-thm.met 𝓤 H 𝓜 𝓖 𝓡)))

@@ -1,4 +1,4 @@
--- `build::bracket_pairs` meets its contract: a walk of its MIR, by hand, with the loop. The invariant at a state is what `Turns.antt` knows of it beside the areas at its lists; a turn lends both areas on to `step`, and both come back.
+-- `pairs::bracket_pairs` meets its contract: a walk of its MIR, by hand, with the loop. The invariant at a state is what `Turns.antt` knows of it beside the areas at its lists; a turn lends both areas on to `step`, and both come back.
 -- Assumes nothing.
 use mathlib.Core.Path.{_≡_, refl, sym, subst}
 use Prim.Native.Nat.{ℕ}
@@ -43,10 +43,10 @@ use Rattle.index.specs.Scan.{Both, start, more}
 use Rattle.index.proofs.Bracket as T
 use Rattle.index.proofs.Scan as S
 use Rattle.index.proofs.Scan.Laws as S′
-use Rattle.build.specs.Turn.{Ready, Enough, built}
-use Rattle.build.proofs.Lent.{at-list, lent, back}
-use Rattle.build.proofs.Calling.{calls-row, calls-row-last, copied, last-list, no-last}
-use Rattle.build.proofs.Turns.{State, next, below, below-wf, Facts, at-start, ready, less, after, at-end}
+use Rattle.pairs.specs.Turn.{Ready, Enough, built}
+use Rattle.pairs.proofs.Lent.{at-list, lent, back}
+use Rattle.pairs.proofs.Calling.{calls-row, calls-row-last, copied, last-list, no-last}
+use Rattle.pairs.proofs.Turns.{State, next, below, below-wf, Facts, at-start, ready, less, after, at-end}
 use Rattle.index.proofs.begin as begin
 use Rattle.index.proofs.begin.Symbol as begin-def
 use Rattle.index.proofs.begin.Symbol.{name as #index·begin}
@@ -55,14 +55,14 @@ use Rattle.index.proofs.is_more as is-more
 use Rattle.index.proofs.is_more.Symbol as is-more-def
 use Rattle.index.proofs.is_more.Symbol.{name as #index·is-more}
 use Rattle.index.proofs.is_more.Met as is-more-thm
-use Rattle.build.proofs.step as step
-use Rattle.build.proofs.step.Symbol as step-def
-use Rattle.build.proofs.step.Symbol.{name as #build·step}
-use Rattle.build.proofs.step.Met as step-thm
-use Rattle.build.proofs.bracket_pairs.Key.{name as #build·bracket-pairs}
-use Rattle.build.proofs.bracket_pairs as f
-use Rattle.build.proofs.bracket_pairs.Statement as stated
-use Rattle.build.proofs.bracket_pairs.Code as code
+use Rattle.pairs.proofs.step as step
+use Rattle.pairs.proofs.step.Symbol as step-def
+use Rattle.pairs.proofs.step.Symbol.{name as #pairs·step}
+use Rattle.pairs.proofs.step.Met as step-thm
+use Rattle.pairs.proofs.bracket_pairs.Key.{name as #pairs·bracket-pairs}
+use Rattle.pairs.proofs.bracket_pairs as f
+use Rattle.pairs.proofs.bracket_pairs.Statement as stated
+use Rattle.pairs.proofs.bracket_pairs.Code as code
 
 abbrev stayed : Stays (f.ended .signature .params) (f.ended .kept)
 stayed = (stay-none-slice (0 ∷ []) tt (plain (λ _. u8)) yes, (stay-slice (1 ∷ []) tt (plain (λ _. u16)), (stay-slice (2 ∷ []) tt (plain (λ _. T.the-row)), tt)))
@@ -71,7 +71,7 @@ stayed = (stay-none-slice (0 ∷ []) tt (plain (λ _. u8)) yes, (stay-slice (1 �
 abbrev Known : {M : Type 1} (𝓤 : URA M) (H : Heap 𝓤) (A : Atoms 𝓤) (mem : Memory → SProp 𝓤) (run : Routine → Fun 𝓤) (C : Calls 𝓤 H) → Type 1
 Known 𝓤 H A mem run C =
     Triple 𝓤 (C #index·begin) (tripleOf 𝓤 H A begin.signature (begin.spec 𝓤 H A mem run)) × Triple 𝓤 (C #index·is-more) (tripleOf 𝓤 H A is-more.signature (is-more.spec 𝓤 H A mem run))
-    × Triple 𝓤 (C #build·step) (tripleOf 𝓤 H A step.signature (step.spec 𝓤 H A mem run))
+    × Triple 𝓤 (C #pairs·step) (tripleOf 𝓤 H A step.signature (step.spec 𝓤 H A mem run))
 
 by-case : {X : Type 1} (y : Bool) → (y ≡ true → X) → (y ≡ false → X) → X
 by-case true a b = a refl
@@ -254,9 +254,9 @@ pub bracket-pairs-spec : {M : Type 1} → stated.statement M
 unfolding code.routine tablesOf
 bracket-pairs-spec 𝓤 H 𝓜 𝓖 𝓡 =
     entered 𝓤 H (tripleOf 𝓤 H (𝓖 .A) f.signature (f.spec 𝓤 H (𝓖 .A) (𝓜 .mem) (𝓡 .run)))
-    (tables 𝓤 H 𝓜 𝓡 code.env .C) (tables 𝓤 H 𝓜 𝓡 code.env .Λ) #build·bracket-pairs code.function (code.unfolded 𝓤 H 𝓜 𝓡)
+    (tables 𝓤 H 𝓜 𝓡 code.env .C) (tables 𝓤 H 𝓜 𝓡 code.env .Λ) #pairs·bracket-pairs code.function (code.unfolded 𝓤 H 𝓜 𝓡)
     (bracket-pairs-meets 𝓤 H (𝓖 .A) (givenOf 𝓤 H 𝓜 𝓖) (𝓜 .mem) (𝓡 .run) (tablesOf 𝓤 H 𝓜 (tables 𝓤 H 𝓜 𝓡 code.env)) (
       cited 𝓤 H (tripleOf 𝓤 H (𝓖 .A) begin.signature (begin.spec 𝓤 H (𝓖 .A) (𝓜 .mem) (𝓡 .run))) 𝓜 𝓡 code.env #index·begin begin-def.routine code.calls-index·begin (begin-thm.met 𝓤 H 𝓜 𝓖 𝓡),
       cited 𝓤 H (tripleOf 𝓤 H (𝓖 .A) is-more.signature (is-more.spec 𝓤 H (𝓖 .A) (𝓜 .mem) (𝓡 .run))) 𝓜 𝓡 code.env #index·is-more is-more-def.routine code.calls-index·is-more (is-more-thm.met 𝓤 H 𝓜 𝓖 𝓡),
-      cited 𝓤 H (tripleOf 𝓤 H (𝓖 .A) step.signature (step.spec 𝓤 H (𝓖 .A) (𝓜 .mem) (𝓡 .run))) 𝓜 𝓡 code.env #build·step step-def.routine code.calls-build·step (step-thm.met 𝓤 H 𝓜 𝓖 𝓡),
+      cited 𝓤 H (tripleOf 𝓤 H (𝓖 .A) step.signature (step.spec 𝓤 H (𝓖 .A) (𝓜 .mem) (𝓡 .run))) 𝓜 𝓡 code.env #pairs·step step-def.routine code.calls-pairs·step (step-thm.met 𝓤 H 𝓜 𝓖 𝓡),
     ))

@@ -1,4 +1,4 @@
--- `build::count` meets its contract: a walk of its MIR, by hand. The count is read out of the slice reference, which stays as it is.
+-- `pairs::count` meets its contract: a walk of its MIR, by hand. The count is read out of the slice reference, which stays as it is.
 -- Assumes nothing.
 use mathlib.Core.Path.{refl}
 use Prim.Native.Nat.{ℕ, _<_, _^_}
@@ -33,10 +33,10 @@ use denote.Triple.Table.{entered}
 use denote.Triple.Walked.{says, Stays, stay-slice, walkOf, goes-slice, Walks, ends-at, walked, walk-meets}
 use Rattle.index.specs.declared.Bracket.{Bracket}
 use Rattle.index.proofs.Bracket as T
-use Rattle.build.proofs.count.Key.{name as #build·count}
-use Rattle.build.proofs.count as f
-use Rattle.build.proofs.count.Statement as stated
-use Rattle.build.proofs.count.Code as code
+use Rattle.pairs.proofs.count.Key.{name as #pairs·count}
+use Rattle.pairs.proofs.count as f
+use Rattle.pairs.proofs.count.Statement as stated
+use Rattle.pairs.proofs.count.Code as code
 
 abbrev stayed : Stays (f.ended .signature .params) (f.ended .kept)
 stayed = (stay-slice (0 ∷ []) tt (plain (λ _. T.the-row)), tt)
@@ -90,5 +90,5 @@ pub count-spec : {M : Type 1} → stated.statement M
 unfolding code.routine tablesOf
 count-spec 𝓤 H 𝓜 𝓖 𝓡 =
     entered 𝓤 H (tripleOf 𝓤 H (𝓖 .A) f.signature (f.spec 𝓤 H (𝓖 .A) (𝓜 .mem) (𝓡 .run)))
-    (tables 𝓤 H 𝓜 𝓡 code.env .C) (tables 𝓤 H 𝓜 𝓡 code.env .Λ) #build·count code.function (code.unfolded 𝓤 H 𝓜 𝓡)
+    (tables 𝓤 H 𝓜 𝓡 code.env .C) (tables 𝓤 H 𝓜 𝓡 code.env .Λ) #pairs·count code.function (code.unfolded 𝓤 H 𝓜 𝓡)
     (count-meets 𝓤 H (𝓖 .A) (givenOf 𝓤 H 𝓜 𝓖) (𝓜 .mem) (𝓡 .run) (tablesOf 𝓤 H 𝓜 (tables 𝓤 H 𝓜 𝓡 code.env)))

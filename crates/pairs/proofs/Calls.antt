@@ -31,13 +31,13 @@ use denote.Triple.Statement.{Contract, Triple}
 use Rattle.index.specs.declared.Bracket.{Bracket}
 use Rattle.index.specs.Scan.{Both}
 use Rattle.index.proofs.Bracket as T
-use Rattle.build.specs.Turn.{Enough, built-when}
-use Rattle.build.proofs.Lent.{at-list, lent, back}
-use Rattle.build.proofs.Calling.{beside, calls-row, copied, last-list, no-last}
-use Rattle.build.proofs.count as count
-use Rattle.build.proofs.count.Symbol.{name as #build·count}
-use Rattle.build.proofs.build_when as when
-use Rattle.build.proofs.build_when.Symbol.{name as #build·build-when}
+use Rattle.pairs.specs.Turn.{Enough, built-when}
+use Rattle.pairs.proofs.Lent.{at-list, lent, back}
+use Rattle.pairs.proofs.Calling.{beside, calls-row, copied, last-list, no-last}
+use Rattle.pairs.proofs.count as count
+use Rattle.pairs.proofs.count.Symbol.{name as #pairs·count}
+use Rattle.pairs.proofs.build_when as when
+use Rattle.pairs.proofs.build_when.Symbol.{name as #pairs·build-when}
 
 module _ {M : Type 1} (𝓤 : URA M) (H : Heap 𝓤) (A : Atoms 𝓤) (mem : Memory → SProp 𝓤) (run : Routine → Fun 𝓤) where
   abbrev pub Count : Contract 𝓤
@@ -47,10 +47,10 @@ module _ {M : Type 1} (𝓤 : URA M) (H : Heap 𝓤) (A : Atoms 𝓤) (mem : Mem
   BuildWhen = tripleOf 𝓤 H A when.signature (when.spec 𝓤 H A mem run)
 
 module _ {M : Type 1} {𝓤 : URA M} {H : Heap 𝓤} {A : Atoms 𝓤} {K : Type 0} {W : Given 𝓤 H A} {Γ : List (Item 𝓤)} {E : Env 𝓤 H} {C : Calls 𝓤 H} {Λ : Loops 𝓤 H} {p : Post 𝓤 H} {d : Place} {rest : Body} {xs : List Operand} where
-  pub counts : K → (mem : Memory → SProp 𝓤) (run : Routine → Fun 𝓤) → FmC 𝓤 H (W .laws) C → Triple 𝓤 (C #build·count) (Count 𝓤 H A mem run)
+  pub counts : K → (mem : Memory → SProp 𝓤) (run : Routine → Fun 𝓤) → FmC 𝓤 H (W .laws) C → Triple 𝓤 (C #pairs·count) (Count 𝓤 H A mem run)
       → {κ : Lft} {q : Share} {γ : GName} (ℓ : Lifetime) (b o : ℕ) (ys : List Bracket) → Room T.the-row (length ys) → Opds K W Γ E xs (sliceVal (b, o) (length ys) ∷ [])
       → (length ys < 2 ^ 64 → Seq K W (‵ (flft κ q) ∷ ‵ (MutSlice ℓ κ T.the-row .own (at-list b o γ ys) (sliceVal (b, o) (length ys) ∷ [])) ∷ Γ) (lands C Λ E d (vint w64 (length ys)) rest p))
-      → Seq K W (‵ (flft κ q) ∷ ‵ (MutSlice ℓ κ T.the-row .own (at-list b o γ ys) (sliceVal (b, o) (length ys) ∷ [])) ∷ Γ) (runs C Λ E (seq (call #build·count xs d) rest) p)
+      → Seq K W (‵ (flft κ q) ∷ ‵ (MutSlice ℓ κ T.the-row .own (at-list b o γ ys) (sliceVal (b, o) (length ys) ∷ [])) ∷ Γ) (runs C Λ E (seq (call #pairs·count xs d) rest) p)
   counts t mem run fm known ℓ b o ys room os k =
       lent t tt T.the-row b o ℓ (named 0) ys (λ ν δ. nothing t $ nothing t $ move t (2 ∷ 0 ∷ 3 ∷ 1 ∷ []) $
       calls-row W t count.ended (count.clauses 𝓤 H A mem run) ((ν ∷ [], tt), (fullShare, tt), tt, (at-list b o δ ys, tt), (sliceVal (b, o) (length ys) ∷ [], tt)) tt (λ r zs. (r ≡ length ys) × (zs .0 ≡ ys))
@@ -59,14 +59,14 @@ module _ {M : Type 1} {𝓤 : URA M} {H : Heap 𝓤} {A : Atoms 𝓤} {K : Type 
       -- [ν; true; what is said of the last list; what is kept; …]
       move t (2 ∷ []) $ last-list t T.the-row δ (zs .0) ys (e .1) (λ _. drop t $ move t (2 ∷ []) $ drop t $ move t (1 ∷ 0 ∷ []) $ back t tt T.the-row b o ℓ ys ys room refl $ k (is .1))))
 
-  pub builds-when : K → (mem : Memory → SProp 𝓤) (run : Routine → Fun 𝓤) → FmC 𝓤 H (W .laws) C → Triple 𝓤 (C #build·build-when) (BuildWhen 𝓤 H A mem run)
+  pub builds-when : K → (mem : Memory → SProp 𝓤) (run : Routine → Fun 𝓤) → FmC 𝓤 H (W .laws) C → Triple 𝓤 (C #pairs·build-when) (BuildWhen 𝓤 H A mem run)
       → {κ₀ κ₁ κ₂ : Lft} {q₀ q₁ q₂ : Share} {γ₀ γ₁ γ₂ : GName} (ℓ₀ ℓ₁ ℓ₂ : Lifetime) (b₀ o₀ b₁ o₁ b₂ o₂ : ℕ) (c : Bool) (ts is : List ℕ) (ys : List Bracket) → Room u16 (length is) → Room T.the-row (length ys) → (c ≡ true → Enough ts is ys)
       → Opds K W Γ E xs (vbool c ∷ sliceVal (b₀, o₀) (length ts) ∷ sliceVal (b₁, o₁) (length is) ∷ sliceVal (b₂, o₂) (length ys) ∷ [])
       → (length (built-when c ts is ys .0) ≡ length is → length (built-when c ts is ys .1) ≡ length ys
       → Seq K W (‵ (flft κ₀ q₀) ∷ ‵ (ShrSlice ℓ₀ κ₀ u8 .own (at-list b₀ o₀ γ₀ ts) (sliceVal (b₀, o₀) (length ts) ∷ [])) ∷ ‵ (flft κ₁ q₁) ∷ ‵ (MutSlice ℓ₁ κ₁ u16 .own (at-list b₁ o₁ γ₁ (built-when c ts is ys .0)) (sliceVal (b₁, o₁) (length is) ∷ []))
       ∷ ‵ (flft κ₂ q₂) ∷ ‵ (MutSlice ℓ₂ κ₂ T.the-row .own (at-list b₂ o₂ γ₂ (built-when c ts is ys .1)) (sliceVal (b₂, o₂) (length ys) ∷ [])) ∷ Γ) (lands C Λ E d vunit rest p))
       → Seq K W (‵ (flft κ₀ q₀) ∷ ‵ (ShrSlice ℓ₀ κ₀ u8 .own (at-list b₀ o₀ γ₀ ts) (sliceVal (b₀, o₀) (length ts) ∷ [])) ∷ ‵ (flft κ₁ q₁) ∷ ‵ (MutSlice ℓ₁ κ₁ u16 .own (at-list b₁ o₁ γ₁ is) (sliceVal (b₁, o₁) (length is) ∷ []))
-      ∷ ‵ (flft κ₂ q₂) ∷ ‵ (MutSlice ℓ₂ κ₂ T.the-row .own (at-list b₂ o₂ γ₂ ys) (sliceVal (b₂, o₂) (length ys) ∷ [])) ∷ Γ) (runs C Λ E (seq (call #build·build-when xs d) rest) p)
+      ∷ ‵ (flft κ₂ q₂) ∷ ‵ (MutSlice ℓ₂ κ₂ T.the-row .own (at-list b₂ o₂ γ₂ ys) (sliceVal (b₂, o₂) (length ys) ∷ [])) ∷ Γ) (runs C Λ E (seq (call #pairs·build-when xs d) rest) p)
   builds-when t mem run fm known {κ₀} {κ₁} {κ₂} {q₀} {q₁} {q₂} {γ₀} {γ₁} {γ₂} ℓ₀ ℓ₁ ℓ₂ b₀ o₀ b₁ o₁ b₂ o₂ c ts is ys room₁ room₂ enough os k =
       let text = at-list b₀ o₀ γ₀ ts in let sv₀ = sliceVal (b₀, o₀) (length ts) in let sv₁ = sliceVal (b₁, o₁) (length is) in let sv₂ = sliceVal (b₂, o₂) (length ys) in
       move t (4 ∷ 5 ∷ []) $ lent t tt T.the-row b₂ o₂ ℓ₂ (named 2) ys (λ ν₂ δ₂. move t (5 ∷ 6 ∷ []) $ lent t tt u16 b₁ o₁ ℓ₁ (named 1) is (λ ν₁ δ₁.

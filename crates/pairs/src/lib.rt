@@ -6,7 +6,7 @@ ghost use mathlib.Core.Bool.{true};
 ghost use mathlib.Core.Path.{_≡_};
 ghost use Rattle.index.specs.Built.{blank};
 ghost use Rattle.index.specs.Scan.{planAt, stepIndex, stepRecords};
-ghost use Rattle.build.specs.Turn.{Ready, Enough, built, built-when};
+ghost use Rattle.pairs.specs.Turn.{Ready, Enough, built, built-when};
 use index::Bracket;
 use index::Scan;
 

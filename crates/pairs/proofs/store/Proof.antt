@@ -1,4 +1,4 @@
--- `build::store` meets its contract: a walk of its MIR, by hand. The borrow is opened, record i is taken out of the row and stored to, and the borrow is closed at the list with the record in it.
+-- `pairs::store` meets its contract: a walk of its MIR, by hand. The borrow is opened, record i is taken out of the row and stored to, and the borrow is closed at the list with the record in it.
 -- Assumes nothing.
 use mathlib.Core.Path.{refl, sym, ap, subst}
 use Prim.Native.Nat.{ℕ, _<_, _*_, _^_}
@@ -41,10 +41,10 @@ use denote.Exit.{yes}
 use Rattle.index.specs.declared.Bracket.{Bracket}
 use Rattle.index.proofs.Bracket as T
 use Rattle.index.proofs.Bracket.Laws as T′
-use Rattle.build.proofs.store.Key.{name as #build·store}
-use Rattle.build.proofs.store as f
-use Rattle.build.proofs.store.Statement as stated
-use Rattle.build.proofs.store.Code as code
+use Rattle.pairs.proofs.store.Key.{name as #pairs·store}
+use Rattle.pairs.proofs.store as f
+use Rattle.pairs.proofs.store.Statement as stated
+use Rattle.pairs.proofs.store.Code as code
 
 abbrev stayed : Stays (f.ended .signature .params) (f.ended .kept)
 stayed = (stay-slice (0 ∷ []) tt (plain (λ _. T.the-row)), (stay-none (λ _. usize) yes, (stay-none (λ _. T.the-row) yes, tt)))
@@ -123,5 +123,5 @@ pub store-spec : {M : Type 1} → stated.statement M
 unfolding code.routine tablesOf
 store-spec 𝓤 H 𝓜 𝓖 𝓡 =
     entered 𝓤 H (tripleOf 𝓤 H (𝓖 .A) f.signature (f.spec 𝓤 H (𝓖 .A) (𝓜 .mem) (𝓡 .run)))
-    (tables 𝓤 H 𝓜 𝓡 code.env .C) (tables 𝓤 H 𝓜 𝓡 code.env .Λ) #build·store code.function (code.unfolded 𝓤 H 𝓜 𝓡)
+    (tables 𝓤 H 𝓜 𝓡 code.env .C) (tables 𝓤 H 𝓜 𝓡 code.env .Λ) #pairs·store code.function (code.unfolded 𝓤 H 𝓜 𝓡)
     (store-meets 𝓤 H (𝓖 .A) (givenOf 𝓤 H 𝓜 𝓖) (𝓜 .mem) (𝓡 .run) (tablesOf 𝓤 H 𝓜 (tables 𝓤 H 𝓜 𝓡 code.env)))

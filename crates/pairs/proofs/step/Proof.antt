@@ -1,4 +1,4 @@
--- `build::step` meets its contract: a walk of its MIR, by hand, that makes five calls. `records` is lent again to `record_at` and comes back; then it is passed on to `store`, and `index` to `write_entry`, for good (`gave-slice`).
+-- `pairs::step` meets its contract: a walk of its MIR, by hand, that makes five calls. `records` is lent again to `record_at` and comes back; then it is passed on to `store`, and `index` to `write_entry`, for good (`gave-slice`).
 -- Assumes nothing.
 use mathlib.Core.Path.{_≡_, refl}
 use Prim.Native.Nat.{ℕ, _-_, _<_, _^_}
@@ -46,21 +46,21 @@ use Rattle.index.proofs.Scan as S
 use Rattle.index.proofs.Scan.Laws as S′
 use Rattle.index.proofs.Plan as P
 use Rattle.index.proofs.Plan.Laws as P′
-use Rattle.build.specs.Turn.{Ready}
-use Rattle.build.proofs.Lent.{at-list, lent, back}
-use Rattle.build.proofs.Calling.{calls-row, copied, last-list}
-use Rattle.build.proofs.below as below
-use Rattle.build.proofs.below.Symbol as below-def
-use Rattle.build.proofs.below.Symbol.{name as #build·below}
-use Rattle.build.proofs.below.Met as below-thm
-use Rattle.build.proofs.record_at as record-at
-use Rattle.build.proofs.record_at.Symbol as record-at-def
-use Rattle.build.proofs.record_at.Symbol.{name as #build·record-at}
-use Rattle.build.proofs.record_at.Met as record-at-thm
-use Rattle.build.proofs.store as put
-use Rattle.build.proofs.store.Symbol as put-def
-use Rattle.build.proofs.store.Symbol.{name as #build·store}
-use Rattle.build.proofs.store.Met as put-thm
+use Rattle.pairs.specs.Turn.{Ready}
+use Rattle.pairs.proofs.Lent.{at-list, lent, back}
+use Rattle.pairs.proofs.Calling.{calls-row, copied, last-list}
+use Rattle.pairs.proofs.below as below
+use Rattle.pairs.proofs.below.Symbol as below-def
+use Rattle.pairs.proofs.below.Symbol.{name as #pairs·below}
+use Rattle.pairs.proofs.below.Met as below-thm
+use Rattle.pairs.proofs.record_at as record-at
+use Rattle.pairs.proofs.record_at.Symbol as record-at-def
+use Rattle.pairs.proofs.record_at.Symbol.{name as #pairs·record-at}
+use Rattle.pairs.proofs.record_at.Met as record-at-thm
+use Rattle.pairs.proofs.store as put
+use Rattle.pairs.proofs.store.Symbol as put-def
+use Rattle.pairs.proofs.store.Symbol.{name as #pairs·store}
+use Rattle.pairs.proofs.store.Met as put-thm
 use Rattle.index.proofs.decide as decide
 use Rattle.index.proofs.decide.Symbol as decide-def
 use Rattle.index.proofs.decide.Symbol.{name as #index·decide}
@@ -69,10 +69,10 @@ use Rattle.index.proofs.write_entry as write-entry
 use Rattle.index.proofs.write_entry.Symbol as write-entry-def
 use Rattle.index.proofs.write_entry.Symbol.{name as #index·write-entry}
 use Rattle.index.proofs.write_entry.Met as write-entry-thm
-use Rattle.build.proofs.step.Key.{name as #build·step}
-use Rattle.build.proofs.step as f
-use Rattle.build.proofs.step.Statement as stated
-use Rattle.build.proofs.step.Code as code
+use Rattle.pairs.proofs.step.Key.{name as #pairs·step}
+use Rattle.pairs.proofs.step as f
+use Rattle.pairs.proofs.step.Statement as stated
+use Rattle.pairs.proofs.step.Code as code
 
 abbrev stayed : Stays (f.ended .signature .params) (f.ended .kept)
 stayed = (stay-none-slice (0 ∷ []) tt (plain (λ _. u8)) yes, (stay-none (λ _. S.the-row) yes, (gave-slice (1 ∷ []) tt (plain (λ _. u16)), (gave-slice (2 ∷ []) tt (plain (λ _. T.the-row)), tt))))
@@ -80,8 +80,8 @@ stayed = (stay-none-slice (0 ∷ []) tt (plain (λ _. u8)) yes, (stay-none (λ _
 -- the five callees' theorems, at the keys by which the MIR calls them
 abbrev Known : {M : Type 1} (𝓤 : URA M) (H : Heap 𝓤) (A : Atoms 𝓤) (mem : Memory → SProp 𝓤) (run : Routine → Fun 𝓤) (C : Calls 𝓤 H) → Type 1
 Known 𝓤 H A mem run C =
-    Triple 𝓤 (C #build·below) (tripleOf 𝓤 H A below.signature (below.spec 𝓤 H A mem run)) × Triple 𝓤 (C #build·record-at) (tripleOf 𝓤 H A record-at.signature (record-at.spec 𝓤 H A mem run))
-    × Triple 𝓤 (C #index·decide) (tripleOf 𝓤 H A decide.signature (decide.spec 𝓤 H A mem run)) × Triple 𝓤 (C #build·store) (tripleOf 𝓤 H A put.signature (put.spec 𝓤 H A mem run))
+    Triple 𝓤 (C #pairs·below) (tripleOf 𝓤 H A below.signature (below.spec 𝓤 H A mem run)) × Triple 𝓤 (C #pairs·record-at) (tripleOf 𝓤 H A record-at.signature (record-at.spec 𝓤 H A mem run))
+    × Triple 𝓤 (C #index·decide) (tripleOf 𝓤 H A decide.signature (decide.spec 𝓤 H A mem run)) × Triple 𝓤 (C #pairs·store) (tripleOf 𝓤 H A put.signature (put.spec 𝓤 H A mem run))
     × Triple 𝓤 (C #index·write-entry) (tripleOf 𝓤 H A write-entry.signature (write-entry.spec 𝓤 H A mem run))
 
 abbrev bracket : Bracket → Val
@@ -229,11 +229,11 @@ pub step-spec : {M : Type 1} → stated.statement M
 unfolding code.routine tablesOf
 step-spec 𝓤 H 𝓜 𝓖 𝓡 =
     entered 𝓤 H (tripleOf 𝓤 H (𝓖 .A) f.signature (f.spec 𝓤 H (𝓖 .A) (𝓜 .mem) (𝓡 .run)))
-    (tables 𝓤 H 𝓜 𝓡 code.env .C) (tables 𝓤 H 𝓜 𝓡 code.env .Λ) #build·step code.function (code.unfolded 𝓤 H 𝓜 𝓡)
+    (tables 𝓤 H 𝓜 𝓡 code.env .C) (tables 𝓤 H 𝓜 𝓡 code.env .Λ) #pairs·step code.function (code.unfolded 𝓤 H 𝓜 𝓡)
     (step-meets 𝓤 H (𝓖 .A) (givenOf 𝓤 H 𝓜 𝓖) (𝓜 .mem) (𝓡 .run) (tablesOf 𝓤 H 𝓜 (tables 𝓤 H 𝓜 𝓡 code.env)) (
-      cited 𝓤 H (tripleOf 𝓤 H (𝓖 .A) below.signature (below.spec 𝓤 H (𝓖 .A) (𝓜 .mem) (𝓡 .run))) 𝓜 𝓡 code.env #build·below below-def.routine code.calls-build·below (below-thm.met 𝓤 H 𝓜 𝓖 𝓡),
-      cited 𝓤 H (tripleOf 𝓤 H (𝓖 .A) record-at.signature (record-at.spec 𝓤 H (𝓖 .A) (𝓜 .mem) (𝓡 .run))) 𝓜 𝓡 code.env #build·record-at record-at-def.routine code.calls-build·record-at (record-at-thm.met 𝓤 H 𝓜 𝓖 𝓡),
+      cited 𝓤 H (tripleOf 𝓤 H (𝓖 .A) below.signature (below.spec 𝓤 H (𝓖 .A) (𝓜 .mem) (𝓡 .run))) 𝓜 𝓡 code.env #pairs·below below-def.routine code.calls-pairs·below (below-thm.met 𝓤 H 𝓜 𝓖 𝓡),
+      cited 𝓤 H (tripleOf 𝓤 H (𝓖 .A) record-at.signature (record-at.spec 𝓤 H (𝓖 .A) (𝓜 .mem) (𝓡 .run))) 𝓜 𝓡 code.env #pairs·record-at record-at-def.routine code.calls-pairs·record-at (record-at-thm.met 𝓤 H 𝓜 𝓖 𝓡),
       cited 𝓤 H (tripleOf 𝓤 H (𝓖 .A) decide.signature (decide.spec 𝓤 H (𝓖 .A) (𝓜 .mem) (𝓡 .run))) 𝓜 𝓡 code.env #index·decide decide-def.routine code.calls-index·decide (decide-thm.met 𝓤 H 𝓜 𝓖 𝓡),
-      cited 𝓤 H (tripleOf 𝓤 H (𝓖 .A) put.signature (put.spec 𝓤 H (𝓖 .A) (𝓜 .mem) (𝓡 .run))) 𝓜 𝓡 code.env #build·store put-def.routine code.calls-build·store (put-thm.met 𝓤 H 𝓜 𝓖 𝓡),
+      cited 𝓤 H (tripleOf 𝓤 H (𝓖 .A) put.signature (put.spec 𝓤 H (𝓖 .A) (𝓜 .mem) (𝓡 .run))) 𝓜 𝓡 code.env #pairs·store put-def.routine code.calls-pairs·store (put-thm.met 𝓤 H 𝓜 𝓖 𝓡),
       cited 𝓤 H (tripleOf 𝓤 H (𝓖 .A) write-entry.signature (write-entry.spec 𝓤 H (𝓖 .A) (𝓜 .mem) (𝓡 .run))) 𝓜 𝓡 code.env #index·write-entry write-entry-def.routine code.calls-index·write-entry (write-entry-thm.met 𝓤 H 𝓜 𝓖 𝓡),
     ))

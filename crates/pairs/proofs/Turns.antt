@@ -13,7 +13,7 @@ use Rattle.index.specs.declared.Scan.{Scan}
 use Rattle.index.specs.Scan.{Both, start, more, planAt, stepIndex, stepRecords, runs}
 use Rattle.index.proofs.Fits.{Fits, fits-start, fits-turn, read-in, slot-in, place-in, fine}
 use Rattle.index.proofs.Linear.{linear, left, at-next, run-start, run-turn, run-stop}
-use Rattle.build.specs.Turn.{Ready, Enough, built}
+use Rattle.pairs.specs.Turn.{Ready, Enough, built}
 
 -- what a turn changes: the scan's state, the index and the records
 abbrev pub State : Type 0
