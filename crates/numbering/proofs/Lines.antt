@@ -23,6 +23,7 @@ use Rattle.numbering.specs.Records.{
   itemField,
   groupField,
   keyIn,
+  suppressedIn,
   bareIn,
   closeOfRecord,
   definesIn,
@@ -87,6 +88,16 @@ module _ (text before : List ℕ) (integral : Bool) (i : Item) (after : List ℕ
   key-at =
       let here : List ℕ = rowOf integral i ++ after in
       rw (item-field before here k 2 h, item-field before here k 3 h)
+
+  pub suppressed-at : suppressedIn (before ++ (rowOf integral i ++ after)) k ≡ i .suppressed
+  unfolding suppressedIn rowOf recordOf marksOf
+  suppressed-at = rw (item-field before (rowOf integral i ++ after) k 11 h) (go (i .suppressed) integral)
+    where
+      go : (s b : Bool) → eqb ((pick s 1 0 + pick b 2 0) % 2) 1 ≡ s
+      go true true = refl
+      go true false = refl
+      go false true = refl
+      go false false = refl
 
   bare-at : bareIn (before ++ (rowOf integral i ++ after)) k ≡ bareItem i
   unfolding bareIn bareItem rowOf recordOf marksOf
