@@ -96,88 +96,87 @@ module _ (text items next : List ℕ) (pooled : Bool) (k : ℕ) (sources : List 
     (same-fields : (j c : ℕ) → j < k → c < itemWidth → itemField next j c ≡ itemField items j c)
     (its-key : keyIn text next k ≡ key)
     (its-number : itemField next k 12 ≡ numberOf key sources)
-    (its-use : pooled ≡ true → itemField next k 13 ≡ usesOf key sources + 1)
-  where
-    after : List Source
-    after = used key sources
+    (its-use : pooled ≡ true → itemField next k 13 ≡ usesOf key sources + 1) where
+  after : List Source
+  after = used key sources
 
-    key-alike : (j : ℕ) → j < k → keyIn text next j ≡ keyIn text items j
-    unfolding keyIn
-    key-alike j h = rw (same-fields j 2 h (omega arith), same-fields j 3 h (omega arith))
+  key-alike : (j : ℕ) → j < k → keyIn text next j ≡ keyIn text items j
+  unfolding keyIn
+  key-alike j h = rw (same-fields j 2 h (omega arith), same-fields j 3 h (omega arith))
 
-    used-alike : (x : List ℕ) (j : ℕ) → j < k → usedAt text next x j ≡ usedAt text items x j
-    used-alike x j h = rw (same-fields j 12 h (omega arith), key-alike j h)
+  used-alike : (x : List ℕ) (j : ℕ) → j < k → usedAt text next x j ≡ usedAt text items x j
+  used-alike x j h = rw (same-fields j 12 h (omega arith), key-alike j h)
 
-    used-here : (x : List ℕ) → usedAt text next x k ≡ same key x
-    unfolding numberOf
-    used-here x = rw (its-number, lt-ltb 0 (placeOf key sources + 1) (omega arith), its-key)
+  used-here : (x : List ℕ) → usedAt text next x k ≡ same key x
+  unfolding numberOf
+  used-here x = rw (its-number, lt-ltb 0 (placeOf key sources + 1) (omega arith), its-key)
 
-    known-here : Known text next pooled (suc k) after key
-    unfolding after numberOf
-    known-here = inl (
-      k,
-      record {
-        at = last-here (usedAt text next key) k (used-here key ∙ same-refl key);
-        number = its-number ∙ ap (λ (n : ℕ). n + 1) (sym (place-used key sources));
-        uses = λ p. its-use p ∙ sym (uses-used key sources);
-        there = place-there key sources;
-      },
-    )
+  known-here : Known text next pooled (suc k) after key
+  unfolding after numberOf
+  known-here = inl (
+    k,
+    record {
+      at = last-here (usedAt text next key) k (used-here key ∙ same-refl key);
+      number = its-number ∙ ap (λ (n : ℕ). n + 1) (sym (place-used key sources));
+      uses = λ p. its-use p ∙ sym (uses-used key sources);
+      there = place-there key sources;
+    },
+  )
 
-    known-other : (x : List ℕ) → same key x ≡ false → Known text items pooled k sources x → Known text next pooled (suc k) after x
-    unfolding after
-    known-other x q (inl c) =
-        let j = c .0 in
-        let b = c .1 .at .below in
-        let r = place-stays x key sources (c .1 .there) in
-        inl (
-          j,
-          record {
-            at =
-                last-before (usedAt text next x) k j (used-here x ∙ q)
-                (last-alike (usedAt text items x) (usedAt text next x) k j (used-alike x) (c .1 .at));
-            number = same-fields j 12 b (omega arith) ∙ c .1 .number ∙ ap (λ (n : ℕ). n + 1) (sym (r .0));
-            uses = λ p. same-fields j 13 b (omega arith) ∙ c .1 .uses p ∙ sym (uses-other x key sources q);
-            there = r .1;
-          },
-        )
-    known-other x q (inr u) = inr (record {
-      none =
-          none-before (usedAt text next x) k (used-here x ∙ q)
-          (none-alike (usedAt text items x) (usedAt text next x) k (used-alike x) (u .none));
-      new = place-other x key sources q (u .new);
-    })
+  known-other : (x : List ℕ) → same key x ≡ false → Known text items pooled k sources x → Known text next pooled (suc k) after x
+  unfolding after
+  known-other x q (inl c) =
+      let j = c .0 in
+      let b = c .1 .at .below in
+      let r = place-stays x key sources (c .1 .there) in
+      inl (
+        j,
+        record {
+          at =
+              last-before (usedAt text next x) k j (used-here x ∙ q)
+              (last-alike (usedAt text items x) (usedAt text next x) k j (used-alike x) (c .1 .at));
+          number = same-fields j 12 b (omega arith) ∙ c .1 .number ∙ ap (λ (n : ℕ). n + 1) (sym (r .0));
+          uses = λ p. same-fields j 13 b (omega arith) ∙ c .1 .uses p ∙ sym (uses-other x key sources q);
+          there = r .1;
+        },
+      )
+  known-other x q (inr u) = inr (record {
+    none =
+        none-before (usedAt text next x) k (used-here x ∙ q)
+        (none-alike (usedAt text items x) (usedAt text next x) k (used-alike x) (u .none));
+    new = place-other x key sources q (u .new);
+  })
 
-    known-all : (x : List ℕ) (t : Bool) → same key x ≡ t → Known text next pooled (suc k) after x
-    known-all x true q = subst (λ (y : List ℕ). Known text next pooled (suc k) after y) (same-true key x q) known-here
-    known-all x false q = known-other x q (d .known x)
+  known-all : (x : List ℕ) (t : Bool) → same key x ≡ t → Known text next pooled (suc k) after x
+  known-all x true q = subst (λ (y : List ℕ). Known text next pooled (suc k) after y) (same-true key x q) known-here
+  known-all x false q = known-other x q (d .known x)
 
-    number-here : HasNumber text next after k
-    unfolding after numberOf
-    number-here = λ p. rw its-key (its-number ∙ ap (λ (n : ℕ). n + 1) (sym (place-used key sources)), place-there key sources)
+  number-here : HasNumber text next after k
+  unfolding after numberOf
+  number-here = λ p. rw its-key (its-number ∙ ap (λ (n : ℕ). n + 1) (sym (place-used key sources)), place-there key sources)
 
-    number-before : (j : ℕ) → j < k → HasNumber text next after j
-    unfolding after
-    number-before j h =
-        λ p.
-        let e = same-fields j 12 h (omega arith) in
-        let r = d .numbers j h (omega (arith, e)) in
-        let l = place-stays (keyIn text items j) key sources (r .1) in
-        rw (key-alike j h) (e ∙ r .0 ∙ ap (λ (n : ℕ). n + 1) (sym (l .0)), l .1)
+  number-before : (j : ℕ) → j < k → HasNumber text next after j
+  unfolding after
+  number-before j h =
+      λ p.
+      let e = same-fields j 12 h (omega arith) in
+      let r = d .numbers j h (omega (arith, e)) in
+      let l = place-stays (keyIn text items j) key sources (r .1) in
+      rw (key-alike j h) (e ∙ r .0 ∙ ap (λ (n : ℕ). n + 1) (sym (l .0)), l .1)
 
-    numbers-all : (j : ℕ) (t : Bool) → ltb j k ≡ t → j < suc k → HasNumber text next after j
-    numbers-all j true q h = number-before j (ltb-true j k q)
-    numbers-all j false q h =
-        let e : k ≡ j = omega (arith, ltb-false j k q) in subst (λ (i : ℕ). HasNumber text next after i) e number-here
+  numbers-all : (j : ℕ) (t : Bool) → ltb j k ≡ t → j < suc k → HasNumber text next after j
+  numbers-all j true q h = number-before j (ltb-true j k q)
+  numbers-all j false q h =
+      let e : k ≡ j = omega (arith, ltb-false j k q) in subst (λ (i : ℕ). HasNumber text next after i) e number-here
 
-    pub joined-cite : Joined text next pooled (suc k) (used key sources)
-    unfolding after
-    joined-cite = record {
-      known = λ x. known-all x (same key x) refl;
-      numbers = λ j h. numbers-all j (ltb j k) refl h;
-      few = omega (arith, used-most key sources, d .few);
-      few-uses = λ x. omega (arith, uses-most x key sources, d .few-uses x);
-    }
+  pub joined-cite : Joined text next pooled (suc k) (used key sources)
+  unfolding after
+  joined-cite = record {
+    known = λ x. known-all x (same key x) refl;
+    numbers = λ j h. numbers-all j (ltb j k) refl h;
+    few = omega (arith, used-most key sources, d .few);
+    few-uses = λ x. omega (arith, uses-most x key sources, d .few-uses x);
+  }
 
 -- the number, the use and the sources that the code comes to
 module _ (text items : List ℕ) (pooled : Bool) (k : ℕ) (sources : List Source) (d : Joined text items pooled k sources) (small : k < 65535) where
