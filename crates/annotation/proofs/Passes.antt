@@ -11,6 +11,7 @@ use borrow.Author.Tests.{eqb-true}
 use Rattle.base.specs.Pick.{pick}
 use Rattle.base.specs.Fold.{fold}
 use Rattle.base.specs.Spans.{span, missing}
+use Rattle.base.proofs.Alls.{each-map}
 use Rattle.item.specs.declared.Item.{Item}
 use Rattle.lookup.specs.Groups.{Group}
 use Rattle.lookup.specs.Rows.{itemWidth, recordOf, rowOf, rowsIn, rowsOf}
@@ -45,6 +46,7 @@ use Rattle.numbering.proofs.Lines.{
   rows-length,
   regroup,
   groupsOf,
+  Closes,
   LieAt,
   group-first,
   group-items,
@@ -68,6 +70,7 @@ use Rattle.annotation.specs.Content.{
   addGroup,
   tallyOf,
 }
+use Rattle.annotation.specs.Steps.{Fits, sweptItems, sweptGroups, numberedFrom, DefinitionsAgree, NumbersAgree}
 use Rattle.annotation.proofs.Joins.{Joined, joined-none, joined-on, joined-cite, number-agrees, use-agrees, sources-agree}
 
 -- the tally `t` of the first `k` items and the records of state `s` agree; `rest` is what the item area holds after their records, and
@@ -425,3 +428,60 @@ module _ (text : List ℕ) (mode : ℕ) (pool : List ℕ) (n : ℕ) (all : List 
             subst (λ (m : ℕ). Ag t′ s′ m restItems) e (r .agrees);
         groups = r .groups ∙ sym (regroup done (groupRow k p) (groupRows (k + length (x .items)) ps) restGroups);
       }
+
+-- from the records as the sweep leaves them ------------------------------------------------------------------------------------------
+
+pub definitions-agree : DefinitionsAgree
+definitions-agree text all pool restItems restGroups key f =
+    definition-swept text all restGroups restItems pool key (each-map _ Closes all (λ g h. h .0) (f .closes))
+
+module _ (text : List ℕ) (mode : ℕ) (all : List Group) (pool restItems restGroups : List ℕ) (f : Fits text all) where
+  ended : Ended text mode pool (length all) all (sweptGroups text all restGroups) (sweptItems all restItems)
+      (λ key. definitions-agree text all pool restItems restGroups key f)
+      restItems restGroups (tallyOf text mode all pool) (numberedFrom text mode all pool restItems restGroups) 0 [] (0 + itemCount all)
+      (placedOf text all pool)
+  unfolding tallyOf numberAll placedOf
+  ended =
+      groups-agree text mode pool (length all) all (sweptGroups text all restGroups) (sweptItems all restItems)
+      (λ key. definitions-agree text all pool restItems restGroups key f)
+      restItems restGroups (tally [] [] [])
+      (record { sources = 0; items = sweptItems all restItems; groups = sweptGroups text all restGroups; labels = [] })
+      0 0 [] false 0 all
+      (record {
+        agrees = record {
+          items = refl;
+          count = refl;
+          labels = refl;
+          sources = refl;
+          joined = joined-none text (sweptItems all restItems) (hasPool pool);
+          same-items = λ k c h. refl;
+          same-groups = λ g c h. refl;
+        };
+        count = refl;
+        groups = refl;
+      })
+      (omega (arith, f .short, f .room))
+
+  -- the tally of all items agrees with the records at the end
+  pub tally-agrees : Agrees text (hasPool pool) (sweptGroups text all restGroups) (sweptItems all restItems) (tallyOf text mode all pool)
+      (numberedFrom text mode all pool restItems restGroups) (itemCount all) restItems
+  tally-agrees =
+      let e : 0 + itemCount all ≡ itemCount all = omega arith in
+      subst
+      (λ (m : ℕ).
+      Agrees text (hasPool pool) (sweptGroups text all restGroups) (sweptItems all restItems) (tallyOf text mode all pool)
+      (numberedFrom text mode all pool restItems restGroups) m restItems)
+      e (ended .agrees)
+
+  pub numbered-groups : numberedFrom text mode all pool restItems restGroups .groups ≡ groupRows 0 (placedOf text all pool) ++ restGroups
+  numbered-groups = ended .groups
+
+pub numbers-agree : NumbersAgree
+numbers-agree text mode all pool restItems restGroups f =
+    let a = tally-agrees text mode all pool restItems restGroups f in
+    record {
+      items = a .items;
+      groups = numbered-groups text mode all pool restItems restGroups f;
+      labels = a .labels;
+      sources = a .sources;
+    }
