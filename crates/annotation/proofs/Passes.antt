@@ -3,7 +3,7 @@ use Prim.Native.Nat.{ℕ, zero, suc, _+_, _*_, _≤_, _<_}
 use native.Mathlib.Omega.{arith}
 use native.Mathlib.Numerals.{add-one}
 use mathlib.Core.Path.{_≡_, refl, sym, _∙_, ap, subst}
-use mathlib.Core.List.{List, [], _∷_, _++_, map, append-nil, append-assoc}
+use mathlib.Core.List.{List, [], _∷_, _++_, append-assoc}
 use mathlib.Core.Bool.{Bool, true, false, _&&_, not, true≢false}
 use lib.ListN.{length, getD, set, length-append}
 use lib.Dec.{eqb}
@@ -22,7 +22,6 @@ use Rattle.sweep.specs.Rows.{Placed, placed, groupWidth, groupRow, groupRows, s
 use Rattle.numbering.specs.Records.{itemField, groupField, keyIn, suppressedIn, definitionIn}
 use Rattle.numbering.specs.Numbers.{
   Numbered,
-  setLast,
   numberIn,
   useIn,
   sourcesIn,
@@ -43,9 +42,7 @@ use Rattle.numbering.proofs.Lines.{
   definition-same,
   key-at,
   suppressed-at,
-  rows-length,
   regroup,
-  groupsOf,
   Closes,
   LieAt,
   group-first,
@@ -54,7 +51,7 @@ use Rattle.numbering.proofs.Lines.{
   swept-groups,
   definition-swept,
 }
-use Rattle.annotation.specs.Sources.{Source, numberOf, usesOf, useOf, used}
+use Rattle.annotation.specs.Sources.{numberOf, useOf, used}
 use Rattle.annotation.specs.Content.{
   Tally,
   tally,

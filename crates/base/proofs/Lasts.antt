@@ -57,3 +57,5 @@ last-alike f g n j h l = record {
 
 pub none-alike : (f g : ℕ → Bool) (n : ℕ) → ((i : ℕ) → i < n → g i ≡ f i) → LastNone f n → LastNone g n
 none-alike f g n h l = λ d. last-same g f n d h ∙ l d
+
+pub ruleset last-laws = (last-from, last-same, last-here, last-before, none-before, last-alike, none-alike)

@@ -1,7 +1,7 @@
 -- Item and group records in the lent areas: what stands at a place, and what a write leaves.
-use Prim.Native.Nat.{ℕ, zero, suc, _+_, _*_, _≤_, _<_}
+use Prim.Native.Nat.{ℕ, suc, _+_, _*_, _≤_, _<_}
 use native.Mathlib.Omega.{arith}
-use mathlib.Core.Path.{_≡_, refl, sym, _∙_, ap}
+use mathlib.Core.Path.{_≡_, _∙_, ap}
 use mathlib.Core.List.{List, [], _∷_, _++_}
 use mathlib.Core.Bool.{Bool}
 use lib.ListN.{length, getD, set}
@@ -82,3 +82,5 @@ pub set-last-other : (items : List ℕ) (k n u at len j c : ℕ) → j < k → c
     → itemField (setLast items k n u at len) j c ≡ itemField items j c
 unfolding itemField
 set-last-other items k n u at len j c h l = set-last-away items k n u at len (itemWidth * j + c) (λ d a b e. omega arith)
+
+pub ruleset field-laws = (item-field, group-field, set-last, set-standing, set-last-same, set-standing-same, set-last-other)

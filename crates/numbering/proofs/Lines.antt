@@ -1,11 +1,11 @@
 -- Definitions from the records: they depend on no number, use, label or standing, and are those of the paper.
-use Prim.Native.Nat.{ℕ, zero, suc, _+_, _-_, _*_, _%_, _≤_, _<_}
+use Prim.Native.Nat.{ℕ, suc, _+_, _-_, _*_, _%_, _<_}
 use native.Mathlib.Omega.{arith}
 use mathlib.Core.Path.{_≡_, refl, sym, _∙_, ap}
 use mathlib.Core.List.{List, [], _∷_, _++_, map, append-assoc}
 use mathlib.Core.Bool.{Bool, true, false, _&&_, not}
 use mathlib.Core.Option.{Option, none, some}
-use lib.ListN.{length, getD, length-append}
+use lib.ListN.{length, length-append}
 use lib.Dec.{eqb, ltb}
 use borrow.Author.Tests.{lt-ltb, le-ltb, ne-eqb}
 use Rattle.base.specs.Pick.{pick}
@@ -20,7 +20,6 @@ use Rattle.sweep.specs.Rows.{Placed, groupWidth, groupRow, groupRows, sweptFrom
 use Rattle.definition.specs.Lines.{startsLine, colonAfter, bareItem, onlyKey, defines, inLine, groupEnd, nextOpen, keyOf, definedKey}
 use Rattle.definition.specs.Defs.{Def, lineDef, definesKey, lastLine, firstEntry, orDef, defOf}
 use Rattle.numbering.specs.Records.{
-  itemField,
   groupField,
   keyIn,
   suppressedIn,
@@ -301,3 +300,5 @@ definition-swept text all restG restI pool key h =
     (sym (swept-length text false 0 all))
     ∙ definition-placed text _ _ (sweptFrom text false 0 all) restG restI pool key (lie-swept text all restG restI) (swept-each Closes text false 0 all h)
     ∙ ap (λ (gs : List Group). defOf text gs pool key) (swept-groups text false 0 all)
+
+pub ruleset line-laws = (key-same, definition-same, key-at, suppressed-at, definition-placed, definition-swept)
