@@ -1,1 +1,2 @@
-// Numbers, uses, labels and reference order, over item and group records. Definitions only, so far.
+// Numbers, uses, labels and reference order, over item and group records.
+pub mod records;
