@@ -36,7 +36,7 @@ use denote.Triple.Call.{calls-at, calls-at-last}
 use denote.Triple.Clauses.{Ended, Clauses, Lasts, atExit, lasts, closing}
 
 -- operands that are read from Γ are read with one entry more
-beside : {M : Type 1} {𝓤 : URA M} {H : Heap 𝓤} {A : Atoms 𝓤} {K : Type 0} {W : Given 𝓤 H A} {Γ : List (Item 𝓤)} {E : Env 𝓤 H} {xs : List Operand} {vs : List Val} (i : Item 𝓤) → Opds K W Γ E xs vs → Opds K W (i ∷ Γ) E xs vs
+pub beside : {M : Type 1} {𝓤 : URA M} {H : Heap 𝓤} {A : Atoms 𝓤} {K : Type 0} {W : Given 𝓤 H A} {Γ : List (Item 𝓤)} {E : Env 𝓤 H} {xs : List Operand} {vs : List Val} (i : Item 𝓤) → Opds K W Γ E xs vs → Opds K W (i ∷ Γ) E xs vs
 beside {𝓤 = 𝓤} {H} {A} {W = W} {Γ} {E} {xs} {vs} i os = record {
   go = λ Kt h.
       let I : SProp 𝓤 = mean 𝓤 H A i in

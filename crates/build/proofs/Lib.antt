@@ -1,5 +1,5 @@
-pub mod Again
 pub mod Lent
 pub mod Local
 pub mod Calling
 pub mod Turns
+pub mod Calls

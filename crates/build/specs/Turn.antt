@@ -16,7 +16,7 @@ pub record Ready (s : List ℕ) (c : Scan) (index : List ℕ) (records : List Br
   pub slot : planAt s c records .slot < length records
   pub place : planAt s c records .place < length index
 
--- "The index has at least as many records as the text has bytes, and so have the bracket records"; a place fits a u16
+-- a build can be had: no "index or bracket records fewer than text bytes", and every place fits a u16
 pub record Enough (s index : List ℕ) (records : List Bracket) : Type 0 where
   pub short : length s ≤ 65535
   pub wide : length s ≤ length index

@@ -1,14 +1,14 @@
 -- What the code's needs cite, each law in the form of a need: premises are what the loop's invariant, the callees and the branches say.
-use Prim.Native.Nat.{ℕ, zero, suc, _+_, _-_, _≤_, _<_}
+use Prim.Native.Nat.{ℕ, suc, _+_, _-_, _≤_, _<_}
 use native.Mathlib.Omega.{arith}
 use mathlib.Core.Path.{_≡_, refl, sym, _∙_, ap}
-use mathlib.Core.List.{List, [], _∷_}
+use mathlib.Core.List.{List, []}
 use mathlib.Core.Bool.{Bool, true, false, _&&_, _||_, not, and-false, or-true}
-use lib.ListN.{length, getD, take, drop}
-use lib.Dec.{eqb, leb, ltb}
+use lib.ListN.{length, take, drop}
+use lib.Dec.{eqb, ltb}
 use borrow.Author.Tests.{eq-eqb, ne-eqb, le-leb, lt-leb, lt-ltb, le-ltb, eqb-true, eqb-false, ltb-true, ltb-false}
 use Rattle.base.specs.First.{first}
-use Rattle.base.specs.Lists.{byteAt, isAt, part}
+use Rattle.base.specs.Lists.{byteAt, part}
 use Rattle.base.specs.Spans.{span}
 use Rattle.base.proofs.Searches.{first-from, first-by, first-holds}
 use Rattle.definition.specs.Bytes.{firstOf, firstOther}

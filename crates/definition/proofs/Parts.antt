@@ -2,16 +2,16 @@
 use Prim.Native.Nat.{ℕ, zero, suc, _+_, _-_, _≤_, _<_}
 use native.Mathlib.Omega.{arith}
 use mathlib.Core.Path.{_≡_, refl, sym, _∙_, ap}
-use mathlib.Core.List.{List, [], _∷_}
+use mathlib.Core.List.{List}
 use mathlib.Core.Bool.{Bool, true, false, not}
-use lib.ListN.{length, getD, take, drop, length-take, length-drop}
+use lib.ListN.{length, take, drop, length-take, length-drop}
 use lib.Seq.{take-take, take-all, getD-take, getD-drop, ext-getD}
-use lib.Dec.{eqb, leb}
+use lib.Dec.{eqb}
 use borrow.Author.Tests.{le-leb}
 use Rattle.base.specs.Pick.{pick}
 use Rattle.base.specs.First.{first}
 use Rattle.base.specs.Lists.{byteAt, part}
-use Rattle.base.proofs.Searches.{first-from, first-by}
+use Rattle.base.proofs.Searches.{first-by}
 use Rattle.definition.specs.Bytes.{firstOf, firstOther}
 use Rattle.definition.specs.Attributes.{equalsAt, endWithout, startWithout, stripped}
 

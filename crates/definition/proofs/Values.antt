@@ -1,10 +1,10 @@
 -- What a value of an attribute is in the text, and authors and years, in the form of the needs.
-use Prim.Native.Nat.{ℕ, _+_, _-_, _≤_, _<_}
+use Prim.Native.Nat.{ℕ, _+_, _≤_}
 use native.Mathlib.Omega.{arith}
 use mathlib.Core.Path.{_≡_, refl, sym, _∙_, ap}
-use mathlib.Core.List.{List, [], _∷_}
+use mathlib.Core.List.{List, []}
 use mathlib.Core.Option.{Option, none, some}
-use lib.ListN.{length, take, drop}
+use lib.ListN.{length}
 use Rattle.base.specs.Lists.{part}
 use Rattle.base.specs.Spans.{span}
 use Rattle.base.specs.declared.Span.{Span}

@@ -4,7 +4,6 @@ use native.Mathlib.Omega.{arith}
 use mathlib.Core.Path.{_≡_, refl, sym, _∙_, ap}
 use mathlib.Core.List.{List, [], _∷_}
 use mathlib.Core.Bool.{Bool, true, false, not}
-use mathlib.Core.Option.{Option, none, some}
 use lib.ListN.{length, take, drop}
 use lib.Dec.{eqb, ltb}
 use borrow.Author.Tests.{lt-ltb, le-ltb}
@@ -14,24 +13,14 @@ use Rattle.base.specs.Spans.{span}
 use Rattle.base.specs.declared.Span.{Span}
 use Rattle.base.proofs.Searches.{first-from, first-by}
 use Rattle.text.specs.White.{isWhite, trimStart}
-use Rattle.text.proofs.Trims.{start-from, start-by, start-plain}
+use Rattle.text.proofs.Trims.{start-from, start-plain}
 use Rattle.definition.specs.Bytes.{firstOf, firstOther}
-use Rattle.definition.specs.declared.Value.{Value}
 use Rattle.definition.specs.declared.Value.the-variants.{Given, Missing}
 use Rattle.definition.specs.Attributes.{wordEnd, wordsIn, wordsOf, equalsAt, endWithout, stripped, bare, valueIn, attrValue}
 use Rattle.definition.specs.Lines.{bytesOf}
 use Rattle.definition.specs.Parts.{valueBytes}
 use Rattle.definition.proofs.Firsts.{first-out, first-stop, first-more}
-use Rattle.definition.proofs.Parts.{
-  part-is,
-  part-length,
-  take-part,
-  drop-part,
-  without-from,
-  without-by,
-  equals-shift,
-  stripped-shift,
-}
+use Rattle.definition.proofs.Parts.{part-is, part-length, take-part, drop-part, without-from, without-by, equals-shift, stripped-shift}
 
 -- where a word ends --------------------------------------------------------------------------------------------------------------
 
@@ -69,26 +58,32 @@ module _ (b : ℕ) (s : List ℕ) (a e : ℕ) {r : ℕ} where
   pub without-le : r ≡ endWithout b s a (e - a) → a ≤ e → r ≤ e
   without-le p h = omega (arith, without-by b s a (e - a))
 
-module _ (s : List ℕ) (a e : ℕ) (l : a ≤ e) (h : e ≤ length s) {b f : ℕ} (p : b ≡ firstOther 34 s a e) (q : f ≡ endWithout 34 s b (e - b)) where
-  pub bare-mid : f ≤ length s
-  bare-mid = omega (arith, skip-le 34 s a e p l, without-le 34 s b e q (skip-le 34 s a e p l))
+-- stripped of the bytes `x`, then of the bytes `y`
+module _ (s : List ℕ) (a e : ℕ) (l : a ≤ e) (h : e ≤ length s) (x : ℕ) {b f : ℕ} (p : b ≡ firstOther x s a e) (q : f ≡ endWithout x s b (e - b)) where
+  pub strip-mid : f ≤ length s
+  strip-mid = omega (arith, skip-le x s a e p l, without-le x s b e q (skip-le x s a e p l))
 
-  module _ {c g : ℕ} (u : c ≡ firstOther 39 s b f) (v : g ≡ endWithout 39 s c (f - c)) where
-    pub bare-within : c + (g - c) ≤ length s
-    bare-within =
-        let k = without-ge 34 s b e q in
-        omega (arith, bare-mid, skip-le 39 s b f u k, without-le 39 s c f v (skip-le 39 s b f u k), without-ge 39 s c f v)
+  module _ (y : ℕ) {c g : ℕ} (u : c ≡ firstOther y s b f) (v : g ≡ endWithout y s c (f - c)) where
+    pub strip-within : c + (g - c) ≤ length s
+    strip-within =
+        let k = without-ge x s b e q in
+        omega (arith, strip-mid, skip-le y s b f u k, without-le y s c f v (skip-le y s b f u k), without-ge y s c f v)
 
-    pub bare-is : bytesOf s (span c (g - c)) ≡ bare (part s a e)
-    unfolding bare
-    bare-is =
-        let z : c + (g - c) ≡ g = omega (arith, without-ge 39 s c f v) in
-        let k = without-ge 34 s b e q in
+    strip-is : bytesOf s (span c (g - c)) ≡ stripped y (stripped x (part s a e))
+    strip-is =
+        let z : c + (g - c) ≡ g = omega (arith, without-ge y s c f v) in
+        let k = without-ge x s b e q in
         ap (part s c) z
-        ∙ stripped-shift s b f k bare-mid 39 u v
-        ∙ ap (stripped 39) (stripped-shift s a e l h 34 p q)
+        ∙ stripped-shift s b f k strip-mid y u v
+        ∙ ap (stripped y) (stripped-shift s a e l h x p q)
 
-pub ruleset bare-laws = (without-ge, bare-mid, bare-within, bare-is)
+module _ (s : List ℕ) (a e : ℕ) (l : a ≤ e) (h : e ≤ length s) where
+  pub bare-is : {b f c g : ℕ} → b ≡ firstOther 34 s a e → f ≡ endWithout 34 s b (e - b) → c ≡ firstOther 39 s b f → g ≡ endWithout 39 s c (f - c)
+      → bytesOf s (span c (g - c)) ≡ bare (part s a e)
+  unfolding bare
+  bare-is p q u v = strip-is s a e l h 34 p q 39 u v
+
+pub ruleset bare-laws = (without-ge, strip-mid, strip-within, bare-is)
 
 -- a name -------------------------------------------------------------------------------------------------------------------------
 

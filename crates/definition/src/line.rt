@@ -2,9 +2,8 @@
 use crate::bytes;
 use base::Span;
 ghost use mathlib.Core.Path.{_≡_};
-ghost use Prim.Native.Nat.{_+_, _-_, _≤_, _<_};
+ghost use Prim.Native.Nat.{_+_, _≤_, _<_};
 ghost use lib.ListN.{length};
-ghost use Rattle.base.specs.Lists.{part};
 ghost use Rattle.definition.specs.Lines.{breakAt, braceOrBreak, startsLine, colonAfter, afterSpaces, attributesOf, bytesOf};
 
 // The first LF from `a` up to `e`, or `e`.

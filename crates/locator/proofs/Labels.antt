@@ -1,7 +1,7 @@
 -- The label at a place: in the form of the needs, and where what follows it begins.
-use Prim.Native.Nat.{ℕ, _+_, _≤_, _<_}
+use Prim.Native.Nat.{ℕ, _+_, _≤_}
 use native.Mathlib.Omega.{arith}
-use mathlib.Core.Path.{_≡_, refl, sym, _∙_, ap}
+use mathlib.Core.Path.{_≡_, refl, sym, _∙_}
 use mathlib.Core.List.{List, [], _∷_}
 use mathlib.Core.Bool.{Bool, true, false, _&&_}
 use lib.ListN.{length, getD}
@@ -9,7 +9,7 @@ use lib.Dec.{eqb, leb, ltb}
 use borrow.Author.Tests.{leb-true, ltb-true, lt-leb, ne-eqb}
 use Rattle.base.specs.Pick.{pick}
 use Rattle.base.specs.Ascii.{ascii}
-use Rattle.base.specs.Lists.{byteAt, within}
+use Rattle.base.specs.Lists.{byteAt}
 use Rattle.locator.specs.declared.Label.{Label}
 use Rattle.locator.specs.Matchers.{Matcher, matchers, no-code, code-page}
 use Rattle.locator.specs.Locators.{isDigit, lower, fits, mayFollow, label, stands, matchIn, orPage, labelOf}

@@ -1,7 +1,7 @@
 -- What callers cite of a locator: its code, and where its parts lie. `l` is what `parse_locator` gave.
-use Prim.Native.Nat.{ℕ, _+_, _-_, _≤_, _<_}
+use Prim.Native.Nat.{ℕ, _+_, _-_, _≤_}
 use native.Mathlib.Omega.{arith}
-use mathlib.Core.Path.{_≡_, refl, sym, _∙_, ap}
+use mathlib.Core.Path.{_≡_, refl}
 use mathlib.Core.List.{List, [], _∷_}
 use mathlib.Core.Bool.{Bool, true, false, _&&_}
 use lib.ListN.{length}
@@ -12,7 +12,6 @@ use Rattle.base.specs.Ascii.{ascii}
 use Rattle.base.specs.Lists.{byteAt}
 use Rattle.base.specs.declared.Span.{Span}
 use Rattle.base.specs.Spans.{span, missing, spanOf, presentOf, InOrder}
-use Rattle.locator.specs.declared.Label.{Label}
 use Rattle.locator.specs.declared.Locator.{Locator}
 use Rattle.locator.specs.declared.Locator.the-variants.{Nothing, Plain, Labelled}
 use Rattle.locator.specs.Matchers.{Matcher, matchers, no-code, code-page}
@@ -24,7 +23,6 @@ use Rattle.locator.specs.Locators.{
   matchIn,
   orPage,
   labelOf,
-  valueEnd,
   valued,
   labelled,
   locatorFrom,

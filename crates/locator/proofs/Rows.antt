@@ -6,15 +6,14 @@ use mathlib.Core.Path.{_≡_, refl, sym, _∙_, ap}
 use mathlib.Core.List.{List, [], _∷_}
 use mathlib.Core.Bool.{Bool, true, false, _&&_}
 use lib.ListN.{length, getD, drop, drop-of-length-le}
-use lib.Seq.{slice, drop-cons, length-slice}
-use lib.Dec.{eqb, leb}
-use borrow.Author.Tests.{leb-true, eqb-true}
-use Rattle.base.specs.Pick.{pick}
+use lib.Seq.{drop-cons, length-slice}
+use lib.Dec.{eqb, leb, ltb}
+use borrow.Author.Tests.{leb-true, ltb-true, eqb-true}
 use Rattle.base.specs.Lists.{same}
 use Rattle.locator.specs.declared.Label.{Label}
 use Rattle.locator.specs.Matchers.{Matcher, matchers, row, no-code}
 use Rattle.locator.specs.Table.{startIn, endIn, codeIn, wordAt, isRow, isTable}
-use Rattle.locator.specs.Locators.{label, fits, mayFollow, stands, matchIn}
+use Rattle.locator.specs.Locators.{label, stands, matchIn}
 use Rattle.locator.proofs.Words.{and-left, and-right, false-true}
 
 pub same-is : (a b : List ℕ) → same a b ≡ true → a ≡ b
@@ -29,7 +28,7 @@ same-is (x ∷ xs) (y ∷ ys) t =
 
 -- a row and its matcher
 record Says (words r : List ℕ) (m : Matcher) : Type 0 where
-  order : startIn r ≤ endIn r
+  order : startIn r < endIn r
   room : endIn r ≤ length words
   spelt : wordAt words (startIn r) (endIn r) ≡ m .word
   coded : codeIn r ≡ m .code
@@ -37,14 +36,14 @@ record Says (words r : List ℕ) (m : Matcher) : Type 0 where
 says : (words r : List ℕ) (m : Matcher) → isRow words r m ≡ true → Says words r m
 unfolding isRow
 says words r m t =
-    let a = leb (startIn r) (endIn r) in
+    let a = ltb (startIn r) (endIn r) in
     let b = leb (endIn r) (length words) in
     let d = same (wordAt words (startIn r) (endIn r)) (m .word) in
     let f = eqb (codeIn r) (m .code) in
     let abd = and-left (a && b && d) f t in
     let ab = and-left (a && b) d abd in
     record {
-      order = leb-true _ _ (and-left a b ab);
+      order = ltb-true _ _ (and-left a b ab);
       room = leb-true _ _ (and-right a b ab);
       spelt = same-is _ _ (and-right (a && b) d abd);
       coded = eqb-true _ _ (and-right (a && b && d) f t);
@@ -78,7 +77,7 @@ stands-word m w s i e q = rw q refl
 module _ (words : List ℕ) (rows : List (List ℕ)) (k : ℕ) where
   pub row-order
       : {from to : ℕ} → isTable words rows matchers ≡ true → k < length rows → from ≡ startIn (getD rows k []) → to ≡ endIn (getD rows k [])
-      → from ≤ to
+      → from < to
   row-order t h p q = rw (p, q) (says words _ _ (at-row words rows matchers t k h) .order)
 
   pub row-room : {to : ℕ} → isTable words rows matchers ≡ true → k < length rows → to ≡ endIn (getD rows k []) → to ≤ length words

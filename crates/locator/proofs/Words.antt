@@ -1,5 +1,5 @@
 -- A matcher's word at a place, what may follow it, and spans: in the form of the needs. `b` is what a call of a test gave.
-use Prim.Native.Nat.{ℕ, zero, suc, _+_, _-_, _≤_, _<_, _^_}
+use Prim.Native.Nat.{ℕ, _+_, _-_, _≤_, _<_}
 use native.Mathlib.Numerals.{add-one}
 use native.Mathlib.Omega.{arith}
 use mathlib.Core.Path.{_≡_, refl, sym, _∙_}
@@ -107,23 +107,18 @@ fits-by (x ∷ xs) s i e h t =
     omega (arith, fits-by xs s (i + 1) e (omega arith) back)
 
 module _ (words : List ℕ) (from to : ℕ) (s : List ℕ) (i e : ℕ) where
-  pub word-by
-      : {b : Bool} → b ≡ fits (wordAt words from to) s i e → b ≡ true → i ≤ e → to ≤ length words → i + (to - from) ≤ e
-  unfolding wordAt
-  word-by q t h g = rw (length-slice from to words g) at (fits-by (wordAt words from to) s i e h (sym q ∙ t))
-
   pub stands-by
       : {b r : Bool} → b ≡ fits (wordAt words from to) s i e → b ≡ true → to ≤ length words → r ≡ mayFollow s (i + (to - from)) e
       → r ≡ stands (row (wordAt words from to) no-code) s i e
   unfolding stands wordAt
   stands-by q t g p = p ∙ rw (← q, t, length-slice from to words g) refl
 
-  pub stands-room
-      : {b : Bool} → b ≡ stands (row (wordAt words from to) no-code) s i e → b ≡ true → i ≤ e → to ≤ length words → i + (to - from) ≤ e
-  unfolding stands
-  stands-room q t h g =
-      let w = wordAt words from to in
-      word-by {b = true} (sym (and-left (fits w s i e) (mayFollow s (i + length w) e) (sym q ∙ t))) refl h g
+  pub stands-first
+      : {b : ℕ} → b ≡ lower (byteAt s i) → (getD words from 0 ≡ b → ⊥) → from < to → to ≤ length words
+      → false ≡ stands (row (wordAt words from to) no-code) s i e
+  unfolding stands fits wordAt
+  stands-first q n h g =
+      rw (slice-cons from to words 0 h g, ← q, ne-eqb _ _ (λ t. n (sym t)), and-not (ltb i e)) refl
 
   pub stands-not : {b : Bool} → b ≡ fits (wordAt words from to) s i e → b ≡ false → false ≡ stands (row (wordAt words from to) no-code) s i e
   unfolding stands wordAt
@@ -142,6 +137,7 @@ pub ruleset words = (
   fits-end,
   fits-not,
   fits-more,
+  stands-first,
   stands-by,
   stands-not,
 )

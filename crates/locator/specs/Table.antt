@@ -4,7 +4,7 @@ use mathlib.Core.List.{List, [], _∷_}
 use mathlib.Core.Bool.{Bool, true, false, _&&_}
 use lib.ListN.{length, getD}
 use lib.Seq.{slice}
-use lib.Dec.{eqb, leb}
+use lib.Dec.{eqb, leb, ltb}
 use Rattle.base.specs.Lists.{same}
 use Rattle.locator.specs.Matchers.{Matcher}
 
@@ -25,7 +25,7 @@ wordAt words from to = slice from to words
 -- the row says what the matcher is
 unfoldable pub isRow : List ℕ → List ℕ → Matcher → Bool
 isRow words r m =
-    leb (startIn r) (endIn r) && leb (endIn r) (length words) && same (wordAt words (startIn r) (endIn r)) (m .word) && eqb (codeIn r) (m .code)
+    ltb (startIn r) (endIn r) && leb (endIn r) (length words) && same (wordAt words (startIn r) (endIn r)) (m .word) && eqb (codeIn r) (m .code)
 
 -- the rows are those of the matchers, in their order
 unfoldable pub isTable : List ℕ → List (List ℕ) → List Matcher → Bool

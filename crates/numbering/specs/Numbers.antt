@@ -12,7 +12,7 @@ use Rattle.sweep.specs.Rows.{groupWidth}
 use Rattle.pool.specs.Layout.{hasPool}
 use Rattle.definition.specs.Defs.{isDefined}
 use Rattle.numbering.specs.Records.{itemField, groupField, keyIn, suppressedIn, definitionIn}
-use Rattle.numbering.specs.Labels.{labelText}
+use Rattle.label.specs.Labels.{labelText}
 
 -- "Maps become searches over item records": the last item record before `k` that is numbered and has the key of record `k`; `k` where there
 -- is none

@@ -7,7 +7,7 @@ use mathlib.Core.Bool.{Bool, true, false, _&&_}
 use mathlib.Core.Option.{Option, none, some}
 use lib.ListN.{length}
 use lib.Dec.{eqb, leb, ltb}
-use borrow.Author.Tests.{leb-true, le-leb, lt-leb, eq-eqb, ne-eqb, eqb-true}
+use borrow.Author.Tests.{leb-true, leb-false, le-leb, lt-leb, eq-eqb, ne-eqb, eqb-true}
 use Rattle.base.specs.Pick.{pick}
 use Rattle.base.specs.Lists.{byteAt, part, within}
 use Rattle.base.specs.Spans.{span}
@@ -27,6 +27,18 @@ fields-of-entry s at e h = record { filled = both (fill s at e) _ (h .good) .0; 
 module _ (s : List ℕ) (i e : ℕ) where
   split : FieldsIn s i e → i < e → (leb (i + 3) e ≡ true) × (leb (fieldEnd s i) e ≡ true) × (fill s (fieldEnd s i) e ≡ true)
   split f h = three (leb (i + 3) e) (leb (fieldEnd s i) e) (fill s (fieldEnd s i) e) (sym (fill-next s i e h) ∙ f .filled)
+
+  -- fields do not end before they begin
+  pub fields-order : FieldsIn s i e → i ≤ e
+  fields-order f = go (leb i e) refl
+    where
+      go : (t : Bool) → leb i e ≡ t → i ≤ e
+      go true q = leb-true i e q
+      go false q =
+          let h = leb-false i e q in
+          let g : eqb i e ≡ true = sym (fill-end s i e (omega arith)) ∙ f .filled in
+          let z = eqb-true i e g in
+          absurd (omega arith)
 
   -- the field at `i` has its three bytes, ends in the entry, and fields follow
   pub fields-head : FieldsIn s i e → i < e → i + 3 ≤ length s

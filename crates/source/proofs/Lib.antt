@@ -1,1 +1,4 @@
 pub mod WriteLaws
+pub mod NameLaws
+pub mod NamesLaws
+pub mod YearLaws

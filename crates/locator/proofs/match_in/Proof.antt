@@ -6,26 +6,31 @@ use lib.ListN.{length, drop}
 use borrow.Author.Needs.{needs}
 use Rattle.locator.specs.Matchers.{matchers}
 use Rattle.locator.specs.Locators.{matchIn}
-use Rattle.locator.proofs.Rows.{rows as row-laws, row-room, match-next, match-here}
-use Rattle.locator.proofs.Words.{stands-room}
+use Rattle.locator.proofs.Rows.{rows as row-laws, row-order, row-room, match-next, match-here}
 use Rattle.locator.proofs.match_in.Statement.{statement}
 use Rattle.locator.proofs.match_in.Tie as tie
 
 abbrev Inv-loop : tie.InvT-loop
-Inv-loop text i e words rows k₀ k = matchIn matchers text i e ≡ matchIn (drop k matchers) text i e
+Inv-loop text i e words rows first k₀ k = matchIn matchers text i e ≡ matchIn (drop k matchers) text i e
 
 abbrev μ-loop : tie.MeasureT-loop
-μ-loop text i e words rows k₀ k = length rows - k
+μ-loop text i e words rows first k₀ k = length rows - k
 
 -- back from a matcher that stands: its test, the row's end and start, the turn, and the function's entry
-add-t26 : tie.Need-add-t26 Inv-loop μ-loop
-add-t26 c =
-    let tested = c .before .before .before in
-    let ended = tested .before in
+sub-t28 : tie.Need-sub-t28 Inv-loop μ-loop
+sub-t28 c =
+    let ended = c .before .before .before .before in
+    let began = ended .before .before in
+    let turn = began .before .before in
+    let entry = turn .before .before .before .before .before .before in
+    omega (arith, row-order _ _ _ (entry .pre .2) (turn .loop-test .taken) (began .wide .ensures) (ended .wide2 .ensures))
+
+add-t29 : tie.Need-add-t29 Inv-loop μ-loop
+add-t29 c =
+    let ended = c .before .before .before .before in
     let turn = ended .before .before .before .before in
-    let entry = turn .before .before .before .before in
-    let room = row-room _ _ _ (entry .pre .2) (turn .loop-test .taken) (ended .wide2 .ensures) in
-    omega (arith, stands-room _ _ _ _ _ _ (tested .stands-at .ensures) (c .before .before .if1 .taken) (entry .pre .0) room)
+    let entry = turn .before .before .before .before .before .before in
+    omega (arith, row-room _ _ _ (entry .pre .2) (turn .loop-test .taken) (ended .wide2 .ensures))
 
 returns : tie.Need-returns Inv-loop μ-loop
 returns c =
@@ -33,7 +38,7 @@ returns c =
     let ended = tested .before in
     let began = ended .before .before in
     let turn = began .before .before in
-    let entry = turn .before .before .before .before in
+    let entry = turn .before .before .before .before .before .before in
     match-here _ _ _ _ _ _ (entry .pre .2) (turn .before .loop .inv) (turn .loop-test .taken) (began .wide .ensures) (ended .wide2 .ensures)
     (tested .stands-at .ensures) (c .before .before .if1 .taken) (c .wide-code .ensures)
 
@@ -43,7 +48,7 @@ loop-again c =
     let ended = tested .before in
     let began = ended .before .before in
     let turn = began .before .before in
-    let entry = turn .before .before .before .before in
+    let entry = turn .before .before .before .before .before .before in
     match-next _ _ _ _ _ _ (entry .pre .2) (turn .before .loop .inv) (turn .loop-test .taken) (began .wide .ensures) (ended .wide2 .ensures)
     (tested .stands-at .ensures) (c .if1 .left)
 
@@ -54,6 +59,8 @@ match-in-spec =
     Inv-loop
     μ-loop
     (λ c. search (row-laws, needs))
+    (λ c κs. search (row-laws, needs))
+    (λ c. search (row-laws, needs))
     (λ c. search (row-laws, needs))
     (λ c. search (row-laws, needs))
     (λ c. search (row-laws, needs))
@@ -67,8 +74,8 @@ match-in-spec =
     (λ c. search (row-laws, needs))
     (λ c. search (row-laws, needs))
     (λ c κs. search (row-laws, needs))
-    (λ c. search (row-laws, needs))
-    add-t26
+    sub-t28
+    add-t29
     returns
     (λ c. search (row-laws, needs))
     (λ c. search (row-laws, needs))

@@ -1,0 +1,132 @@
+-- The names of an entry, one after the other.
+use Prim.Native.Nat.{ℕ, zero, suc, _+_, _-_, _*_, _≤_, _<_}
+use native.Mathlib.Omega.{arith}
+use mathlib.Core.Path.{_≡_, refl, ap, sym, _∙_}
+use mathlib.Core.List.{List, [], _∷_, _++_, append-assoc, append-nil}
+use mathlib.Core.Bool.{Bool, true, false}
+use mathlib.Core.Option.{Option, none, some}
+use mir.Val.{Fits}
+use mir.Syntax.{w64}
+use lib.ListN.{length, take, drop, length-append}
+use lib.Dec.{eqb}
+use borrow.Author.Tests.{eq-eqb, ne-eqb}
+use Rattle.base.specs.Pick.{pick}
+use Rattle.base.specs.Fold.{fold}
+use Rattle.base.specs.Lists.{byteAt, part, written}
+use Rattle.pool.specs.declared.Found.{Found}
+use Rattle.pool.specs.declared.Found.the-variants.{At, Missing}
+use Rattle.pool.specs.declared.NameParts.{NameParts}
+use Rattle.pool.specs.Fields.{Field, fieldEnd, fieldAt, fieldsOf}
+use Rattle.pool.specs.Entries.{Name, bytesOr, nameAfter, nameAt, namesIn, entryOf}
+use Rattle.pool.specs.Places.{bytesAt, Inside, nameAtParts, ReadsName, FieldsIn, EntryIn}
+use Rattle.pool.proofs.FieldLaws.{field-long, fields-next, fields-end}
+use Rattle.pool.proofs.ReaderLaws.{fields-of-entry, fields-order}
+use Rattle.source.specs.Text.{isEmpty, beside, nameBy, nameOf, addName, namesOf}
+use Rattle.source.specs.Lengths.{besideLen, opened, lenOf, familyLen, nameLenBy, nameLen, familyPart, givenPart, givenLen, addLen}
+use Rattle.source.proofs.NameLaws.{name-length}
+
+fold-append : {S A : Type 0} (f : S → A → S) (s : S) (a b : List A) → fold f s (a ++ b) ≡ fold f (fold f s a) b
+unfolding fold
+fold-append f s [] b = refl
+fold-append f s (x ∷ xs) b = fold-append f (f s x) xs b
+
+-- the length of two parts beside each other
+empty-is : (a : List ℕ) → isEmpty a ≡ eqb (length a) 0
+empty-is [] = refl
+empty-is (x ∷ xs) = sym (ne-eqb (suc (length xs)) 0 (λ h. omega arith))
+
+pub beside-length : (sep a b : List ℕ) → length (beside sep a b) ≡ besideLen (length a) (length sep) (length b)
+unfolding beside besideLen
+beside-length sep a b = rw (empty-is a, empty-is b) (go (eqb (length a) 0) (eqb (length b) 0))
+  where
+    go : (t u : Bool) → length (pick t b (pick u a (a ++ (sep ++ b)))) ≡ pick t (length b) (pick u (length a) (length a + length sep + length b))
+    go true u = refl
+    go false true = refl
+    go false false = simp length-append (omega arith)
+
+names-length : (a : List ℕ) (ns : List Name) → length (fold addName a ns) ≡ fold addLen (length a) ns
+unfolding fold addName addLen
+names-length a [] = refl
+names-length a (n ∷ ns) = names-length (beside (59 ∷ 32 ∷ []) a (nameOf n)) ns ∙ rw (beside-length (59 ∷ 32 ∷ []) a (nameOf n)) refl
+
+-- an entry's names, from the field at `i` on
+names-split : {S : Type 0} (f : S → Name → S) (z : S) (s : List ℕ) (i e : ℕ) → i < e
+    → fold f z (namesIn (fieldsOf s i e)) ≡ fold f (fold f z (nameAt (byteAt s i) (fieldsOf s (fieldEnd s i) e))) (namesIn (fieldsOf s (fieldEnd s i) e))
+unfolding namesIn fieldAt
+names-split f z s i e h = rw (fields-next s i e h) (fold-append f z (nameAt (byteAt s i) (fieldsOf s (fieldEnd s i) e)) (namesIn (fieldsOf s (fieldEnd s i) e)))
+
+module _ (s : List ℕ) (i e n : ℕ) where
+  pub names-next : {w k r : ℕ} → w ≡ fold addLen n (namesIn (fieldsOf s i e)) → i < e → k ≡ fieldEnd s i
+      → r ≡ fold addLen n (nameAt (byteAt s i) (fieldsOf s k e)) → w ≡ fold addLen r (namesIn (fieldsOf s k e))
+  names-next g h p q = g ∙ names-split addLen n s i e h ∙ rw (q, p) refl
+
+  pub names-end : {w : ℕ} → w ≡ fold addLen n (namesIn (fieldsOf s i e)) → e ≤ i → n ≡ w
+  unfolding namesIn fold
+  names-end g h = sym (g ∙ rw (fields-end s i e h) refl)
+
+pub names-start : (s : List ℕ) (at e : ℕ) → length (namesOf (entryOf (fieldsOf s at e))) ≡ fold addLen 0 (namesIn (fieldsOf s at e))
+unfolding namesOf entryOf
+names-start s at e = names-length [] (namesIn (fieldsOf s at e))
+
+-- one name
+beside-at-most : (a k b : ℕ) → besideLen a k b ≤ a + k + b
+unfolding besideLen
+beside-at-most a k b = go (eqb a 0) (eqb b 0)
+  where
+    go : (t u : Bool) → pick t b (pick u a (a + k + b)) ≤ a + k + b
+    go true u = omega arith
+    go false true = omega arith
+    go false false = omega arith
+
+inside-small : (s : List ℕ) (f : Found) → length s ≤ 32768 → Inside s f → lenOf f ≤ 32768
+inside-small s (At p) h i = omega arith
+inside-small s Missing h i = omega arith
+
+name-small : (l f g : Found) → lenOf l ≤ 32768 → lenOf f ≤ 32768 → lenOf g ≤ 32768 → nameLenBy l f g ≤ 65538
+unfolding nameLenBy familyLen givenLen
+name-small (At p) f g a b c = omega arith
+name-small Missing (At p) (At q) a b c = omega arith
+name-small Missing (At p) Missing a b c = omega arith
+name-small Missing Missing g a b c = omega arith
+
+module _ (s : List ℕ) (i n : ℕ) (r : NameParts) where
+  pub family-small : {x : Name} → length s ≤ 32768 → ReadsName s r x → lenOf (r .family) ≤ 32768
+  family-small h q = inside-small s (r .family) h (q .family)
+
+  pub given-small : {x : Name} → length s ≤ 32768 → ReadsName s r x → lenOf (r .given) ≤ 32768
+  given-small h q = inside-small s (r .given) h (q .given)
+
+  pub len-small : {x : Name} {m : ℕ} → length s ≤ 32768 → ReadsName s r x → m ≡ nameLen r → m ≤ 65538
+  unfolding nameLen
+  len-small h q e =
+      let a = inside-small s (r .literal) h (q .literal) in
+      rw e (name-small (r .literal) (r .family) (r .given) a (family-small h q) (given-small h q))
+
+  pub next-name : (fs : List Field) {m k : ℕ} → ReadsName s r (nameAfter fs) → m ≡ nameLen r → k ≡ besideLen n 2 m → byteAt s i ≡ 2
+      → k ≡ fold addLen n (nameAt (byteAt s i) fs)
+  unfolding nameAt fold addLen
+  next-name fs q e g t = rw (eq-eqb (byteAt s i) 2 t, ← q .name, ← name-length s r (q .literal) (q .family) (q .given), ← e) g
+
+  pub next-bound : (fs : List Field) {m k : ℕ} → length s ≤ 32768 → ReadsName s r (nameAfter fs) → m ≡ nameLen r → k ≡ besideLen n 2 m → k ≤ n + 65540
+  next-bound fs {m} h q e g = let a = len-small h q e in rw g (omega (arith, beside-at-most n 2 m))
+
+  pub next-sum : {x : Name} {m : ℕ} → length s ≤ 32768 → ReadsName s r x → m ≡ nameLen r → n ≤ 4294967296 → n + 2 + m < 9223372036854775808
+  next-sum h q e l = let a = len-small h q e in omega arith
+
+pub next-none : (s : List ℕ) (i n : ℕ) (fs : List Field) → (byteAt s i ≡ 2 → ⊥) → n ≡ fold addLen n (nameAt (byteAt s i) fs)
+unfolding nameAt fold
+next-none s i n fs t = rw (ne-eqb (byteAt s i) 2 t) refl
+
+pub ruleset next-laws = (family-small, given-small, next-sum, next-name, next-bound, next-none)
+
+-- the bounds of the loop
+pub names-small : (s : List ℕ) (i e n : ℕ) → n ≤ 65540 * i → i ≤ e → e ≤ length s → length s ≤ 32768 → n ≤ 4294967296
+names-small s i e n a b c d = omega arith
+
+pub names-grow : (s : List ℕ) (i n : ℕ) {k r : ℕ} → n ≤ 65540 * i → k ≡ fieldEnd s i → r ≤ n + 65540 → r ≤ 65540 * k
+names-grow s i n a p b = let l = field-long s i in omega arith
+
+pub entry-order : (s : List ℕ) (at e : ℕ) → EntryIn s at e → at ≤ e
+entry-order s at e h = fields-order s at e (fields-of-entry s at e h)
+
+pub ruleset names-laws = (names-start, names-next, names-end, names-small, names-grow, entry-order)

@@ -1,0 +1,38 @@
+-- A year of an entry: a number, or where its bytes lie in the pool.
+use Prim.Native.Nat.{ℕ, _+_, _≤_}
+use mathlib.Core.Path.{_≡_}
+use mathlib.Core.List.{List}
+use mathlib.Core.Option.{Option, none, some}
+use lib.ListN.{length}
+use Rattle.base.specs.Lists.{part}
+use Rattle.pool.specs.Numbers.{signed}
+use Rattle.source.specs.declared.Year.{Year}
+use Rattle.source.specs.declared.Year.the-variants.{Number, At, Missing}
+use Rattle.source.specs.Decimal.{signedDecimal}
+
+abbrev pub yearBytes : List ℕ → Year → Option (List ℕ)
+yearBytes s (Number negative magnitude) = some (signedDecimal (signed negative magnitude))
+yearBytes s (At p) = some (part s (p .at) (p .at + p .len))
+yearBytes s Missing = none
+
+abbrev pub YearInside : List ℕ → Year → Type 0
+YearInside s (Number negative magnitude) = Unit {0}
+YearInside s (At p) = p .at + p .len ≤ length s
+YearInside s Missing = Unit {0}
+
+-- a year that is written with the bytes that are said
+pub record ReadsYear (s : List ℕ) (r : Year) (o : Option (List ℕ)) : Type 0 where
+  pub bytes : yearBytes s r ≡ o
+  pub inside : YearInside s r
+
+-- the bytes of the pool that it has
+abbrev pub yearLen : Year → ℕ
+yearLen (Number negative magnitude) = 0
+yearLen (At p) = p .len
+yearLen Missing = 0
+
+-- the length of the year in parentheses
+unfoldable pub parensLen : Year → ℕ
+parensLen (Number negative magnitude) = 2 + length (signedDecimal (signed negative magnitude))
+parensLen (At p) = 2 + p .len
+parensLen Missing = 0
