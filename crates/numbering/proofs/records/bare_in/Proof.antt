@@ -8,7 +8,7 @@ pub bare-in-spec : {M : Type 1} → statement M
 bare-in-spec =
     tie.close
     (tie.spec
-    (λ c κs. search needs)  -- item-field-requires
-    (λ c κs. search needs)  -- item-field-requires-2
-    (λ c κs. search needs)  -- item-field-requires-3
-    (λ c. search (laws, needs)))  -- returns
+    (λ c κs. search needs)
+    (λ c κs. search needs)
+    (λ c κs. search needs)
+    (λ c. search (laws, needs)))

@@ -8,9 +8,9 @@ pub close-of-record-spec : {M : Type 1} → statement M
 close-of-record-spec =
     tie.close
     (tie.spec
-    (λ c κs. search needs)  -- group-field-requires
-    (λ c κs. search needs)  -- group-field-requires-2
-    (λ c. search needs)  -- add-end
-    (λ c. search needs)  -- sub-result
-    (λ c. search (laws, needs))  -- returns
-    (λ c. search (laws, needs)))  -- returns-2
+    (λ c κs. search needs)
+    (λ c κs. search needs)
+    (λ c. search needs)
+    (λ c. search needs)
+    (λ c. search (laws, needs))
+    (λ c. search (laws, needs)))

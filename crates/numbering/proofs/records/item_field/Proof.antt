@@ -8,7 +8,7 @@ pub item-field-spec : {M : Type 1} → statement M
 item-field-spec =
     tie.close
     (tie.spec
-    (λ c. search needs)  -- mul-number-at
-    (λ c. search needs)  -- add-number-at
-    (λ c κs. search needs)  -- number-at-requires
-    (λ c. search (laws, needs)))  -- returns
+    (λ c. search needs)
+    (λ c. search needs)
+    (λ c κs. search needs)
+    (λ c. search (laws, needs)))

@@ -8,7 +8,7 @@ pub key-in-spec : {M : Type 1} → statement M
 key-in-spec =
     tie.close
     (tie.spec
-    (λ c κs. search needs)  -- item-field-requires
-    (λ c κs. search needs)  -- item-field-requires-2
-    (λ c κs. search needs)  -- part-of-requires
-    (λ c. search (laws, needs)))  -- returns
+    (λ c κs. search needs)
+    (λ c κs. search needs)
+    (λ c κs. search needs)
+    (λ c. search (laws, needs)))

@@ -8,8 +8,8 @@ pub next-in-spec : {M : Type 1} → statement M
 next-in-spec =
     tie.close
     (tie.spec
-    (λ c. search needs)  -- add-if1
-    (λ c. search needs)  -- add-group-field
-    (λ c κs. search needs)  -- group-field-requires
-    (λ c. search (laws, needs))  -- returns
-    (λ c. search (laws, needs)))  -- returns-2
+    (λ c. search needs)
+    (λ c. search needs)
+    (λ c κs. search needs)
+    (λ c. search (laws, needs))
+    (λ c. search (laws, needs)))

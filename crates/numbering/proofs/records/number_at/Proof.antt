@@ -8,8 +8,8 @@ pub number-at-spec : {M : Type 1} → statement M
 number-at-spec =
     tie.close
     (tie.spec
-    (λ c. search needs)  -- mul-wide
-    (λ c. search needs)  -- shared-slice-read-wide
-    (λ c κs. search needs)  -- wide-requires
-    (λ c. search needs)  -- returns
-    (λ c. search (laws, needs)))  -- returns-2
+    (λ c. search needs)
+    (λ c. search needs)
+    (λ c κs. search needs)
+    (λ c. search needs)
+    (λ c. search (laws, needs)))

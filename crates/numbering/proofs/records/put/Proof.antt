@@ -8,8 +8,8 @@ pub put-spec : {M : Type 1} → statement M
 put-spec =
     tie.close
     (tie.spec
-    (λ c. search (laws, needs))  -- returns
-    (λ c. search needs)  -- mul-area
-    (λ c. search needs)  -- slice-write-area
-    (λ c. search needs)  -- same-length
-    (λ c. search needs))  -- returns-2
+    (λ c. search (laws, needs))
+    (λ c. search needs)
+    (λ c. search needs)
+    (λ c. search needs)
+    (λ c. search needs))

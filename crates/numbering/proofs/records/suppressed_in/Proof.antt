@@ -8,5 +8,5 @@ pub suppressed-in-spec : {M : Type 1} → statement M
 suppressed-in-spec =
     tie.close
     (tie.spec
-    (λ c κs. search needs)  -- item-field-requires
-    (λ c. search (laws, needs)))  -- returns
+    (λ c κs. search needs)
+    (λ c. search (laws, needs)))
