@@ -1,4 +1,5 @@
 pub mod Order
 pub mod Records
+pub mod Defined
 pub mod Numbers
 pub mod References

@@ -1,0 +1,13 @@
+-- `numbering::lines::starts` meets its contract. Assumes nothing.
+use borrow.Author.Needs.{needs}
+use Rattle.numbering.proofs.LineLaws.{define-laws}
+use Rattle.numbering.proofs.lines.starts.Statement.{statement}
+use Rattle.numbering.proofs.lines.starts.Tie as tie
+
+pub starts-spec : {M : Type 1} → statement M
+starts-spec =
+    tie.close
+    (tie.spec
+    (λ c κs. search needs)
+    (λ c. search needs)
+    (λ c. search (define-laws, needs)))
