@@ -1,3 +1,4 @@
 pub mod AtBracket
 pub mod LooksUp
 pub mod Parts
+pub mod Laws

@@ -1,10 +1,12 @@
 -- One bracket as the code resolves it: what it gives before a build, and its close after one.
-use Prim.Native.Nat.{ℕ, _-_}
+use Prim.Native.Nat.{ℕ, _-_, _<_}
+use mathlib.Core.Path.{_≡_}
 use mathlib.Core.List.{List}
 use mathlib.Core.Bool.{Bool, true, false}
 use lib.ListN.{length}
 use lib.Dec.{leb}
 use Rattle.base.specs.Pick.{pick}
+use Rattle.base.specs.Lists.{byteAt}
 use Rattle.close.specs.declared.Close.{Close}
 use Rattle.close.specs.declared.Close.the-variants.{At, Nothing}
 use Rattle.lookup.specs.declared.Look.{Look}
@@ -42,3 +44,14 @@ closeAfter s p index Build = storedClose s p index
 unfoldable pub matched : GroupAnswer → Matched
 matched (Found g) = MatchedGroup (g .close) (length (g .items))
 matched NoGroup = NotMatched
+
+-- a close that lies after its bracket at `p`, in the text, at a `]`
+abbrev pub Inside : List ℕ → ℕ → Close → Type 0
+Inside s p (At c) = (p < c) × (c < length s) × (byteAt s c ≡ 93)
+Inside s p Nothing = Unit {0}
+
+-- the same of what a look gives
+abbrev pub LookInside : List ℕ → ℕ → Look → Type 0
+LookInside s p (LookAt c) = Inside s p (At c)
+LookInside s p LookNothing = Unit {0}
+LookInside s p Build = Unit {0}

@@ -12,7 +12,7 @@ use Rattle.close.specs.declared.Close.{Close}
 use Rattle.close.specs.declared.Close.the-variants.{At, Nothing}
 use Rattle.index.specs.Entries.{opensAt}
 use Rattle.index.specs.Built.{builtIndex}
-use Rattle.lookup.specs.Groups.{Group, GroupAnswer, Found, NoGroup, groupOf, accepted, judge}
+use Rattle.lookup.specs.Groups.{Group, GroupAnswer, Found, NoGroup, groupOf, groupAccepted, judge}
 use Rattle.lookup.specs.Resolve.{storedClose, shortLook, orElse, isNothing, closeAsRun, groupAsRun, wantsBuild, noteAfter, indexAfter, recordsAfter}
 use Rattle.sweep.specs.Sweep.{Lent, Swept, swept, listed, nextAt, lentAfter, foundRun, buildsAt, sweepRunIn, sweepRun}
 use Rattle.sweep.specs.Stops.{Stop, stop, foundWith, wantsAt, after, stopIn, stopFrom}
@@ -22,7 +22,7 @@ use Rattle.sweep.proofs.Sizes.{After, run-after}
 -- a sweep goes on by a byte or more
 next-judged : (s : List ℕ) (p : ℕ) (c : Close) → After s p c → p < nextAt p (judge s p c)
 unfolding judge groupOf
-next-judged s p (At c) h = go (accepted s p c)
+next-judged s p (At c) h = go (groupAccepted s p c)
   where
     go : (t : Bool) → p < nextAt p (pick t (Found (groupOf s p c)) NoGroup)
     go true = let k = h .0 in omega arith
