@@ -3,3 +3,4 @@ pub mod Sizes
 pub mod Stops
 pub mod Lines
 pub mod Laws
+pub mod Steps

@@ -1,4 +1,5 @@
 // The sweep: left to right, each unescaped `[`; the records of the groups found.
+use close::Close;
 use definition::bytes::find_byte;
 use definition::line::break_at;
 use definition::line::colon_after;
@@ -6,6 +7,11 @@ use definition::line::starts_line;
 use item::Parsed;
 use item::items_start;
 use item::parse_item;
+use lookup::Look;
+use lookup::Matched;
+use lookup::look_at;
+use lookup::match_citation;
+use text::is_escaped_at;
 ghost use mathlib.Core.Path.{_≡_};
 ghost use mathlib.Core.Bool.{true, false, _&&_};
 ghost use Prim.Native.Nat.{_+_, _-_, _*_, _≤_, _<_};
@@ -19,7 +25,7 @@ ghost use Rattle.lookup.specs.Groups.{groupOf, groupAccepted};
 ghost use Rattle.definition.specs.Lines.{onlyKey, defines, inLine};
 ghost use Rattle.sweep.specs.Rows.{placed, groupRow};
 ghost use Rattle.sweep.specs.Stops.{startState, recordsFit};
-ghost use Rattle.sweep.specs.Steps.{GroupFrom};
+ghost use Rattle.sweep.specs.Steps.{stepAt, GroupFrom};
 ghost use Rattle.sweep.specs.Facts.{SizeEnough, SizeEnoughRun, SweepInTwo};
 
 // Where a sweep stands: its place, the counts of the groups and items so far, whether the last group stands in a definition line and
@@ -62,6 +68,28 @@ fn has_room(n: usize, g: usize, items: usize, groups: usize) -> bool
     ensures { λ r. ⌜ r ≡ recordsFit n g items groups ⌝ }
 {
     (16 * n <= items) & (5 * g <= groups)
+}
+
+// What the `[` at `at` gives.
+fn step_at(text: &[u8], note: u8, index: &[u16], at: usize) -> Step
+    requires { ⌜ (at < length (now text)) × (byteAt (now text) at ≡ 91) ⌝ }
+    ensures { λ r. ⌜ r ≡ stepAt (now (text .entry)) note (now (index .entry)) at ⌝ }
+{
+    if is_escaped_at(text, at) {
+        return Step::Next;
+    }
+    let look = look_at(text, at, note, index);
+    match look {
+        Look::At(c) => {
+            let matched = match_citation(text, at, Close::At(c));
+            match matched {
+                Matched::Group { close, count } => Step::Group { close, count },
+                Matched::Nothing => Step::Next,
+            }
+        }
+        Look::Nothing => Step::Next,
+        Look::Build => Step::Build,
+    }
 }
 
 // Whether the group from `at` to `close`, of `count` items, is a key alone: "one item, no prefix, no locator, not suppressed".
