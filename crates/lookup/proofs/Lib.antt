@@ -2,3 +2,5 @@ pub mod AtBracket
 pub mod LooksUp
 pub mod Parts
 pub mod Laws
+pub mod Areas
+pub mod RowLaws
