@@ -23,26 +23,14 @@ use Rattle.pool.proofs.FieldLaws.{field-long, fields-next, fields-end}
 use Rattle.pool.proofs.ReaderLaws.{fields-of-entry, fields-order}
 use Rattle.source.specs.Text.{isEmpty, beside, nameBy, nameOf, addName, namesOf}
 use Rattle.source.specs.Lengths.{besideLen, opened, lenOf, familyLen, nameLenBy, nameLen, familyPart, givenPart, givenLen, addLen}
+use Rattle.source.specs.Room.{NameFits}
+use Rattle.source.proofs.WriteLaws.{beside-length, rest-room, Fit, fit-total, fit-opened, fit-rest, fit-written}
 use Rattle.source.proofs.NameLaws.{name-length}
 
 fold-append : {S A : Type 0} (f : S → A → S) (s : S) (a b : List A) → fold f s (a ++ b) ≡ fold f (fold f s a) b
 unfolding fold
 fold-append f s [] b = refl
 fold-append f s (x ∷ xs) b = fold-append f (f s x) xs b
-
--- the length of two parts beside each other
-empty-is : (a : List ℕ) → isEmpty a ≡ eqb (length a) 0
-empty-is [] = refl
-empty-is (x ∷ xs) = sym (ne-eqb (suc (length xs)) 0 (λ h. omega arith))
-
-pub beside-length : (sep a b : List ℕ) → length (beside sep a b) ≡ besideLen (length a) (length sep) (length b)
-unfolding beside besideLen
-beside-length sep a b = rw (empty-is a, empty-is b) (go (eqb (length a) 0) (eqb (length b) 0))
-  where
-    go : (t u : Bool) → length (pick t b (pick u a (a ++ (sep ++ b)))) ≡ pick t (length b) (pick u (length a) (length a + length sep + length b))
-    go true u = refl
-    go false true = refl
-    go false false = simp length-append (omega arith)
 
 names-length : (a : List ℕ) (ns : List Name) → length (fold addName a ns) ≡ fold addLen (length a) ns
 unfolding fold addName addLen
@@ -130,3 +118,53 @@ pub entry-order : (s : List ℕ) (at e : ℕ) → EntryIn s at e → at ≤ e
 entry-order s at e h = fields-order s at e (fields-of-entry s at e h)
 
 pub ruleset names-laws = (names-start, names-next, names-end, names-small, names-grow, entry-order)
+
+-- a name written after those so far
+module _ (s : List ℕ) (n : NameParts) (area : List ℕ) (k : ℕ) (f : NameFits s n area k) where
+  name-fit : Fit area (59 ∷ 32 ∷ []) (nameOf (nameAtParts s n)) k
+  unfolding addName
+  name-fit = record { front = f .front; room = f .room }
+
+  pub fits-family : lenOf (n .family) ≤ 32768
+  fits-family = inside-small s (n .family) (f .small) (f .family)
+
+  pub fits-given : lenOf (n .given) ≤ 32768
+  fits-given = inside-small s (n .given) (f .small) (f .given)
+
+  long : {m : ℕ} → m ≡ nameLen n → m ≡ length (nameOf (nameAtParts s n))
+  long e = e ∙ name-length s n (f .literal) (f .family) (f .given)
+
+  pub name-opened : {m : ℕ} → m ≡ nameLen n → length (opened (59 ∷ 32 ∷ []) (take k area) m) ≤ length area
+  name-opened e = rw (long e) (fit-opened area (59 ∷ 32 ∷ []) (nameOf (nameAtParts s n)) k name-fit)
+
+  total : (m at : ℕ) (one : List ℕ) → m ≡ nameLen n → at ≡ length (opened (59 ∷ 32 ∷ []) (take k area) m)
+      → one ≡ written (opened (59 ∷ 32 ∷ []) (take k area) m) area → at + m ≤ length one
+  total m at one e g o =
+      rw (long e) (fit-rest area (59 ∷ 32 ∷ []) (nameOf (nameAtParts s n)) k name-fit one at (rw (long e) at g) (rw (long e) at o))
+
+  pub name-start : {m at : ℕ} (one : List ℕ) → m ≡ nameLen n → at ≡ length (opened (59 ∷ 32 ∷ []) (take k area) m)
+      → one ≡ written (opened (59 ∷ 32 ∷ []) (take k area) m) area → at ≤ length one
+  name-start {m} {at} one e g o = omega (arith, total m at one e g o)
+
+  pub name-room : {m : ℕ} (at : ℕ) (one : List ℕ) → m ≡ nameLen n → at ≡ length (opened (59 ∷ 32 ∷ []) (take k area) m)
+      → one ≡ written (opened (59 ∷ 32 ∷ []) (take k area) m) area → nameLen n ≤ length (take (length one - at) (drop at one))
+  name-room {m} at one e g o = rw (← e) (rest-room one at m (total m at one e g o))
+
+  pub name-sum : {m at : ℕ} (one : List ℕ) → m ≡ nameLen n → at ≡ length (opened (59 ∷ 32 ∷ []) (take k area) m)
+      → one ≡ written (opened (59 ∷ 32 ∷ []) (take k area) m) area → length one ≡ length area → length area < 18446744073709551616 → Fits w64 (at + m)
+  name-sum {m} {at} one e g o l h = omega (arith, total m at one e g o)
+
+  pub name-count : {m at : ℕ} → m ≡ nameLen n → at ≡ length (opened (59 ∷ 32 ∷ []) (take k area) m)
+      → at + m ≡ length (addName (take k area) (nameAtParts s n))
+  unfolding addName
+  name-count {m} {at} e g =
+      rw (g, long e) (fit-total area (59 ∷ 32 ∷ []) (nameOf (nameAtParts s n)) k name-fit)
+
+  pub name-written : {m at : ℕ} {rest : List ℕ} (one : List ℕ) → m ≡ nameLen n → at ≡ length (opened (59 ∷ 32 ∷ []) (take k area) m)
+      → one ≡ written (opened (59 ∷ 32 ∷ []) (take k area) m) area → rest ≡ written (nameOf (nameAtParts s n)) (take (length one - at) (drop at one))
+      → take at one ++ (rest ++ drop (length one - at) (drop at one)) ≡ written (addName (take k area) (nameAtParts s n)) area
+  unfolding addName
+  name-written {m} {at} {rest} one e g o r =
+      fit-written area (59 ∷ 32 ∷ []) (nameOf (nameAtParts s n)) k name-fit one rest at (rw (long e) at g) (rw (long e) at o) r
+
+pub ruleset add-name-laws = (fits-family, fits-given, name-opened, name-start, name-room, name-sum, name-count, name-written)

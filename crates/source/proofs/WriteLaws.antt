@@ -8,7 +8,7 @@ use mathlib.Core.Logic.{_⊎_, inl, inr}
 use lib.ListN.{length, take, drop, take-append-drop, set, length-append, length-take, length-drop, drop-of-length-le}
 use lib.Dec.{eqb}
 use lib.Seq.{take-all, take-length, take-at, drop-at, drop-drop, drop-cons, set-at, length-take-le}
-use borrow.Author.Tests.{eq-eqb, ne-eqb}
+use borrow.Author.Tests.{eq-eqb, ne-eqb, eqb-true}
 use Rattle.base.specs.Pick.{pick}
 use Rattle.base.specs.Lists.{part, written}
 use Rattle.pool.proofs.PartLaws.{part-in, part-length}
@@ -124,3 +124,57 @@ module _ (s sep : List ℕ) (k m : ℕ) where
       rw (opened-sep h n z) (written-after s s (take k s) sep p k (kept h) (sym q) (omega arith) e)
 
 pub ruleset separate-laws = (start-count, start-area, end-count, end-area, sep-room, sep-count, sep-area)
+
+-- two parts beside each other: the second one written after what stands before it
+empty-is : (a : List ℕ) → isEmpty a ≡ eqb (length a) 0
+empty-is [] = refl
+empty-is (x ∷ xs) = sym (ne-eqb (suc (length xs)) 0 (λ h. omega arith))
+
+no-bytes : (b : List ℕ) → eqb (length b) 0 ≡ true → b ≡ []
+no-bytes [] e = refl
+no-bytes (x ∷ xs) e = let h = eqb-true (suc (length xs)) 0 e in absurd (omega arith)
+
+beside-opened : (sep a b : List ℕ) → beside sep a b ≡ opened sep a (length b) ++ b
+unfolding beside opened
+beside-opened sep a b = rw (empty-is a, empty-is b) (go (eqb (length a) 0) (eqb (length b) 0) refl refl)
+  where
+    go : (t u : Bool) → eqb (length a) 0 ≡ t → eqb (length b) 0 ≡ u → pick t b (pick u a (a ++ (sep ++ b))) ≡ pick t a (pick u a (a ++ sep)) ++ b
+    go true u p q = rw (no-bytes a p) refl
+    go false true p q = rw (no-bytes b q, append-nil) refl
+    go false false p q = sym (append-assoc a sep b)
+
+pub beside-length : (sep a b : List ℕ) → length (beside sep a b) ≡ besideLen (length a) (length sep) (length b)
+unfolding beside besideLen
+beside-length sep a b = rw (empty-is a, empty-is b) (go (eqb (length a) 0) (eqb (length b) 0))
+  where
+    go : (t u : Bool) → length (pick t b (pick u a (a ++ (sep ++ b)))) ≡ pick t (length b) (pick u (length a) (length a + length sep + length b))
+    go true u = refl
+    go false true = refl
+    go false false = simp length-append (omega arith)
+
+-- `b` has room beside the first `k` bytes of `s`
+pub record Fit (s sep b : List ℕ) (k : ℕ) : Type 0 where
+  pub front : k ≤ length s
+  pub room : length (beside sep (take k s) b) ≤ length s
+
+module _ (s sep b : List ℕ) (k : ℕ) (f : Fit s sep b k) where
+  pub fit-total : length (opened sep (take k s) (length b)) + length b ≡ length (beside sep (take k s) b)
+  fit-total = rw (beside-opened sep (take k s) b, length-append) refl
+
+  pub fit-opened : length (opened sep (take k s) (length b)) ≤ length s
+  fit-opened = let l = f .room in omega (arith, fit-total)
+
+  pub fit-rest : (one : List ℕ) (at : ℕ) → at ≡ length (opened sep (take k s) (length b)) → one ≡ written (opened sep (take k s) (length b)) s
+      → at + length b ≤ length one
+  fit-rest one at e o =
+      let w = written-length (opened sep (take k s) (length b)) s fit-opened in
+      let l = f .room in
+      rw o (omega (arith, fit-total))
+
+  pub fit-written : (one rest : List ℕ) (at : ℕ) → at ≡ length (opened sep (take k s) (length b)) → one ≡ written (opened sep (take k s) (length b)) s
+      → rest ≡ written b (take (length one - at) (drop at one))
+      → take at one ++ (rest ++ drop (length one - at) (drop at one)) ≡ written (beside sep (take k s) b) s
+  fit-written one rest at e o g =
+      let l = f .room in
+      rw (beside-opened sep (take k s) b)
+      (written-after s one (opened sep (take k s) (length b)) b rest at o e (omega (arith, fit-total)) g)

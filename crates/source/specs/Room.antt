@@ -1,0 +1,17 @@
+-- What the writers require: parts that lie in the pool, and room for what is written.
+use Prim.Native.Nat.{ℕ, _≤_}
+use mathlib.Core.List.{List}
+use lib.ListN.{length, take}
+use Rattle.pool.specs.declared.NameParts.{NameParts}
+use Rattle.pool.specs.Places.{Inside, nameAtParts}
+use Rattle.source.specs.Text.{addName}
+use Rattle.source.specs.Lengths.{lenOf}
+
+-- a name has room after the first `k` bytes of an area
+pub record NameFits (s : List ℕ) (n : NameParts) (area : List ℕ) (k : ℕ) : Type 0 where
+  pub small : length s ≤ 32768
+  pub literal : Inside s (n .literal)
+  pub family : Inside s (n .family)
+  pub given : Inside s (n .given)
+  pub front : k ≤ length area
+  pub room : length (addName (take k area) (nameAtParts s n)) ≤ length area
