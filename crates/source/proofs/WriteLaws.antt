@@ -7,7 +7,7 @@ use mathlib.Core.Bool.{Bool, true, false}
 use mathlib.Core.Logic.{_⊎_, inl, inr}
 use lib.ListN.{length, take, drop, take-append-drop, set, length-append, length-take, length-drop, drop-of-length-le}
 use lib.Dec.{eqb}
-use lib.Seq.{take-all, take-length, take-at, drop-at, drop-drop, drop-cons, set-at, length-take-le}
+use lib.Seq.{take-all, take-length, take-at, drop-at, drop-drop, drop-append-add, drop-cons, set-at, length-take-le}
 use borrow.Author.Tests.{eq-eqb, ne-eqb, eqb-true}
 use Rattle.base.specs.Pick.{pick}
 use Rattle.base.specs.Lists.{part, written}
@@ -78,11 +78,24 @@ part-copied pool s a n h e = rw (part-in pool a (a + n) (omega arith) h) at e
 pub rest-room : (s : List ℕ) (k n : ℕ) → k + n ≤ length s → n ≤ length (take (length s - k) (drop k s))
 rest-room s k n h = simp (length-take, length-drop) (omega arith)
 
+-- the front of an area is there already
+pub written-kept : (s : List ℕ) (k : ℕ) → k ≤ length s → s ≡ written (take k s) s
+unfolding written
+written-kept s k h = rw (length-take-le k s h) (sym (take-append-drop k s))
+
+-- what is written over a shorter front
+pub written-over : (a b s : List ℕ) → length a ≤ length b → written b (written a s) ≡ written b s
+unfolding written
+written-over a b s h =
+    let d : length b ≡ length a + (length b - length a) = omega arith in
+    let p : drop (length b) (a ++ drop (length a) s) ≡ drop (length b) s =
+    rw d (drop-append-add a (drop (length a) s) (length b - length a) ∙ drop-drop (length b - length a) (length a) s) in
+    rw p refl
+
 -- a separator after the first `k` bytes, before `m` more
 module _ (s sep : List ℕ) (k m : ℕ) where
   kept : k ≤ length s → s ≡ written (take k s) s
-  unfolding written
-  kept h = rw (length-take-le k s h) (sym (take-append-drop k s))
+  kept h = written-kept s k h
 
   opened-kept : k ≤ length s → (k ≡ 0) ⊎ (m ≡ 0) → opened sep (take k s) m ≡ take k s
   unfolding opened
