@@ -24,8 +24,8 @@ use Rattle.pool.proofs.FieldLaws.{field-long, field-shrinks, fields-next, field
 use Rattle.pool.proofs.ReaderLaws.{fields-of-entry, fields-order, fields-head, fields-rest}
 use Rattle.source.specs.Text.{isEmpty, beside, nameBy, nameOf, addName, namesOf}
 use Rattle.source.specs.Lengths.{besideLen, opened, lenOf, familyLen, nameLenBy, nameLen, familyPart, givenPart, givenLen, addLen}
-use Rattle.source.specs.Room.{NameFits, NextFits}
-use Rattle.source.proofs.WriteLaws.{beside-length, written-none, written-kept, written-over, written-front, written-length, rest-room, Fit, fit-total, fit-opened, fit-rest, fit-written}
+use Rattle.source.specs.Room.{Fit, NameFits, NextFits}
+use Rattle.source.proofs.WriteLaws.{beside-length, beside-more, written-none, written-kept, written-over, written-front, written-length, rest-room, fit-total, fit-opened, fit-rest, fit-written}
 use Rattle.source.proofs.NameLaws.{name-length}
 
 fold-append : {S A : Type 0} (f : S → A → S) (s : S) (a b : List A) → fold f s (a ++ b) ≡ fold f (fold f s a) b
@@ -211,15 +211,6 @@ module _ (s : List ℕ) (i end e : ℕ) (area : List ℕ) (k : ℕ) where
 pub ruleset write-next-laws = (next-fits, next-count, next-written, skip-count, skip-written)
 
 -- names only grow
-beside-more : (sep a b : List ℕ) → length a ≤ length (beside sep a b)
-unfolding besideLen
-beside-more sep a b = rw beside-length (go (eqb (length a) 0) refl (eqb (length b) 0))
-  where
-    go : (t : Bool) → eqb (length a) 0 ≡ t → (u : Bool) → length a ≤ pick t (length b) (pick u (length a) (length a + length sep + length b))
-    go true p u = let q = eqb-true (length a) 0 p in omega arith
-    go false p true = omega arith
-    go false p false = omega arith
-
 names-more : (a : List ℕ) (ns : List Name) → length a ≤ length (fold addName a ns)
 unfolding fold addName
 names-more a [] = omega arith

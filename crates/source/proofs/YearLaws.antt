@@ -174,6 +174,14 @@ missing-is s (Number n m) z = absurd (omega arith)
 missing-is s (YearAt p) z = absurd (omega arith)
 missing-is s NoYear z = refl
 
+pub parens-length : (s : List ℕ) (y : Year) → YearInside s y → parensLen y ≡ length (inParens (yearBytes s y))
+unfolding parensLen inParens
+parens-length s (Number n m) i = rw length-append (omega arith)
+parens-length s (YearAt p) i =
+    let l = part-length s (p .at) (p .at + p .len) (omega arith) i in
+    rw length-append (omega arith)
+parens-length s NoYear i = refl
+
 module _ (s : List ℕ) (y : Year) (n : ℕ) where
   pub parens-missing : (area : List ℕ) → n ≡ parensLen y → n ≡ 0 → area ≡ written (inParens (yearBytes s y)) area
   parens-missing area e z = rw (missing-is s y (sym e ∙ z)) (written-none area)

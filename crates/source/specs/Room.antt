@@ -8,8 +8,13 @@ use Rattle.base.specs.Lists.{byteAt}
 use Rattle.pool.specs.Fields.{fieldsOf}
 use Rattle.pool.specs.Entries.{nameAt}
 use Rattle.pool.specs.Places.{Inside, nameAtParts, FieldsIn}
-use Rattle.source.specs.Text.{addName}
+use Rattle.source.specs.Text.{beside, addName}
 use Rattle.source.specs.Lengths.{lenOf}
+
+-- `b` has room beside the first `k` bytes of an area, with `sep` between them
+pub record Fit (area sep b : List ℕ) (k : ℕ) : Type 0 where
+  pub front : k ≤ length area
+  pub room : length (beside sep (take k area) b) ≤ length area
 
 -- a name has room after the first `k` bytes of an area
 pub record NameFits (s : List ℕ) (n : NameParts) (area : List ℕ) (k : ℕ) : Type 0 where
