@@ -23,7 +23,7 @@ use Rattle.numbering.specs.Records.{itemField, keyIn, definitionIn}
 use Rattle.numbering.specs.Numbers.{Numbered}
 use Rattle.numbering.specs.Order.{less, Ranked, insert}
 use Rattle.numbering.specs.References.{firstWith, sourceKeyIn, rankIn, rankedIn, referencesIn}
-use Rattle.numbering.proofs.Lines.{definition-same}
+use Rattle.numbering.proofs.ByLines.{definition-same}
 use Rattle.annotation.specs.Sources.{Source, placeOf, numberOf}
 use Rattle.annotation.specs.Order.{rankOf, rankedFrom, referencesOf}
 use Rattle.annotation.specs.Content.{placedFrom, placedOf, tallyOf, contentOf}

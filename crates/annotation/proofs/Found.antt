@@ -10,7 +10,7 @@ use Rattle.base.specs.Sorted.{Each}
 use Rattle.close.specs.declared.Close.{Close}
 use Rattle.close.specs.declared.Close.the-variants.{At, Nothing}
 use Rattle.index.specs.Entries.{opensAt}
-use Rattle.lookup.specs.Groups.{Group, Found, NoGroup, groupOf, accepted, judge}
+use Rattle.lookup.specs.Groups.{Group, Found, NoGroup, groupOf, groupAccepted, judge}
 use Rattle.lookup.specs.Resolve.{closeAsRun, groupAsRun}
 use Rattle.sweep.specs.Sweep.{Lent, Swept, swept, listed, nextAt, lentAfter, foundRun, buildsAt, sweepRunIn, sweepRun}
 use Rattle.sweep.proofs.Sizes.{After, run-after, size-enough-run}
@@ -25,7 +25,7 @@ each-append P (x ∷ xs) ys h k = (h .0, each-append P xs ys (h .1) k)
 
 judged-within : (text : List ℕ) (p : ℕ) (c : Close) → After text p c → Each (Within text) (listed (judge text p c))
 unfolding judge groupOf
-judged-within text p (At c) k = go (accepted text p c)
+judged-within text p (At c) k = go (groupAccepted text p c)
   where
     go : (t : Bool) → Each (Within text) (listed (pick t (Found (groupOf text p c)) NoGroup))
     go true = (k, tt)

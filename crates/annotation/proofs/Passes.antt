@@ -37,7 +37,7 @@ use Rattle.numbering.specs.Numbers.{
   numberAll,
 }
 use Rattle.numbering.proofs.Fields.{item-field, set-last, set-standing, SameItems, SameGroups, set-last-same, set-standing-same, set-last-other}
-use Rattle.numbering.proofs.Lines.{
+use Rattle.numbering.proofs.ByLines.{
   key-same,
   definition-same,
   key-at,
