@@ -3,3 +3,4 @@ pub mod NameLaws
 pub mod NamesLaws
 pub mod YearLaws
 pub mod TextLaws
+pub mod CallLaws
