@@ -68,22 +68,15 @@ module _ (s : List ℕ) (at n m : ℕ) {r : ℕ} (q : r ≡ textRefusal s) where
         refused-escaped t = rw (lt-ltb at (length s) h, eq-eqb _ _ e, sym d ∙ t) (sym (passed 4))
 
         module _ (f : b ≡ false) where
-          pub refused-index : n < length s → 9 ≡ lookUpRefusal s at n m
+          pub refused-few : (ltb n (length s) || ltb m (length s)) ≡ true → 9 ≡ lookUpRefusal s at n m
           unfolding lookUpRefusal tooFew
-          refused-index g = rw (lt-ltb at (length s) h, eq-eqb _ _ e, sym d ∙ f, lt-ltb n (length s) g) (sym (passed 9))
+          refused-few t = rw (lt-ltb at (length s) h, eq-eqb _ _ e, sym d ∙ f, t) (sym (passed 9))
 
-          module _ (g : length s ≤ n) where
-            pub refused-records : m < length s → 9 ≡ lookUpRefusal s at n m
-            unfolding lookUpRefusal tooFew
-            refused-records k =
-                rw (lt-ltb at (length s) h, eq-eqb _ _ e, sym d ∙ f, le-ltb n (length s) g, lt-ltb m (length s) k) (sym (passed 9))
+          pub refused-not : (ltb n (length s) || ltb m (length s)) ≡ false → 0 ≡ lookUpRefusal s at n m
+          unfolding lookUpRefusal tooFew
+          refused-not t = rw (lt-ltb at (length s) h, eq-eqb _ _ e, sym d ∙ f, t) (sym (passed 0))
 
-            pub refused-not : length s ≤ m → 0 ≡ lookUpRefusal s at n m
-            unfolding lookUpRefusal tooFew
-            refused-not k =
-                rw (lt-ltb at (length s) h, eq-eqb _ _ e, sym d ∙ f, le-ltb n (length s) g, le-ltb m (length s) k) (sym (passed 0))
-
-pub ruleset refusal-laws = (refused-text, refused-past, refused-other, refused-escaped, refused-index, refused-records, refused-not)
+pub ruleset refusal-laws = (refused-text, refused-past, refused-other, refused-escaped, refused-few, refused-not)
 
 -- Where nothing refuses a look-up before the bracket is looked at: the text is short, it is an unescaped `[`, and both areas have a
 -- record for each byte.

@@ -1,7 +1,7 @@
 -- The two halves of a look-up: in the form of the code's needs, and together, with the build between them, the call as run.
 use Prim.Native.Nat.{ℕ, _-_, _*_, _/_, _≤_, _<_}
 use native.Mathlib.Omega.{arith}
-use mathlib.Core.Path.{_≡_, refl, sym, _∙_, ap}
+use mathlib.Core.Path.{_≡_, refl, sym, _∙_, ap, subst}
 use mathlib.Core.List.{List, [], _∷_}
 use mathlib.Core.Bool.{Bool, true, false, _&&_, not}
 use lib.ListN.{length}
@@ -151,7 +151,7 @@ past-64 n = go (leb n 64) refl
 
 module _ (s : List ℕ) (at note : ℕ) (index : List ℕ) where
   -- a look asks for the build exactly where the call as run wants one
-  look-wants : isBuild (lookOf s at note index) ≡ wantsBuild s at note
+  pub look-wants : isBuild (lookOf s at note index) ≡ wantsBuild s at note
   unfolding lookOf shortened wantsBuild
   look-wants = go (isBuilt note) (shortLook s at) (storedClose s at index)
     where
@@ -162,7 +162,7 @@ module _ (s : List ℕ) (at note : ℕ) (index : List ℕ) where
       go false Nothing d = past-64 (length s - at)
 
   -- and then the close after it is that of the call as run
-  look-close : closeAfter s at (pick (isBuild (lookOf s at note index)) (builtIndex s index) index) (lookOf s at note index) ≡ closeAsRun s at note index
+  pub look-close : closeAfter s at (pick (isBuild (lookOf s at note index)) (builtIndex s index) index) (lookOf s at note index) ≡ closeAsRun s at note index
   unfolding lookOf shortened closeAsRun closeAfter
   look-close = go (isBuilt note) (shortLook s at) (storedClose s at index)
     where
@@ -179,6 +179,12 @@ module _ (s : List ℕ) (at note : ℕ) (index : List ℕ) where
       go true c Nothing = refl
       go false (At k) d = refl
       go false Nothing d = end (leb (length s - at) 64)
+
+  -- which so lies after its bracket, in the text, at a `]`
+  pub run-inside : Inside s at (closeAsRun s at note index)
+  run-inside =
+      subst (λ (d : Close). Inside s at d) look-close
+      (after-inside s at (pick (isBuild (lookOf s at note index)) (builtIndex s index) index) (lookOf s at note index) (look-inside s at note index))
 
 -- the first half gives what the second asks for
 pub prepared-fine : (s : List ℕ) (at note : ℕ) (index : List ℕ) (m : ℕ) → Fine s at (preparedOf s at note index m)
