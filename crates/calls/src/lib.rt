@@ -4,10 +4,13 @@ pub use index::Bracket;
 pub use lookup::LocatorAnswer;
 pub use lookup::LookUp;
 pub use lookup::Size;
+pub use source::SourceText;
 ghost use mathlib.Core.Path.{_≡_};
 ghost use Rattle.lookup.specs.LookUps.{lookUpRun};
 ghost use Rattle.lookup.specs.Others.{locatorCall, sizeCall};
 ghost use Rattle.lookup.specs.Values.{lookUpValues, lookUpNumbers, locatorValues, locatorNumbers, sizeValues, sizeNumbers};
+ghost use Rattle.source.specs.Call.{sourceTextCall};
+ghost use Rattle.source.specs.Values.{sourceTextValues, sourceTextNumbers};
 
 // The group at the bracket at `at`: the place of its close, the count of its items and the note, and the item records at the front of `items`.
 // Refusals: 1, 2, 3, 4, 9, 5, 10.
@@ -44,4 +47,12 @@ pub fn locator(text: &[u8]) -> LocatorAnswer
     ensures { λ r. ⌜ locatorValues r ≡ locatorNumbers (locatorCall (now (text .entry))) ⌝ }
 {
     lookup::locator_call(text)
+}
+
+// The text of the pool's entry number `entry`, at the front of `area`: the bytes written. Refusals: 7, 8, 10.
+pub fn source_text(pool: &[u8], entry: usize, area: &mut [u8]) -> SourceText
+    ensures { λ r. let ran = sourceTextCall (now (pool .entry)) entry (now (area .entry)) in
+        ⌜ (sourceTextValues r ≡ sourceTextNumbers ran) × (now (area .exit) ≡ ran .area) ⌝ }
+{
+    source::source_text(pool, entry, area)
 }

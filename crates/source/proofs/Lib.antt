@@ -2,3 +2,5 @@ pub mod WriteLaws
 pub mod NameLaws
 pub mod NamesLaws
 pub mod YearLaws
+pub mod TextLaws
+pub mod CallLaws

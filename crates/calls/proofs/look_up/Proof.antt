@@ -145,7 +145,7 @@ module _ {M : Type 1} (𝓤 : URA M) (H : Heap 𝓤) (A : Atoms 𝓤) (W : Given
       suffices ! _ (ends-at 𝓤 H A f.ended stayed (f.clauses 𝓤 H A mem run) W (((κ₀, (κ₁, (κ₂, (κ₃, tt)))), (q₀, (q₁, (q₂, (q₃, tt)))), tt, a, vals), tt) v answer (tt, (tt, (tt, (is′, (ys′, (js′, tt)))))) (tt, (tt, (tt, (e₁, (e₂, (e₃, tt))))))) $
       says ! (finished-values ts at note is ys js refl refl, ran-index ts at note is ys js refl refl, ran-records ts at note is ys js refl refl refl, finished-items ts at note is ys js refl refl) $
       nothing ! $ move ! (8 ∷ 0 ∷ []) $ join ! $ move ! (6 ∷ 0 ∷ []) $ join ! $ move ! (4 ∷ 0 ∷ []) $ join ! $ move ! (2 ∷ 0 ∷ []) $ join ! $ frame ! $
-      -- [answer; text; index last; records; items last; the locals]
+      -- [answer; text; index last; records; items last]
       nothing ! $ move ! (5 ∷ 0 ∷ []) $ fjoin ! $ move ! (4 ∷ 0 ∷ []) $ fjoin ! $ move ! (3 ∷ 0 ∷ []) $ fjoin ! $ owned ! u8 (Is u8) (uint-makes 𝓤 H A W w8) note (vint w8 note ∷ []) (refl, note-fits) $ fjoin ! $ owned ! usize (Is usize) (uint-makes 𝓤 H A W w64) at (vint w64 at ∷ []) (refl, at-fits) $ fjoin ! $ move ! (2 ∷ 0 ∷ []) $ fjoin ! $ frame ! $ done !
 
   module _ (C : Calls 𝓤 H) (Λ : Loops 𝓤 H) (fm : FmC 𝓤 H (W .laws) C) (known : Known 𝓤 H A mem run C) where
@@ -157,7 +157,7 @@ module _ {M : Type 1} (𝓤 : URA M) (H : Heap 𝓤) (A : Atoms 𝓤) (W : Given
         enter ! C Λ code.function (sv₀ ∷ vint w64 at ∷ vint w8 note ∷ sv₁ ∷ sv₂ ∷ sv₃ ∷ []) _ $
         alloc1 ! (λ l₀. alloc1 ! (λ l₁. alloc1 ! (λ l₂. alloc1 ! (λ l₃. alloc1 ! (λ l₄. alloc1 ! (λ l₅. alloc1 ! (λ l₆. alloc1 ! (λ l₇. alloc1 ! (λ l₈. alloc1 ! (λ l₉. alloc1 ! (λ l₁₀. alloc1 ! (λ l₁₁. alloc1 ! (λ l₁₂. alloc1 ! (λ l₁₃. alloc1 ! (λ l₁₄. alloc1 ! (λ l₁₅. alloc1 ! (λ l₁₆. alloc1 ! (λ l₁₇. alloc1 ! (λ l₁₈. alloc1 ! (λ l₁₉. alloc1 ! (λ l₂₀. alloc1 ! (λ l₂₁. alloc1 ! (λ l₂₂. alloc0 ! $ params1 ! $
         pass1 ! (init ! 42 refl (tt, (tt, (record { fits = room₀ .0 }, tt)))) $ pass1 ! (init ! 40 refl (tt, record { fits = at-fits })) $ pass1 ! (init ! 38 refl (tt, record { fits = note-fits })) $ pass1 ! (init ! 36 refl (tt, (tt, (record { fits = room₁ .0 }, tt)))) $ pass1 ! (init ! 34 refl (tt, (tt, (record { fits = room₂ .0 }, tt)))) $ pass1 ! (init ! 32 refl (tt, (tt, (record { fits = room₃ .0 }, tt)))) $ pass0 ! $ move ! (46 ∷ 47 ∷ 48 ∷ 49 ∷ 50 ∷ 51 ∷ 52 ∷ 53 ∷ []) $
-        -- [κ₀; text; κ₁; index; κ₂; records; κ₃; items; the locals]
+        -- [κ₀; text; κ₁; index; κ₂; records; κ₃; items; _22; …]
         assigns ! (addr ! (from ! {i = 5} (fld ! refl (hop ! (look-in ! 42 (sub ! 0 refl (whole !))) (stop !))))) (from ! {i = 10} (stop !)) (init ! 32 refl (tt, tt)) $
         assigns ! (agg ! (and-then ! (load ! (from ! {i = 10} (stop !)) (look ! 32 refl)) (and-then ! (load ! (from ! {i = 5} (fld ! refl (stop !))) (look-in ! 42 (sub ! 1 refl (whole !)))) (no-more !)))) (from ! {i = 11} (stop !)) (init ! 30 refl (tt, (tt, (record { fits = room₂ .0 }, tt)))) $
         move ! (4 ∷ 5 ∷ []) $ counts ! mem run fm (known .0) (named 2) b₂ o₂ ys room₂ (and-then ! (load ! (from ! {i = 11} (stop !)) (look ! 28 refl)) (no-more !)) (λ n-fits. land ! (from ! {i = 7} (stop !)) (init ! 38 refl (tt, record { fits = n-fits })) $
@@ -169,7 +169,7 @@ module _ {M : Type 1} (𝓤 : URA M) (H : Heap 𝓤) (A : Atoms 𝓤) (W : Given
         (‵ (flft κ₀ q₀) ∷ ‵ (flft (ν₁ ∷ []) fullShare) ∷ ‵ ftrue ∷ [])
         (‵ (ShrSlice (named 0) κ₀ u8 .own text (sv₀ ∷ [])) ∷ ‵ (usize .own at (vint w64 at ∷ [])) ∷ ‵ (u8 .own note (vint w8 note ∷ [])) ∷ ‵ (MutSlice (named 1) (ν₁ ∷ []) u16 .own (at-list b₁ o₁ δ₁ is) (sv₁ ∷ [])) ∷ ‵ (usize .own (length ys) (vint w64 (length ys) ∷ [])) ∷ ‵ ftrue ∷ [])
         (record { tokens = refl; owned = refl; required = id⊢ 𝓤 _; ensured = λ r zs. id⊢ 𝓤 _ }) fm (known .1) (and-then ! (load ! (from ! {i = 1} (stop !)) (look ! 48 refl)) (and-then ! (load ! (from ! {i = 2} (stop !)) (look ! 46 refl)) (and-then ! (load ! (from ! {i = 3} (stop !)) (look ! 44 refl)) (and-then ! (load ! (from ! {i = 13} (stop !)) (look ! 24 refl)) (and-then ! (load ! (from ! {i = 7} (stop !)) (look ! 36 refl)) (no-more !)))))) (λ v r zs e. rewrite ! 0 (λ (b : Prepared). ‵ (P.the-row .own b (v ∷ []))) (e .0) refl $ move ! (4 ∷ []) $ no-last ! $ no-last ! $ no-last ! $ last-list ! u16 δ₁ (zs .1 .1 .1 .0) is (e .1) (λ _. no-last ! $ drop ! $ move ! (4 ∷ []) $ drop ! $ move ! (3 ∷ 0 ∷ 4 ∷ []) $ back ! tt u16 b₁ o₁ (named 1) is is room₁ refl $ move ! (2 ∷ []) $ facts ! P.the-row (Is P.the-row) (shows 𝓤 H A P.the-row) p (v ∷ []) (λ p-is.
-        -- [κ₁; index; κ₀; text; κ₂; records; κ₃; items; the locals]
+        -- [κ₁; index; κ₀; text; κ₂; records; κ₃; items; _22; …]
         land ! (from ! {i = 8} (stop !)) (init ! 36 refl (EL.lawful P.the-type P′.the-laws 𝓤 H A W tt .typed p _ p-is .0)) $
         owned ! P.the-row (Is P.the-row) (EL.makes P.the-type P′.the-plain 𝓤 H A) p (v ∷ []) p-is $ nothing ! $ nothing ! $ move ! (0 ∷ 2 ∷ 1 ∷ []) $
         calls-row W ! wants.ended (wants.clauses 𝓤 H A mem run) (tt, tt, tt, (p, tt), (v ∷ [], tt)) tt
@@ -182,7 +182,7 @@ module _ {M : Type 1} (𝓤 : URA M) (H : Heap 𝓤) (A : Atoms 𝓤) (W : Given
         assigns ! (addr ! (from ! {i = 5} (fld ! refl (hop ! (look-in ! 42 (sub ! 0 refl (whole !))) (stop !))))) (from ! {i = 17} (stop !)) (init ! 18 refl (tt, tt)) $
         assigns ! (agg ! (and-then ! (load ! (from ! {i = 17} (stop !)) (look ! 18 refl)) (and-then ! (load ! (from ! {i = 5} (fld ! refl (stop !))) (look-in ! 42 (sub ! 1 refl (whole !)))) (no-more !)))) (from ! {i = 18} (stop !)) (init ! 16 refl (tt, (tt, (record { fits = room₂ .0 }, tt)))) $
         move ! (2 ∷ 3 ∷ 0 ∷ 1 ∷ 4 ∷ 5 ∷ []) $ builds-when ! mem run fm (known .3) (named 0) (named 1) (named 2) b₀ o₀ b₁ o₁ b₂ o₂ w ts is ys room₁ room₂ (enough ts at note is ys) (and-then ! (load ! (from ! {i = 9} (stop !)) (look ! 28 refl)) (and-then ! (load ! (from ! {i = 1} (stop !)) (look ! 44 refl)) (and-then ! (load ! (from ! {i = 16} (stop !)) (look ! 14 refl)) (and-then ! (load ! (from ! {i = 18} (stop !)) (look ! 10 refl)) (no-more !))))) (λ e₁ e₂.
-        -- [κ₀; text; κ₁; index; κ₂; records; κ₃; items; the locals]
+        -- [κ₀; text; κ₁; index; κ₂; records; κ₃; items; _22; …]
         land ! (from ! {i = 14} (stop !)) (init ! 24 refl (tt, tt)) $
         assigns ! (addr ! (from ! {i = 4} (fld ! refl (hop ! (look-in ! 44 (sub ! 0 refl (whole !))) (stop !))))) (from ! {i = 19} (stop !)) (init ! 14 refl (tt, tt)) $
         assigns ! (agg ! (and-then ! (load ! (from ! {i = 19} (stop !)) (look ! 14 refl)) (and-then ! (load ! (from ! {i = 4} (fld ! refl (stop !))) (look-in ! 44 (sub ! 1 refl (whole !)))) (no-more !)))) (from ! {i = 20} (stop !)) (init ! 12 refl (tt, (tt, (record { fits = room₁ .0 }, tt)))) $
@@ -194,7 +194,7 @@ module _ {M : Type 1} (𝓤 : URA M) (H : Heap 𝓤) (A : Atoms 𝓤) (W : Given
         (‵ (flft κ₀ q₀) ∷ ‵ (flft κ₁ q₁) ∷ ‵ (flft κ₃ q₃) ∷ ‵ ftrue ∷ [])
         (‵ (ShrSlice (named 0) κ₀ u8 .own text (sv₀ ∷ [])) ∷ ‵ (usize .own at (vint w64 at ∷ [])) ∷ ‵ (u8 .own note (vint w8 note ∷ [])) ∷ ‵ (P.the-row .own p (v ∷ [])) ∷ ‵ (MutSlice (named 1) κ₁ u16 .own (at-list b₁ o₁ γ₁ is′) (sv₁ ∷ [])) ∷ ‵ (MutSlice (named 2) κ₃ u16 .own (at-list b₃ o₃ γ₃ js) (sv₃ ∷ [])) ∷ ‵ ftrue ∷ [])
         (record { tokens = refl; owned = refl; required = factI 𝓤 (Fine ts at p) (emp 𝓤) (prepared-fine ts at note is (length ys)); ensured = λ r zs. id⊢ 𝓤 _ }) fm (known .4) (and-then ! (load ! (from ! {i = 1} (stop !)) (look ! 45 refl)) (and-then ! (load ! (from ! {i = 2} (stop !)) (look ! 43 refl)) (and-then ! (load ! (from ! {i = 3} (stop !)) (look ! 41 refl)) (and-then ! (load ! (from ! {i = 8} (stop !)) (look ! 31 refl)) (and-then ! (load ! (from ! {i = 20} (stop !)) (look ! 7 refl)) (and-then ! (load ! (from ! {i = 22} (stop !)) (look ! 3 refl)) (no-more !))))))) (λ u r zs e. rewrite ! 0 (λ (b : LookUp). ‵ (R.the-row .own b (u ∷ []))) (e .0) refl $ move ! (5 ∷ []) $ no-last ! $ no-last ! $ no-last ! $ no-last ! $ last-list ! u16 γ₁ (zs .1 .1 .1 .1 .0) is′ (e .2) (λ _. last-list ! u16 γ₃ (zs .1 .1 .1 .1 .1 .0) js′ (e .1) (λ e₃. drop ! $ move ! (6 ∷ []) $ drop ! $ move ! (2 ∷ []) $ peeks ! R.the-row (Is R.the-row) (shows 𝓤 H A R.the-row) answer (u ∷ []) (λ r-is.
-        -- [answer; items last; index last; κ₀; κ₁; κ₃; text; κ₂; records; the locals]
+        -- [answer; items last; index last; κ₀; κ₁; κ₃; text; κ₂; records; _22; …]
         land ! (from ! {i = 0} (stop !)) (init ! 53 refl (EL.lawful R.the-type R′.the-laws 𝓤 H A W tt .typed answer _ r-is .0)) $
         returns ! (look ! 53 refl) $ forget ! 9 refl $ forget ! 11 refl $ forget ! 13 refl $ forget ! 15 refl $ forget ! 17 refl $ forget ! 19 refl $ forget ! 21 refl $ forget ! 23 refl $ forget ! 25 refl $ forget ! 27 refl $ forget ! 29 refl $ forget ! 31 refl $ forget ! 33 refl $ forget ! 35 refl $ forget ! 37 refl $ forget ! 39 refl $ forget ! 41 refl $ forget ! 43 refl $ forget ! 45 refl $ forget ! 47 refl $ forget ! 49 refl $ forget ! 51 refl $ forget ! 53 refl $
         move ! (53 ∷ 54 ∷ []) $ free1 ! $ move ! (51 ∷ 52 ∷ []) $ free1 ! $ move ! (49 ∷ 50 ∷ []) $ free1 ! $ move ! (47 ∷ 48 ∷ []) $ free1 ! $ move ! (45 ∷ 46 ∷ []) $ free1 ! $ move ! (43 ∷ 44 ∷ []) $ free1 ! $ move ! (41 ∷ 42 ∷ []) $ free1 ! $ move ! (39 ∷ 40 ∷ []) $ free1 ! $ move ! (37 ∷ 38 ∷ []) $ free1 ! $ move ! (35 ∷ 36 ∷ []) $ free1 ! $ move ! (33 ∷ 34 ∷ []) $ free1 ! $ move ! (31 ∷ 32 ∷ []) $ free1 ! $ move ! (29 ∷ 30 ∷ []) $ free1 ! $ move ! (27 ∷ 28 ∷ []) $ free1 ! $ move ! (25 ∷ 26 ∷ []) $ free1 ! $ move ! (23 ∷ 24 ∷ []) $ free1 ! $ move ! (21 ∷ 22 ∷ []) $ free1 ! $ move ! (19 ∷ 20 ∷ []) $ free1 ! $ move ! (17 ∷ 18 ∷ []) $ free1 ! $ move ! (15 ∷ 16 ∷ []) $ free1 ! $ move ! (13 ∷ 14 ∷ []) $ free1 ! $ move ! (11 ∷ 12 ∷ []) $ free1 ! $ move ! (9 ∷ 10 ∷ []) $ free1 ! $ free0 ! $
