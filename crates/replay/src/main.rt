@@ -1,7 +1,10 @@
 // Replays the Rust's stored answers, data/answers, against the proved functions, and says for each kind how many agree.
 // docs/DIFFERENCES.md says how the list was made and how it is laid out.
+mod areas;
 mod body;
 mod leaves;
+mod lent;
+mod look_ups;
 mod parts;
 mod pools;
 
@@ -76,6 +79,9 @@ fn agrees(kind: u8, body: &[u8]) -> bool {
     }
     if kind == 9 {
         return pools::pool_agrees(body);
+    }
+    if kind == 11 {
+        return look_ups::look_ups_agree(body);
     }
     false
 }
@@ -193,4 +199,5 @@ fn main() {
     replay(b"locator", 7);
     replay(b"item", 8);
     replay(b"pool", 9);
+    replay(b"lookup", 11);
 }
