@@ -10,7 +10,7 @@ is-pair-spec =
     (tie.spec
     (λ c κs. search (pair-laws, needs))
     (λ c κs. search (pair-laws, needs))
-    (λ c. search (pair-laws, needs))
-    (λ c. search (pair-laws, needs))
     (λ c κs. search (pair-laws, needs))
+    (λ c. search (pair-laws, needs))
+    (λ c. search (pair-laws, needs))
     (λ c. search (pair-laws, needs)))
