@@ -1,27 +1,24 @@
 -- A number in decimal has no white byte, so trims leave it as it is.
 use Prim.Native.Nat.{ℕ, zero, suc, _+_, _-_, _/_, _%_, _≤_, _<_}
 use native.Mathlib.Omega.{arith}
-use mathlib.Core.Path.{_≡_, refl, ap, sym, _∙_}
+use mathlib.Core.Path.{_≡_, refl, _∙_}
 use mathlib.Core.List.{List, [], _∷_, _++_}
 use mathlib.Core.Logic.{_⊎_, inl, inr}
 use mathlib.Core.Bool.{Bool, true, false, and-false}
-use lib.ListN.{length, getD, length-append, List·getD-append}
+use lib.ListN.{length, length-append, List·getD-append}
 use lib.Seq.{getD-at}
-use lib.Dec.{leb, ltb, eqb}
+use lib.Dec.{leb, ltb}
 use borrow.Author.Tests.{ltb-true, ltb-false, ne-eqb, lt-leb}
 use Rattle.base.specs.Pick.{pick}
 use Rattle.base.specs.First.{first}
-use Rattle.base.specs.Lists.{byteAt, within}
-use Rattle.text.specs.White.{whiteOne, isWhite, trimStart, contentEnd, trimEnd}
+use Rattle.base.specs.Lists.{byteAt}
+use Rattle.text.specs.White.{isWhite, trimStart, contentEnd, trimEnd}
 use Rattle.text.proofs.Whites.{white-ascii}
-use Rattle.pool.specs.Numbers.{Signed, signed}
+use Rattle.pool.specs.Numbers.{signed}
 use Rattle.decimal.specs.Decimal.{digitCount, countIn, lastDigits, decimal}
 use Rattle.decimal.proofs.Laws.{decimal-length}
 use Rattle.source.specs.Decimal.{signedDecimal}
-
-split : (t : Bool) → (t ≡ true) ⊎ (t ≡ false)
-split true = inl refl
-split false = inr refl
+use Rattle.label.proofs.Joins.{split}
 
 -- from `-` to `9`
 InDecimal : ℕ → Type 0

@@ -3,20 +3,20 @@ use Prim.Native.Nat.{ℕ, zero, suc, _+_, _-_, _≤_, _<_}
 use native.Mathlib.Omega.{arith}
 use native.Mathlib.Numerals.{add-one}
 use mathlib.Core.Path.{_≡_, refl, sym, _∙_, ap}
-use mathlib.Core.List.{List, [], _∷_, _++_}
+use mathlib.Core.List.{List, _∷_, _++_}
 use mathlib.Core.Logic.{_⊎_, inl, inr}
-use mathlib.Core.Bool.{Bool, true, false, not, _&&_, _||_, false-and, and-false, or-false}
-use lib.ListN.{length, getD, take, drop, length-append, length-drop, List·getD-append, List·getD-eq-default}
-use lib.Seq.{getD-append-seam, getD-append-add, take-append-le, drop-append-le, take-append-add, drop-append-add, take-all}
-use lib.Dec.{eqb, ltb, leb}
-use borrow.Author.Tests.{ne-eqb, lt-ltb, le-ltb, lt-leb, le-leb, ltb-true, ltb-false}
+use mathlib.Core.Bool.{Bool, true, false, not, _||_, false-and, and-false, or-false}
+use lib.ListN.{length, take, drop, length-append, length-drop, List·getD-append, List·getD-eq-default}
+use lib.Seq.{getD-append-seam, getD-append-add, take-append-le, drop-append-le, take-append-add, drop-append-add}
+use lib.Dec.{ltb}
+use borrow.Author.Tests.{ne-eqb, lt-ltb, le-ltb, lt-leb, ltb-true, ltb-false}
 use Rattle.base.specs.Pick.{pick}
 use Rattle.base.specs.First.{first}
-use Rattle.base.specs.Lists.{byteAt, within, part}
+use Rattle.base.specs.Lists.{byteAt, part}
 use Rattle.text.specs.White.{whiteOne, whiteTwo, whiteThree, spaceWidth, isWhite, trimStart, contentEnd, trimEnd, trim}
 use Rattle.text.proofs.Whites.{white-ascii}
 use Rattle.text.proofs.Trims.{start-by, end-from, end-by}
-use Rattle.definition.proofs.Parts.{part-is}
+use Rattle.definition.proofs.Parts.{part-is, first-shift}
 
 -- the width of a White_Space character, by its bytes
 unfoldable widthBy : ℕ → ℕ → ℕ → ℕ
@@ -35,7 +35,7 @@ width-third : (a b c : ℕ) → c < 128 → widthBy a b c ≡ pick (whiteOne a) 
 unfolding widthBy
 width-third a b c h = simp (ne-eqb c 0x80 (omega arith), ne-eqb c 0xA8 (omega arith), ne-eqb c 0xA9 (omega arith), ne-eqb c 0xAF (omega arith), ne-eqb c 0x9F (omega arith), lt-leb 0x80 c (omega arith), false-and, and-false, or-false)
 
-split : (t : Bool) → (t ≡ true) ⊎ (t ≡ false)
+pub split : (t : Bool) → (t ≡ true) ⊎ (t ≡ false)
 split true = inl refl
 split false = inr refl
 
@@ -185,45 +185,32 @@ content-before s a n (suc m) h = let z : n + suc m ≡ suc (n + m) = omega arith
     go false q rec = absurd (omega arith)
 
 -- the same bytes are white in two stretches, the one in `s` being `d` places further
-content-shift : (s t : List ℕ) (d x n : ℕ) → ((j : ℕ) → j < x + n → isWhite s (d + j) ≡ isWhite t j) → contentEnd s (d + x) n ≡ d + contentEnd t x n
+content-shift : (s t : List ℕ) (d x n : ℕ) → ((j : ℕ) → j < x + n → isWhite t j ≡ isWhite s (j + d)) → contentEnd t x n + d ≡ contentEnd s (x + d) n
 unfolding contentEnd
 content-shift s t d x zero h = refl
-content-shift s t d x (suc n) h = rw (y, h (x + n) (omega arith)) (go (isWhite t (x + n)) (content-shift s t d x n (λ j l. h j (omega arith))))
+content-shift s t d x (suc n) h = rw (y, h (x + n) (omega arith)) (go (isWhite s (x + n + d)) (content-shift s t d x n (λ j l. h j (omega arith))))
   where
-    y : d + x + n ≡ d + (x + n)
+    y : x + d + n ≡ x + n + d
     y = omega arith
 
-    go : (b : Bool) → contentEnd s (d + x) n ≡ d + contentEnd t x n → pick b (contentEnd s (d + x) n) (suc (d + (x + n))) ≡ d + pick b (contentEnd t x n) (suc (x + n))
+    go : (b : Bool) → contentEnd t x n + d ≡ contentEnd s (x + d) n → pick b (contentEnd t x n) (suc (x + n)) + d ≡ pick b (contentEnd s (x + d) n) (suc (x + n + d))
     go true r = r
     go false r = omega arith
 
-first-shift : (s t : List ℕ) (d n x : ℕ) → ((j : ℕ) → j < x + n → isWhite s (d + j) ≡ isWhite t j)
-    → first (λ i. not (isWhite s i)) n (d + x) ≡ d + first (λ i. not (isWhite t i)) n x
-unfolding first
-first-shift s t d zero x h = refl
-first-shift s t d (suc n) x h = rw (h x (omega arith)) (go (isWhite t x) (first-shift s t d n (x + 1) (λ j l. h j (omega arith))))
-  where
-    y : d + (x + 1) ≡ d + x + 1
-    y = omega arith
-
-    go : (b : Bool) → first (λ i. not (isWhite s i)) n (d + (x + 1)) ≡ d + first (λ i. not (isWhite t i)) n (x + 1)
-        → pick (not b) (d + x) (first (λ i. not (isWhite s i)) n (d + x + 1)) ≡ d + pick (not b) x (first (λ i. not (isWhite t i)) n (x + 1))
-    go true r = ap (first (λ i. not (isWhite s i)) n) (sym y) ∙ r
-    go false r = refl
-
 module _ (A Y : List ℕ) where
-  left : (j : ℕ) → j < length A → isWhite (Join A Y) (0 + j) ≡ isWhite A j
-  left j h = let z : 0 + j ≡ j = omega arith in rw z (white-left A Y j h)
+  left : (j : ℕ) → j < length A → isWhite A j ≡ isWhite (Join A Y) (j + 0)
+  left j h = let z : j + 0 ≡ j = omega arith in rw z (sym (white-left A Y j h))
 
-  right : (j : ℕ) → isWhite (Join A Y) (length A + 1 + j) ≡ isWhite Y j
-  right j = white-right A Y (length A + 1 + j) j (omega arith)
+  right : (j : ℕ) → isWhite Y j ≡ isWhite (Join A Y) (j + (length A + 1))
+  right j = sym (white-right A Y (j + (length A + 1)) j (omega arith))
 
   -- where the first list's content begins, seen in the whole
   first-left : first (λ i. not (isWhite (Join A Y) i)) (length A) 0 ≡ trimStart A 0 (length A)
   unfolding trimStart
   first-left =
       let z : length A - 0 ≡ length A = omega arith in
-      rw z (first-shift (Join A Y) A 0 (length A) 0 (λ j l. left j (omega arith)) ∙ omega arith)
+      rw z
+      (sym (first-shift (λ i. not (isWhite A i)) (λ i. not (isWhite (Join A Y) i)) 0 (length A) 0 (λ j l. ap not (left j (omega arith)))) ∙ omega arith)
 
   start-first : trimStart A 0 (length A) < length A → trimStart (Join A Y) 0 (length (Join A Y)) ≡ trimStart A 0 (length A)
   unfolding trimStart
@@ -243,26 +230,29 @@ module _ (A Y : List ℕ) where
       let f = first-left in
       let y : length Y - 0 ≡ length Y = omega arith in
       let x : 0 + length A ≡ length A = omega arith in
-      let w : length A + 1 ≡ length A + 1 + 0 = omega arith in
+      let w : length A + 1 ≡ 0 + (length A + 1) = omega arith in
       rw (z, y)
       (first-after (λ i. not (isWhite (Join A Y) i)) (length A) (1 + length Y) 0 (omega arith)
       ∙ ap (first (λ i. not (isWhite (Join A Y) i)) (1 + length Y)) x
       ∙ first-space
       ∙ ap (first (λ i. not (isWhite (Join A Y) i)) (length Y)) w
-      ∙ first-shift (Join A Y) Y (length A + 1) (length Y) 0 (λ j l. right j))
+      ∙ sym (first-shift (λ i. not (isWhite Y i)) (λ i. not (isWhite (Join A Y) i)) (length A + 1) (length Y) 0 (λ j l. ap not (right j)))
+      ∙ omega arith)
 
   -- where the second list's content ends, seen in the whole
   content-right : (x n : ℕ) → contentEnd (Join A Y) (length A + 1 + x) n ≡ length A + 1 + contentEnd Y x n
-  content-right x n = content-shift (Join A Y) Y (length A + 1) x n (λ j l. right j)
+  content-right x n =
+      let z : length A + 1 + x ≡ x + (length A + 1) = omega arith in
+      rw z (sym (content-shift (Join A Y) Y (length A + 1) x n (λ j l. right j)) ∙ omega arith)
 
   -- the content of the first list from `k` on, with the space
   content-left : (k : ℕ) → k ≤ length A → contentEnd (Join A Y) k (length A - k + 1) ≡ contentEnd A k (length A - k)
   unfolding contentEnd
   content-left k h =
       let p : k + (length A - k) ≡ length A = omega arith in
-      let q : 0 + k ≡ k = omega arith in
+      let q : k + 0 ≡ k = omega arith in
       let r = content-shift (Join A Y) A 0 k (length A - k) (λ j l. left j (omega arith)) in
-      rw (add-one, p, white-space A Y) (rw q at r ∙ omega arith)
+      rw (add-one, p, white-space A Y) (sym (rw q at r) ∙ omega arith)
 
   module _ (k : ℕ) (h : k ≤ length A) where
     whole : length (Join A Y) - k ≡ length A - k + 1 + length Y

@@ -1,15 +1,13 @@
 -- The pieces of a label in their area, in the form of the needs.
-use Prim.Native.Nat.{ℕ, zero, suc, _+_, _-_, _≤_, _<_}
+use Prim.Native.Nat.{ℕ, _+_, _-_, _≤_, _<_}
 use native.Mathlib.Omega.{arith}
 use mathlib.Core.Path.{_≡_, refl, ap, sym, _∙_}
 use mathlib.Core.List.{List, [], _∷_, _++_, append-assoc}
 use mathlib.Core.Bool.{Bool, true, false}
 use mir.Val.{Fits}
 use mir.Syntax.{w64}
-use lib.ListN.{length, take, drop, set, length-append, length-set, length-take, length-drop}
-use lib.Dec.{leb}
+use lib.ListN.{length, take, drop, set, length-append, length-set}
 use borrow.Author.Tests.{le-leb, lt-leb}
-use Rattle.base.specs.Pick.{pick}
 use Rattle.base.specs.Lists.{written}
 use Rattle.pool.specs.Numbers.{signed}
 use Rattle.source.specs.Decimal.{decimal, signedDecimal}
@@ -24,6 +22,14 @@ module _ (out s : List ℕ) {n : ℕ} (e : n ≡ length out) where
 
   pub is-fitted : {t : List ℕ} → n ≤ length s → t ≡ written out s → t ≡ fitted out s
   is-fitted h o = rw (le-leb (length out) (length s) (omega arith)) o
+
+-- the same for a caller
+module _ (out s : List ℕ) {n : ℕ} {t : List ℕ} (e : n ≡ length out) (o : t ≡ fitted out s) where
+  pub fitted-written : n ≤ length s → t ≡ written out s
+  fitted-written h = rw (le-leb (length out) (length s) (omega arith)) at o
+
+  pub fitted-kept : length s < n → t ≡ s
+  fitted-kept h = rw (lt-leb (length out) (length s) (omega arith)) at o
 
 pub copy-fitted : (b s : List ℕ) {t : List ℕ} → length b ≤ length s → t ≡ take (length b) b ++ drop (length b) s → t ≡ fitted b s
 copy-fitted b s h o = is-fitted b s refl h (copied b s o)

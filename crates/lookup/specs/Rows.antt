@@ -1,15 +1,20 @@
 -- Item records: "16 u16: pairs for prefix, key (without `@`), locator, value, suffix, missing = 0 0 ..; label code;
 -- marks (1 suppressed, 2 integral, added); number; use; label pair into the label bytes."
-use Prim.Native.Nat.{ℕ, _+_, _*_}
+use Prim.Native.Nat.{ℕ, _+_, _*_, _≤_, _<_}
+use mathlib.Core.Path.{_≡_}
 use mathlib.Core.List.{List, [], _∷_, _++_}
-use mathlib.Core.Bool.{Bool, true, false}
-use lib.ListN.{length}
+use mathlib.Core.Bool.{Bool, true}
+use lib.ListN.{length, set}
 use Rattle.base.specs.Pick.{pick}
 use Rattle.base.specs.declared.Span.{Span}
 use Rattle.base.specs.Spans.{pairOf, missing}
+use Rattle.locator.specs.declared.Locator.{Locator}
 use Rattle.locator.specs.Answers.{codeOf, valueOf, suffixOf}
 use Rattle.item.specs.declared.Item.{Item}
-use Rattle.lookup.specs.Groups.{Group}
+use Rattle.item.specs.declared.Parsed.{Parsed}
+use Rattle.item.specs.declared.Parsed.the-variants.{Good, Bad}
+use Rattle.index.specs.Entries.{goodItems}
+use Rattle.lookup.specs.Groups.{Group, groupOf}
 
 -- how many numbers an item record has
 abbrev pub itemWidth : ℕ
@@ -39,3 +44,39 @@ rowsOf g = rowsIn (g .integral) (g .items)
 -- how many numbers they are
 unfoldable pub rowsLength : Group → ℕ
 rowsLength g = itemWidth * length (g .items)
+
+-- For the code that writes them. The record of what a piece of a group was parsed to.
+unfoldable pub pieceRow : Bool → Parsed → List ℕ
+pieceRow integral (Good it) = rowOf integral it
+pieceRow integral Bad = []
+
+-- a row after some numbers were put at `k` and the places after it
+unfoldable pub putAt : ℕ → List ℕ → List ℕ → List ℕ
+putAt k [] row = row
+putAt k (v ∷ vs) row = putAt (k + 1) vs (set row k v)
+
+-- it keeps its length
+abbrev pub Put : ℕ → List ℕ → List ℕ → List ℕ → Type 0
+Put k vs row after = (after ≡ putAt k vs row) × (length after ≡ length row)
+
+-- a pair that fits a record
+abbrev pub Narrow : Span → Type 0
+Narrow p = (p .at ≤ 65535) × (p .len ≤ 65535)
+
+pub record NarrowLocator (l : Locator) : Type 0 where
+  pub value : Narrow (valueOf l)
+  pub suffix : Narrow (suffixOf l)
+
+pub record NarrowItem (it : Item) : Type 0 where
+  pub prefix : Narrow (it .prefix)
+  pub key : Narrow (it .key)
+  pub whole : Narrow (it .whole)
+  pub locator : NarrowLocator (it .locator)
+
+-- the records of the group at `p` with its close at `c` can be written: all its items are good, and there is room for them
+pub record Writable (s : List ℕ) (p c : ℕ) (items : List ℕ) : Type 0 where
+  pub short : length s ≤ 65535
+  pub after : p < c
+  pub inside : c < length s
+  pub good : goodItems s p c ≡ true
+  pub room : rowsLength (groupOf s p c) ≤ length items

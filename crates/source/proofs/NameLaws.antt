@@ -20,7 +20,7 @@ use Rattle.source.specs.Text.{nameBy, nameOf}
 use Rattle.source.specs.Lengths.{lenOf, givenPart, givenLen, familyPart, familyLen, nameLenBy, nameLen}
 use Rattle.source.proofs.WriteLaws.{written-after, written-none, rest-room}
 
-found-length : (s : List ℕ) (f : Found) → Inside s f → lenOf f ≡ length (bytesOr (bytesAt s f) [])
+pub found-length : (s : List ℕ) (f : Found) → Inside s f → lenOf f ≡ length (bytesOr (bytesAt s f) [])
 found-length s (At p) h = let l = part-length s (p .at) (p .at + p .len) (omega arith) h in omega arith
 found-length s Missing h = refl
 

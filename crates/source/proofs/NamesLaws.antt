@@ -9,7 +9,8 @@ use mir.Val.{Fits}
 use mir.Syntax.{w64}
 use lib.ListN.{length, take, drop, length-append}
 use lib.Dec.{eqb}
-use borrow.Author.Tests.{eq-eqb, ne-eqb}
+use lib.Seq.{length-take-le}
+use borrow.Author.Tests.{eq-eqb, ne-eqb, eqb-true}
 use Rattle.base.specs.Pick.{pick}
 use Rattle.base.specs.Fold.{fold}
 use Rattle.base.specs.Lists.{byteAt, part, written}
@@ -19,30 +20,18 @@ use Rattle.pool.specs.declared.NameParts.{NameParts}
 use Rattle.pool.specs.Fields.{Field, fieldEnd, fieldAt, fieldsOf}
 use Rattle.pool.specs.Entries.{Name, bytesOr, nameAfter, nameAt, namesIn, entryOf}
 use Rattle.pool.specs.Places.{bytesAt, Inside, nameAtParts, ReadsName, FieldsIn, EntryIn}
-use Rattle.pool.proofs.FieldLaws.{field-long, fields-next, fields-end}
-use Rattle.pool.proofs.ReaderLaws.{fields-of-entry, fields-order}
+use Rattle.pool.proofs.FieldLaws.{field-long, field-shrinks, fields-next, fields-end}
+use Rattle.pool.proofs.ReaderLaws.{fields-of-entry, fields-order, fields-head, fields-rest}
 use Rattle.source.specs.Text.{isEmpty, beside, nameBy, nameOf, addName, namesOf}
 use Rattle.source.specs.Lengths.{besideLen, opened, lenOf, familyLen, nameLenBy, nameLen, familyPart, givenPart, givenLen, addLen}
+use Rattle.source.specs.Room.{Fit, NameFits, NextFits}
+use Rattle.source.proofs.WriteLaws.{beside-length, beside-more, written-none, written-kept, written-over, written-front, written-length, rest-room, fit-total, fit-opened, fit-rest, fit-written}
 use Rattle.source.proofs.NameLaws.{name-length}
 
 fold-append : {S A : Type 0} (f : S → A → S) (s : S) (a b : List A) → fold f s (a ++ b) ≡ fold f (fold f s a) b
 unfolding fold
 fold-append f s [] b = refl
 fold-append f s (x ∷ xs) b = fold-append f (f s x) xs b
-
--- the length of two parts beside each other
-empty-is : (a : List ℕ) → isEmpty a ≡ eqb (length a) 0
-empty-is [] = refl
-empty-is (x ∷ xs) = sym (ne-eqb (suc (length xs)) 0 (λ h. omega arith))
-
-pub beside-length : (sep a b : List ℕ) → length (beside sep a b) ≡ besideLen (length a) (length sep) (length b)
-unfolding beside besideLen
-beside-length sep a b = rw (empty-is a, empty-is b) (go (eqb (length a) 0) (eqb (length b) 0))
-  where
-    go : (t u : Bool) → length (pick t b (pick u a (a ++ (sep ++ b)))) ≡ pick t (length b) (pick u (length a) (length a + length sep + length b))
-    go true u = refl
-    go false true = refl
-    go false false = simp length-append (omega arith)
 
 names-length : (a : List ℕ) (ns : List Name) → length (fold addName a ns) ≡ fold addLen (length a) ns
 unfolding fold addName addLen
@@ -69,7 +58,7 @@ unfolding namesOf entryOf
 names-start s at e = names-length [] (namesIn (fieldsOf s at e))
 
 -- one name
-beside-at-most : (a k b : ℕ) → besideLen a k b ≤ a + k + b
+pub beside-at-most : (a k b : ℕ) → besideLen a k b ≤ a + k + b
 unfolding besideLen
 beside-at-most a k b = go (eqb a 0) (eqb b 0)
   where
@@ -78,7 +67,7 @@ beside-at-most a k b = go (eqb a 0) (eqb b 0)
     go false true = omega arith
     go false false = omega arith
 
-inside-small : (s : List ℕ) (f : Found) → length s ≤ 32768 → Inside s f → lenOf f ≤ 32768
+pub inside-small : (s : List ℕ) (f : Found) → length s ≤ 32768 → Inside s f → lenOf f ≤ 32768
 inside-small s (At p) h i = omega arith
 inside-small s Missing h i = omega arith
 
@@ -130,3 +119,184 @@ pub entry-order : (s : List ℕ) (at e : ℕ) → EntryIn s at e → at ≤ e
 entry-order s at e h = fields-order s at e (fields-of-entry s at e h)
 
 pub ruleset names-laws = (names-start, names-next, names-end, names-small, names-grow, entry-order)
+
+-- a name written after those so far
+module _ (s : List ℕ) (n : NameParts) (area : List ℕ) (k : ℕ) (f : NameFits s n area k) where
+  name-fit : Fit area (59 ∷ 32 ∷ []) (nameOf (nameAtParts s n)) k
+  unfolding addName
+  name-fit = record { front = f .front; room = f .room }
+
+  pub fits-family : lenOf (n .family) ≤ 32768
+  fits-family = inside-small s (n .family) (f .small) (f .family)
+
+  pub fits-given : lenOf (n .given) ≤ 32768
+  fits-given = inside-small s (n .given) (f .small) (f .given)
+
+  long : {m : ℕ} → m ≡ nameLen n → m ≡ length (nameOf (nameAtParts s n))
+  long e = e ∙ name-length s n (f .literal) (f .family) (f .given)
+
+  pub name-opened : {m : ℕ} → m ≡ nameLen n → length (opened (59 ∷ 32 ∷ []) (take k area) m) ≤ length area
+  name-opened e = rw (long e) (fit-opened area (59 ∷ 32 ∷ []) (nameOf (nameAtParts s n)) k name-fit)
+
+  total : (m at : ℕ) (one : List ℕ) → m ≡ nameLen n → at ≡ length (opened (59 ∷ 32 ∷ []) (take k area) m)
+      → one ≡ written (opened (59 ∷ 32 ∷ []) (take k area) m) area → at + m ≤ length one
+  total m at one e g o =
+      rw (long e) (fit-rest area (59 ∷ 32 ∷ []) (nameOf (nameAtParts s n)) k name-fit one at (rw (long e) at g) (rw (long e) at o))
+
+  pub name-start : {m at : ℕ} (one : List ℕ) → m ≡ nameLen n → at ≡ length (opened (59 ∷ 32 ∷ []) (take k area) m)
+      → one ≡ written (opened (59 ∷ 32 ∷ []) (take k area) m) area → at ≤ length one
+  name-start {m} {at} one e g o = omega (arith, total m at one e g o)
+
+  pub name-room : {m : ℕ} (at : ℕ) (one : List ℕ) → m ≡ nameLen n → at ≡ length (opened (59 ∷ 32 ∷ []) (take k area) m)
+      → one ≡ written (opened (59 ∷ 32 ∷ []) (take k area) m) area → nameLen n ≤ length (take (length one - at) (drop at one))
+  name-room {m} at one e g o = rw (← e) (rest-room one at m (total m at one e g o))
+
+  pub name-sum : {m at : ℕ} (one : List ℕ) → m ≡ nameLen n → at ≡ length (opened (59 ∷ 32 ∷ []) (take k area) m)
+      → one ≡ written (opened (59 ∷ 32 ∷ []) (take k area) m) area → length one ≡ length area → length area < 18446744073709551616 → Fits w64 (at + m)
+  name-sum {m} {at} one e g o l h = omega (arith, total m at one e g o)
+
+  pub name-count : {m at : ℕ} → m ≡ nameLen n → at ≡ length (opened (59 ∷ 32 ∷ []) (take k area) m)
+      → at + m ≡ length (addName (take k area) (nameAtParts s n))
+  unfolding addName
+  name-count {m} {at} e g =
+      rw (g, long e) (fit-total area (59 ∷ 32 ∷ []) (nameOf (nameAtParts s n)) k name-fit)
+
+  pub name-written : {m at : ℕ} {rest : List ℕ} (one : List ℕ) → m ≡ nameLen n → at ≡ length (opened (59 ∷ 32 ∷ []) (take k area) m)
+      → one ≡ written (opened (59 ∷ 32 ∷ []) (take k area) m) area → rest ≡ written (nameOf (nameAtParts s n)) (take (length one - at) (drop at one))
+      → take at one ++ (rest ++ drop (length one - at) (drop at one)) ≡ written (addName (take k area) (nameAtParts s n)) area
+  unfolding addName
+  name-written {m} {at} {rest} one e g o r =
+      fit-written area (59 ∷ 32 ∷ []) (nameOf (nameAtParts s n)) k name-fit one rest at (rw (long e) at g) (rw (long e) at o) r
+
+pub ruleset add-name-laws = (fits-family, fits-given, name-opened, name-start, name-room, name-sum, name-count, name-written)
+
+-- the name of the next field, if it begins one
+module _ (s : List ℕ) (i end e : ℕ) (area : List ℕ) (k : ℕ) where
+  next-is : (r : NameParts) → ReadsName s r (nameAfter (fieldsOf s end e)) → byteAt s i ≡ 2
+      → fold addName (take k area) (nameAt (byteAt s i) (fieldsOf s end e)) ≡ addName (take k area) (nameAtParts s r)
+  unfolding fold nameAt
+  next-is r q t = rw (eq-eqb (byteAt s i) 2 t, q .name) refl
+
+  skip-is : (byteAt s i ≡ 2 → ⊥) → fold addName (take k area) (nameAt (byteAt s i) (fieldsOf s end e)) ≡ take k area
+  unfolding fold nameAt
+  skip-is t = rw (ne-eqb (byteAt s i) 2 t) refl
+
+  pub next-fits : {r : NameParts} → NextFits s i end e area k → byteAt s i ≡ 2 → ReadsName s r (nameAfter (fieldsOf s end e)) → NameFits s r area k
+  next-fits {r} f t q =
+      record {
+        small = f .small;
+        literal = q .literal;
+        family = q .family;
+        given = q .given;
+        front = f .front;
+        room = rw (next-is r q t) at (f .room);
+      }
+
+  pub next-count : (r : NameParts) {n : ℕ} → byteAt s i ≡ 2 → ReadsName s r (nameAfter (fieldsOf s end e))
+      → n ≡ length (addName (take k area) (nameAtParts s r)) → n ≡ length (fold addName (take k area) (nameAt (byteAt s i) (fieldsOf s end e)))
+  next-count r t q h = rw (next-is r q t) h
+
+  pub next-written : (r : NameParts) {out : List ℕ} → byteAt s i ≡ 2 → ReadsName s r (nameAfter (fieldsOf s end e))
+      → out ≡ written (addName (take k area) (nameAtParts s r)) area
+      → out ≡ written (fold addName (take k area) (nameAt (byteAt s i) (fieldsOf s end e))) area
+  next-written r t q h = rw (next-is r q t) h
+
+  pub skip-count : NextFits s i end e area k → (byteAt s i ≡ 2 → ⊥) → k ≡ length (fold addName (take k area) (nameAt (byteAt s i) (fieldsOf s end e)))
+  skip-count f t = rw (skip-is t) (sym (length-take-le k area (f .front)))
+
+  pub skip-written : NextFits s i end e area k → (byteAt s i ≡ 2 → ⊥)
+      → area ≡ written (fold addName (take k area) (nameAt (byteAt s i) (fieldsOf s end e))) area
+  skip-written f t = rw (skip-is t) (written-kept area k (f .front))
+
+pub ruleset write-next-laws = (next-fits, next-count, next-written, skip-count, skip-written)
+
+-- names only grow
+names-more : (a : List ℕ) (ns : List Name) → length a ≤ length (fold addName a ns)
+unfolding fold addName
+names-more a [] = omega arith
+names-more a (n ∷ ns) =
+    let p = beside-more (59 ∷ 32 ∷ []) a (nameOf n) in
+    let q = names-more (beside (59 ∷ 32 ∷ []) a (nameOf n)) ns in
+    omega arith
+
+-- the loop is at the field at `i`, with the names so far in the first `k` bytes of the area
+pub record SoFar (s : List ℕ) (at e : ℕ) (area₀ area : List ℕ) (k i : ℕ) : Type 0 where
+  pub fields : FieldsIn s i e
+  pub small : length s ≤ 32768
+  pub room : length (namesOf (entryOf (fieldsOf s at e))) ≤ length area₀
+  pub long : length area ≡ length area₀
+  pub front : k ≤ length area
+  pub same : area ≡ written (take k area) area₀
+  pub names : namesOf (entryOf (fieldsOf s at e)) ≡ fold addName (take k area) (namesIn (fieldsOf s i e))
+
+pub so-far-start : (s : List ℕ) (at e : ℕ) (area : List ℕ) → EntryIn s at e → length (namesOf (entryOf (fieldsOf s at e))) ≤ length area
+    → SoFar s at e area area 0 at
+unfolding namesOf entryOf
+so-far-start s at e area h r =
+    record {
+      fields = fields-of-entry s at e h;
+      small = h .small;
+      room = r;
+      long = refl;
+      front = omega arith;
+      same = written-none area;
+      names = refl;
+    }
+
+module _ (s : List ℕ) (at e : ℕ) (area₀ area : List ℕ) (k i : ℕ) (f : SoFar s at e area₀ area k i) where
+  -- the names with the next one
+  abbrev more : ℕ → List ℕ
+  more end = fold addName (take k area) (nameAt (byteAt s i) (fieldsOf s end e))
+
+  all-names : (end : ℕ) → i < e → end ≡ fieldEnd s i → namesOf (entryOf (fieldsOf s at e)) ≡ fold addName (more end) (namesIn (fieldsOf s end e))
+  all-names end h p = f .names ∙ names-split addName (take k area) s i e h ∙ rw p refl
+
+  more-fits : (end : ℕ) → i < e → end ≡ fieldEnd s i → length (more end) ≤ length area
+  more-fits end h p =
+      let l = names-more (more end) (namesIn (fieldsOf s end e)) in
+      let r = rw (all-names end h p) at (f .room) in
+      let n = f .long in
+      omega arith
+
+  pub so-far-fits : {end : ℕ} → i < e → end ≡ fieldEnd s i → NextFits s i end e area k
+  so-far-fits {end} h p =
+      record {
+        small = f .small;
+        tag = let l = fields-head s i e (f .fields) h in omega arith;
+        fields = fields-rest s i e (f .fields) h p;
+        front = f .front;
+        room = more-fits end h p;
+      }
+
+  pub so-far-next : {end r : ℕ} {out : List ℕ} → i < e → end ≡ fieldEnd s i → r ≡ length (more end) → out ≡ written (more end) area
+      → SoFar s at e area₀ out r end
+  so-far-next {end} {r} {out} h p q o =
+      let t : take r out ≡ more end = rw o (written-front (more end) area r q) in
+      let l : length out ≡ length area = rw o (written-length (more end) area (more-fits end h p)) in
+      let m = more-fits end h p in
+      let n = f .long in
+      let g : length (take k area) ≤ length (more end) = names-more (take k area) (nameAt (byteAt s i) (fieldsOf s end e)) in
+      record {
+        fields = fields-rest s i e (f .fields) h p;
+        small = f .small;
+        room = f .room;
+        long = omega arith;
+        front = omega arith;
+        same = rw t (o ∙ ap (written (more end)) (f .same) ∙ written-over (take k area) (more end) area₀ g);
+        names = rw t (all-names end h p);
+      }
+
+  ended-names : e ≤ i → namesOf (entryOf (fieldsOf s at e)) ≡ take k area
+  unfolding namesIn fold
+  ended-names h = f .names ∙ rw (fields-end s i e h) refl
+
+  pub so-far-count : e ≤ i → k ≡ length (namesOf (entryOf (fieldsOf s at e)))
+  so-far-count h = rw (ended-names h) (sym (length-take-le k area (f .front)))
+
+  pub so-far-written : e ≤ i → area ≡ written (namesOf (entryOf (fieldsOf s at e))) area₀
+  so-far-written h = rw (ended-names h) (f .same)
+
+  pub so-far-head : i < e → i + 3 ≤ length s
+  so-far-head h = fields-head s i e (f .fields) h
+
+pub ruleset so-far-laws = (so-far-start, so-far-fits, so-far-next, so-far-count, so-far-written, so-far-head, field-shrinks)

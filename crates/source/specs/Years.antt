@@ -1,11 +1,12 @@
 -- A year of an entry: a number, or where its bytes lie in the pool.
 use Prim.Native.Nat.{ℕ, _+_, _≤_}
 use mathlib.Core.Path.{_≡_}
-use mathlib.Core.List.{List}
+use mathlib.Core.List.{List, []}
 use mathlib.Core.Option.{Option, none, some}
 use lib.ListN.{length}
 use Rattle.base.specs.Lists.{part}
 use Rattle.pool.specs.Numbers.{signed}
+use Rattle.pool.specs.Entries.{bytesOr}
 use Rattle.source.specs.declared.Year.{Year}
 use Rattle.source.specs.declared.Year.the-variants.{Number, At, Missing}
 use Rattle.source.specs.Decimal.{signedDecimal}
@@ -36,3 +37,7 @@ unfoldable pub parensLen : Year → ℕ
 parensLen (Number negative magnitude) = 2 + length (signedDecimal (signed negative magnitude))
 parensLen (At p) = 2 + p .len
 parensLen Missing = 0
+
+-- its bytes; none where it is missing
+abbrev pub yearText : List ℕ → Year → List ℕ
+yearText s y = bytesOr (yearBytes s y) []

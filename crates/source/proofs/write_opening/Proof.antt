@@ -1,0 +1,19 @@
+-- `source::write_opening` meets its contract. Assumes nothing.
+use borrow.Author.Needs.{needs}
+use Rattle.source.proofs.YearLaws.{opening-written}
+use Rattle.source.proofs.WriteLaws.{rest-room}
+use Rattle.source.proofs.write_opening.Statement.{statement}
+use Rattle.source.proofs.write_opening.Tie as tie
+
+pub write-opening-spec : {M : Type 1} → statement M
+write-opening-spec =
+    tie.close
+    (tie.spec
+    (λ c. search (opening-written, rest-room, needs))
+    (λ c κs. search (opening-written, rest-room, needs))
+    (λ c. search (opening-written, rest-room, needs))
+    (λ c. search (opening-written, rest-room, needs))
+    (λ c. search (opening-written, rest-room, needs))
+    (λ c κs. search (opening-written, rest-room, needs))
+    (λ c. search (opening-written, rest-room, needs))
+    (λ c. search (opening-written, rest-room, needs)))
