@@ -1,8 +1,8 @@
--- `numbering::lines::starts` meets its contract. Assumes nothing.
+-- `numbering::define::starts` meets its contract. Assumes nothing.
 use borrow.Author.Needs.{needs}
 use Rattle.numbering.proofs.LineLaws.{define-laws}
-use Rattle.numbering.proofs.lines.starts.Statement.{statement}
-use Rattle.numbering.proofs.lines.starts.Tie as tie
+use Rattle.numbering.proofs.define.starts.Statement.{statement}
+use Rattle.numbering.proofs.define.starts.Tie as tie
 
 pub starts-spec : {M : Type 1} → statement M
 starts-spec =

@@ -1,8 +1,8 @@
--- `numbering::lines::colon` meets its contract. Assumes nothing.
+-- `numbering::define::colon` meets its contract. Assumes nothing.
 use borrow.Author.Needs.{needs}
 use Rattle.numbering.proofs.LineLaws.{define-laws}
-use Rattle.numbering.proofs.lines.colon.Statement.{statement}
-use Rattle.numbering.proofs.lines.colon.Tie as tie
+use Rattle.numbering.proofs.define.colon.Statement.{statement}
+use Rattle.numbering.proofs.define.colon.Tie as tie
 
 pub colon-spec : {M : Type 1} → statement M
 colon-spec =
