@@ -4,7 +4,7 @@ ghost use mathlib.Core.List.{_++_};
 ghost use Prim.Native.Nat.{_≤_};
 ghost use lib.ListN.{length, drop};
 ghost use Rattle.base.specs.Lists.{written};
-ghost use Rattle.decimal.specs.Decimal.{digitCount, lastDigits, decimal};
+ghost use Rattle.decimal.specs.Decimal.{lastDigits, decimal};
 
 // How many digits `n` has.
 pub fn digit_count(n: u64) -> usize

@@ -1,16 +1,12 @@
 -- The fields of a stretch, one at a time: more turns than bytes change nothing, so the stretch that is left stands for itself.
 use Prim.Native.Nat.{ℕ, zero, suc, _+_, _-_, _≤_, _<_}
 use native.Mathlib.Omega.{arith}
-use mathlib.Core.Path.{_≡_, refl, sym, _∙_, ap}
+use mathlib.Core.Path.{_≡_, refl, _∙_}
 use mathlib.Core.List.{List, [], _∷_}
-use mathlib.Core.Bool.{Bool, true, false, _&&_, and-assoc}
-use lib.ListN.{length}
-use lib.Dec.{eqb, leb, ltb}
-use borrow.Author.Tests.{lt-ltb, le-ltb, ltb-true, ltb-false, leb-true, le-leb, lt-leb, eq-eqb, eqb-true}
-use Rattle.base.specs.Pick.{pick}
-use Rattle.base.specs.Lists.{byteAt, part}
-use Rattle.pool.specs.Numbers.{u16At}
-use Rattle.pool.specs.Fields.{Field, fieldEnd, fieldAt, fieldsIn, fillIn, fieldsOf, fill, follows, contentGood, fieldsGood, entryGood}
+use mathlib.Core.Bool.{_&&_}
+use lib.Dec.{eqb, leb}
+use borrow.Author.Tests.{lt-ltb, le-ltb}
+use Rattle.pool.specs.Fields.{fieldEnd, fieldAt, fieldsIn, fillIn, fieldsOf, fill}
 
 -- a field has three bytes or more
 pub field-long : (s : List ℕ) (at : ℕ) → at + 3 ≤ fieldEnd s at

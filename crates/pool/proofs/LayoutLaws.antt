@@ -1,18 +1,16 @@
 -- The check of an entry and of the pool, in the form of the needs.
-use Prim.Native.Nat.{ℕ, zero, suc, _+_, _-_, _*_, _≤_, _<_}
+use Prim.Native.Nat.{ℕ, suc, _+_, _-_, _*_, _≤_, _<_}
 use native.Mathlib.Omega.{arith}
-use mathlib.Core.Path.{_≡_, refl, sym, _∙_, ap}
-use mathlib.Core.List.{List, [], _∷_}
+use mathlib.Core.Path.{_≡_, refl, sym, _∙_}
+use mathlib.Core.List.{List}
 use mathlib.Core.Bool.{Bool, true, false, _&&_}
 use lib.ListN.{length, take, drop}
-use lib.Dec.{eqb, leb, ltb}
-use borrow.Author.Tests.{lt-ltb, le-ltb, ltb-true, ltb-false, leb-true, le-leb, lt-leb, eq-eqb, ne-eqb, eqb-true}
-use Rattle.base.specs.Pick.{pick}
+use lib.Dec.{eqb, leb}
+use borrow.Author.Tests.{lt-ltb, le-ltb, leb-true, le-leb, lt-leb, eq-eqb, ne-eqb}
 use Rattle.base.specs.Lists.{byteAt, part}
 use Rattle.text.specs.Utf8.{utf8}
-use Rattle.pool.specs.Numbers.{u16At}
-use Rattle.pool.specs.Fields.{Field, fieldEnd, fieldAt, fieldsOf, fill, follows, contentGood, fieldsGood, entryGood}
-use Rattle.pool.specs.Layout.{countOf, offsetOf, lengthOf, endOf, entriesGood, laidOut, wellFormed}
+use Rattle.pool.specs.Fields.{fieldEnd, fieldAt, fieldsOf, fill, follows, contentGood, fieldsGood, entryGood}
+use Rattle.pool.specs.Layout.{countOf, offsetOf, endOf, entriesGood, laidOut, wellFormed}
 use Rattle.pool.specs.Steps.{fieldGood, goodFrom, pairGood}
 use Rattle.pool.proofs.PartLaws.{part-in, part-length}
 use Rattle.pool.proofs.FieldLaws.{field-after, field-shrinks, fields-next, fill-next, fields-end, fill-end}

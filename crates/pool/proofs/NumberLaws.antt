@@ -1,13 +1,11 @@
 -- Little-endian numbers, by laws over the width.
 use Prim.Native.Nat.{ℕ, zero, suc, _+_, _-_, _*_, _^_, _≤_, _<_}
 use native.Mathlib.Nat.{pow-succ', pow-le-pow-right}
-use native.Mathlib.Numerals.{add-one}
 use native.Mathlib.Omega.{arith}
-use mathlib.Core.Path.{_≡_, refl, ap, sym, _∙_}
+use mathlib.Core.Path.{_≡_, refl}
 use mathlib.Core.List.{List}
 use mathlib.Core.Bool.{true, false}
-use lib.ListN.{length, getD}
-use lib.Dec.{ltb}
+use lib.ListN.{length}
 use borrow.Author.Tests.{lt-ltb, le-ltb}
 use Rattle.pool.proofs.PartLaws.{part-byte}
 use Rattle.base.specs.Lists.{byteAt, part}

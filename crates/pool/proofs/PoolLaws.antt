@@ -4,19 +4,17 @@ use native.Mathlib.Omega.{arith}
 use mathlib.Core.Path.{_≡_, refl, sym, _∙_, ap}
 use mathlib.Core.List.{List, [], _∷_}
 use mathlib.Core.Bool.{Bool, true, false, _&&_}
-use mathlib.Core.Option.{Option, none, some}
+use mathlib.Core.Option.{Option, some}
 use lib.ListN.{length, getD, List·getD-eq-default}
-use lib.Dec.{eqb, leb, ltb}
-use borrow.Author.Tests.{leb-true, ltb-true, lt-ltb, eqb-true}
+use lib.Dec.{eqb, leb}
+use borrow.Author.Tests.{leb-true, lt-ltb, eqb-true}
 use Rattle.base.specs.Pick.{pick}
-use Rattle.base.specs.Lists.{byteAt}
 use Rattle.pool.specs.declared.Found.{Found}
-use Rattle.pool.specs.declared.NameParts.{NameParts}
 use Rattle.pool.specs.Numbers.{leAt, signedOf}
 use Rattle.pool.specs.Fields.{Field, fieldsOf, fill, follows, contentGood, fieldsGood, entryGood}
-use Rattle.pool.specs.Entries.{fieldWith, inName, nameAfter, yearIn, Entry, entryOf, noEntry}
+use Rattle.pool.specs.Entries.{fieldWith, inName, nameAfter, yearIn, Entry, entryOf}
 use Rattle.pool.specs.Layout.{countOf, offsetOf, endOf, entriesGood, laidOut, wellFormed, entriesIn, entriesOf}
-use Rattle.pool.specs.Places.{bytesAt, Inside, Reads, ReadsName, FieldsIn, EntryIn}
+use Rattle.pool.specs.Places.{Reads, ReadsName, EntryIn}
 use Rattle.base.specs.declared.Span.{Span}
 use Rattle.pool.specs.declared.Found.the-variants.{At}
 use Rattle.pool.proofs.NumberLaws.{le-part}

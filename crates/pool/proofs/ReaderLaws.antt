@@ -1,23 +1,23 @@
 -- Reading the fields of an entry by place, in the form of the needs.
-use Prim.Native.Nat.{ℕ, zero, suc, _+_, _-_, _*_, _≤_, _<_}
+use Prim.Native.Nat.{ℕ, _+_, _-_, _≤_, _<_}
 use native.Mathlib.Omega.{arith}
-use mathlib.Core.Path.{_≡_, refl, sym, _∙_, ap}
-use mathlib.Core.List.{List, [], _∷_}
-use mathlib.Core.Bool.{Bool, true, false, _&&_}
+use mathlib.Core.Path.{_≡_, refl, sym, _∙_}
+use mathlib.Core.List.{List}
+use mathlib.Core.Bool.{Bool, true, false}
 use mathlib.Core.Option.{Option, none, some}
 use lib.ListN.{length}
-use lib.Dec.{eqb, leb, ltb}
+use lib.Dec.{eqb, leb}
 use borrow.Author.Tests.{leb-true, leb-false, le-leb, lt-leb, eq-eqb, ne-eqb, eqb-true}
 use Rattle.base.specs.Pick.{pick}
-use Rattle.base.specs.Lists.{byteAt, part, within}
+use Rattle.base.specs.Lists.{byteAt, within}
 use Rattle.base.specs.Spans.{span}
 use Rattle.pool.specs.declared.Found.{Found}
 use Rattle.pool.specs.declared.Found.the-variants.{At, Missing}
-use Rattle.pool.specs.Fields.{Field, fieldEnd, fieldAt, fieldsOf, fill, fieldsGood, entryGood}
+use Rattle.pool.specs.Fields.{fieldEnd, fieldAt, fieldsOf, fill, entryGood}
 use Rattle.pool.specs.Entries.{fieldWith, inName}
-use Rattle.pool.specs.Places.{bytesAt, Inside, Reads, FieldsIn, EntryIn}
-use Rattle.pool.proofs.FieldLaws.{field-after, field-shrinks, field-long, fields-next, fill-next, fields-end, fill-end}
-use Rattle.pool.proofs.LayoutLaws.{differ, both, three}
+use Rattle.pool.specs.Places.{Reads, FieldsIn, EntryIn}
+use Rattle.pool.proofs.FieldLaws.{field-after, field-shrinks, fields-next, fill-next, fields-end, fill-end}
+use Rattle.pool.proofs.LayoutLaws.{both, three}
 
 -- an entry is made of fields
 pub fields-of-entry : (s : List ℕ) (at e : ℕ) → EntryIn s at e → FieldsIn s at e

@@ -1,17 +1,17 @@
 -- The author of an entry: its first name's literal or family.
 use Prim.Native.Nat.{ℕ, _+_, _≤_, _<_}
-use mathlib.Core.Path.{_≡_, refl, ap, sym, _∙_}
-use mathlib.Core.List.{List, [], _∷_, _++_}
-use mathlib.Core.Option.{Option, none, some}
+use mathlib.Core.Path.{_≡_, refl, sym, _∙_}
+use mathlib.Core.List.{List}
+use mathlib.Core.Option.{Option}
 use borrow.Author.Tests.{eq-eqb, ne-eqb}
 use Rattle.base.specs.Lists.{byteAt}
 use Rattle.base.specs.declared.Span.{Span}
 use Rattle.pool.specs.declared.Found.{Found}
 use Rattle.pool.specs.declared.Found.the-variants.{At, Missing}
 use Rattle.pool.specs.declared.NameParts.{NameParts}
-use Rattle.pool.specs.Fields.{Field, fieldEnd, fieldAt, fieldsOf}
-use Rattle.pool.specs.Entries.{Name, nameAfter, nameAt, namesIn, entryOf}
-use Rattle.pool.specs.Places.{bytesAt, Inside, Reads, ReadsName, EntryIn}
+use Rattle.pool.specs.Fields.{fieldEnd, fieldAt, fieldsOf}
+use Rattle.pool.specs.Entries.{nameAfter, nameAt, namesIn, entryOf}
+use Rattle.pool.specs.Places.{bytesAt, Inside, Reads, ReadsName}
 use Rattle.pool.proofs.FieldLaws.{fields-next, fields-end}
 use Rattle.source.specs.Text.{orBytes, authorBy, authorOf}
 use Rattle.source.specs.Lengths.{orFound}

@@ -1,23 +1,21 @@
 -- The source text call, by its refusals and its answer.
-use Prim.Native.Nat.{ℕ, zero, suc, _+_, _*_, _-_, _≤_, _<_}
+use Prim.Native.Nat.{ℕ, _+_, _*_, _-_, _≤_, _<_}
 use native.Mathlib.Omega.{arith}
-use mathlib.Core.Path.{_≡_, refl, ap, sym, _∙_}
-use mathlib.Core.List.{List, [], _∷_}
-use mathlib.Core.Bool.{Bool, true, false, not}
-use lib.ListN.{length, getD}
-use lib.Dec.{ltb}
+use mathlib.Core.Path.{_≡_, refl, sym, _∙_}
+use mathlib.Core.List.{List}
+use mathlib.Core.Bool.{Bool, true, false}
+use lib.ListN.{length}
 use borrow.Author.Tests.{lt-ltb, le-ltb}
-use Rattle.base.specs.Pick.{pick}
 use Rattle.base.specs.Lists.{written}
 use Rattle.pool.specs.Fields.{fieldsOf}
-use Rattle.pool.specs.Entries.{Entry, entryOf, noEntry}
+use Rattle.pool.specs.Entries.{entryOf, noEntry}
 use Rattle.pool.specs.Layout.{countOf, offsetOf, endOf, wellFormed, entriesOf}
 use Rattle.pool.specs.Places.{EntryIn}
 use Rattle.pool.proofs.PoolLaws.{pair-there, entry-there, count-is, entry-is}
 use Rattle.source.specs.declared.SourceText.{SourceText}
 use Rattle.source.specs.declared.SourceText.the-variants.{Accepted, Refused}
 use Rattle.source.specs.Text.{sourceTextOf}
-use Rattle.source.specs.Call.{SourceAnswer, sourceRefused, entryAt, sourceWritten, sourceTextCall}
+use Rattle.source.specs.Call.{sourceRefused, entryAt, sourceWritten, sourceTextCall}
 use Rattle.source.specs.Values.{sourceTextValues, sourceTextNumbers}
 
 pub call-formed : (p : List ℕ) {w : Bool} → w ≡ wellFormed p → w ≡ true → wellFormed p ≡ true

@@ -1,9 +1,8 @@
 -- Names: their lengths, and their bytes piece by piece.
-use Prim.Native.Nat.{ℕ, zero, suc, _+_, _-_, _≤_, _<_}
+use Prim.Native.Nat.{ℕ, _+_, _-_, _≤_}
 use native.Mathlib.Omega.{arith}
-use mathlib.Core.Path.{_≡_, refl, ap, sym, _∙_}
-use mathlib.Core.List.{List, [], _∷_, _++_, append-assoc, append-nil}
-use mathlib.Core.Bool.{Bool, true, false}
+use mathlib.Core.Path.{_≡_, refl, sym}
+use mathlib.Core.List.{List, [], _∷_, _++_, append-nil}
 use mathlib.Core.Option.{Option, none, some}
 use mir.Val.{Fits}
 use mir.Syntax.{w64}
@@ -13,12 +12,12 @@ use Rattle.base.specs.declared.Span.{Span}
 use Rattle.pool.specs.declared.Found.{Found}
 use Rattle.pool.specs.declared.Found.the-variants.{At, Missing}
 use Rattle.pool.specs.declared.NameParts.{NameParts}
-use Rattle.pool.specs.Entries.{Name, bytesOr}
+use Rattle.pool.specs.Entries.{bytesOr}
 use Rattle.pool.specs.Places.{bytesAt, Inside, nameAtParts}
 use Rattle.pool.proofs.PartLaws.{part-length}
 use Rattle.source.specs.Text.{nameBy, nameOf}
 use Rattle.source.specs.Lengths.{lenOf, givenPart, givenLen, familyPart, familyLen, nameLenBy, nameLen}
-use Rattle.source.proofs.WriteLaws.{written-after, written-none, rest-room}
+use Rattle.source.proofs.WriteLaws.{written-after, written-none}
 
 pub found-length : (s : List ℕ) (f : Found) → Inside s f → lenOf f ≡ length (bytesOr (bytesAt s f) [])
 found-length s (At p) h = let l = part-length s (p .at) (p .at + p .len) (omega arith) h in omega arith

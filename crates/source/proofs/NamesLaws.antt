@@ -1,29 +1,28 @@
 -- The names of an entry, one after the other.
-use Prim.Native.Nat.{ℕ, zero, suc, _+_, _-_, _*_, _≤_, _<_}
+use Prim.Native.Nat.{ℕ, _+_, _-_, _*_, _≤_, _<_}
 use native.Mathlib.Omega.{arith}
 use mathlib.Core.Path.{_≡_, refl, ap, sym, _∙_}
-use mathlib.Core.List.{List, [], _∷_, _++_, append-assoc, append-nil}
+use mathlib.Core.List.{List, [], _∷_, _++_}
 use mathlib.Core.Bool.{Bool, true, false}
-use mathlib.Core.Option.{Option, none, some}
 use mir.Val.{Fits}
 use mir.Syntax.{w64}
-use lib.ListN.{length, take, drop, length-append}
+use lib.ListN.{length, take, drop}
 use lib.Dec.{eqb}
 use lib.Seq.{length-take-le}
-use borrow.Author.Tests.{eq-eqb, ne-eqb, eqb-true}
+use borrow.Author.Tests.{eq-eqb, ne-eqb}
 use Rattle.base.specs.Pick.{pick}
 use Rattle.base.specs.Fold.{fold}
-use Rattle.base.specs.Lists.{byteAt, part, written}
+use Rattle.base.specs.Lists.{byteAt, written}
 use Rattle.pool.specs.declared.Found.{Found}
 use Rattle.pool.specs.declared.Found.the-variants.{At, Missing}
 use Rattle.pool.specs.declared.NameParts.{NameParts}
 use Rattle.pool.specs.Fields.{Field, fieldEnd, fieldAt, fieldsOf}
-use Rattle.pool.specs.Entries.{Name, bytesOr, nameAfter, nameAt, namesIn, entryOf}
-use Rattle.pool.specs.Places.{bytesAt, Inside, nameAtParts, ReadsName, FieldsIn, EntryIn}
+use Rattle.pool.specs.Entries.{Name, nameAfter, nameAt, namesIn, entryOf}
+use Rattle.pool.specs.Places.{Inside, nameAtParts, ReadsName, FieldsIn, EntryIn}
 use Rattle.pool.proofs.FieldLaws.{field-long, field-shrinks, fields-next, fields-end}
 use Rattle.pool.proofs.ReaderLaws.{fields-of-entry, fields-order, fields-head, fields-rest}
-use Rattle.source.specs.Text.{isEmpty, beside, nameBy, nameOf, addName, namesOf}
-use Rattle.source.specs.Lengths.{besideLen, opened, lenOf, familyLen, nameLenBy, nameLen, familyPart, givenPart, givenLen, addLen}
+use Rattle.source.specs.Text.{beside, nameOf, addName, namesOf}
+use Rattle.source.specs.Lengths.{besideLen, opened, lenOf, familyLen, nameLenBy, nameLen, givenLen, addLen}
 use Rattle.source.specs.Room.{Fit, NameFits, NextFits}
 use Rattle.source.proofs.WriteLaws.{beside-length, beside-more, written-none, written-kept, written-over, written-front, written-length, rest-room, fit-total, fit-opened, fit-rest, fit-written}
 use Rattle.source.proofs.NameLaws.{name-length}

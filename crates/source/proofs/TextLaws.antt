@@ -1,27 +1,24 @@
 -- The text of an entry: names, year and title beside each other, and the stop.
-use Prim.Native.Nat.{ℕ, zero, suc, _+_, _-_, _≤_, _<_}
+use Prim.Native.Nat.{ℕ, _+_, _-_, _≤_, _<_}
 use native.Mathlib.Omega.{arith}
 use mathlib.Core.Path.{_≡_, refl, ap, sym, _∙_}
 use mathlib.Core.List.{List, [], _∷_, _++_}
-use mathlib.Core.Bool.{Bool, true, false}
-use mathlib.Core.Option.{Option, none, some}
+use mathlib.Core.Option.{Option}
 use mir.Val.{Fits}
 use mir.Syntax.{w64}
-use lib.ListN.{length, take, drop, set, length-append}
+use lib.ListN.{length, take, drop, length-append}
 use lib.Seq.{length-take-le}
-use Rattle.base.specs.Pick.{pick}
-use Rattle.base.specs.Lists.{part, written}
-use Rattle.base.specs.declared.Span.{Span}
+use Rattle.base.specs.Lists.{written}
 use Rattle.pool.specs.declared.Found.{Found}
 use Rattle.pool.specs.declared.Found.the-variants.{At, Missing}
-use Rattle.pool.specs.Fields.{Field, fieldsOf}
+use Rattle.pool.specs.Fields.{fieldsOf}
 use Rattle.pool.specs.Entries.{bytesOr, fieldWith, entryOf}
 use Rattle.pool.specs.Places.{bytesAt, Inside, Reads, EntryIn}
 use Rattle.source.specs.declared.Year.{Year}
 use Rattle.source.specs.declared.Year.the-variants.{Number, At as YearAt, Missing as NoYear}
-use Rattle.source.specs.Text.{isEmpty, beside, namesOf, yearOf, inParens, headOf, ended, sourceTextOf}
+use Rattle.source.specs.Text.{beside, namesOf, yearOf, inParens, headOf, ended, sourceTextOf}
 use Rattle.source.specs.Lengths.{besideLen, lenOf, bodyOf}
-use Rattle.source.specs.Years.{yearBytes, YearInside, ReadsYear, yearLen, parensLen, yearText}
+use Rattle.source.specs.Years.{yearBytes, YearInside, ReadsYear, yearLen, parensLen}
 use Rattle.source.specs.Room.{Fit}
 use Rattle.source.proofs.NameLaws.{found-length}
 use Rattle.source.proofs.YearLaws.{parens-length, parens-at-most}

@@ -1,5 +1,5 @@
 -- Writing into the rest of an area, piece by piece, in the form of the needs.
-use Prim.Native.Nat.{ℕ, zero, suc, _+_, _-_, _≤_, _<_}
+use Prim.Native.Nat.{ℕ, suc, _+_, _-_, _≤_, _<_}
 use native.Mathlib.Omega.{arith}
 use mathlib.Core.Path.{_≡_, refl, ap, sym, _∙_}
 use mathlib.Core.List.{List, [], _∷_, _++_, append-assoc, append-nil}
@@ -13,7 +13,7 @@ use lib.Seq.{take-all, take-length, take-at, drop-at, drop-drop, drop-append-add
 use borrow.Author.Tests.{eq-eqb, ne-eqb, eqb-true}
 use Rattle.base.specs.Pick.{pick}
 use Rattle.base.specs.Lists.{part, written}
-use Rattle.pool.proofs.PartLaws.{part-in, part-length}
+use Rattle.pool.proofs.PartLaws.{part-in}
 use Rattle.source.specs.Text.{isEmpty, beside}
 use Rattle.source.specs.Lengths.{besideLen, opened}
 use Rattle.source.specs.Room.{Fit}

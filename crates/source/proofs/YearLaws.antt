@@ -1,22 +1,21 @@
 -- Years: where they lie, their lengths, their bytes.
-use Prim.Native.Nat.{ℕ, zero, suc, _+_, _-_, _≤_, _<_}
+use Prim.Native.Nat.{ℕ, _+_, _-_, _≤_}
 use native.Mathlib.Omega.{arith}
 use mathlib.Core.Path.{_≡_, refl, ap, sym, _∙_}
-use mathlib.Core.List.{List, [], _∷_, _++_, append-assoc, append-nil}
+use mathlib.Core.List.{List, [], _∷_, _++_}
 use mathlib.Core.Bool.{Bool, true, false}
-use mathlib.Core.Option.{Option, none, some}
+use mathlib.Core.Option.{Option}
 use mir.Val.{Fits}
 use mir.Syntax.{w64}
-use lib.ListN.{length, take, drop, set, length-append, length-set}
-use Rattle.base.specs.Pick.{pick}
+use lib.ListN.{length, take, drop, length-append}
 use Rattle.base.specs.Lists.{part, written}
 use Rattle.base.specs.declared.Span.{Span}
 use Rattle.pool.specs.declared.Found.{Found}
 use Rattle.pool.specs.declared.Found.the-variants.{At, Missing}
 use Rattle.pool.specs.Numbers.{leAt, signed, signedOf}
-use Rattle.pool.specs.Fields.{Field, fieldsOf}
+use Rattle.pool.specs.Fields.{fieldsOf}
 use Rattle.pool.specs.Entries.{fieldWith, yearIn, entryOf}
-use Rattle.pool.specs.Places.{bytesAt, Inside, Reads, EntryIn}
+use Rattle.pool.specs.Places.{bytesAt, Reads, EntryIn}
 use Rattle.pool.proofs.PartLaws.{part-length}
 use Rattle.pool.proofs.PoolLaws.{year-eight, year-is}
 use Rattle.decimal.specs.Decimal.{decimal}
@@ -26,7 +25,7 @@ use Rattle.source.specs.declared.Year.the-variants.{Number, At as YearAt
 use Rattle.source.specs.Decimal.{signedDecimal}
 use Rattle.source.specs.Text.{yearBy, yearOf, inParens}
 use Rattle.source.specs.Years.{yearBytes, YearInside, ReadsYear, yearLen, parensLen, yearText}
-use Rattle.source.proofs.WriteLaws.{written-after, written-byte, written-none, written-length, rest-room}
+use Rattle.source.proofs.WriteLaws.{written-after, written-none, written-length, rest-room}
 
 -- the date literal
 module _ (s : List ℕ) (f : Found) (o : Option (List ℕ)) where

@@ -4,7 +4,7 @@ use Rattle.decimal.proofs.Laws.{fill-laws}
 use Prim.Native.Nat.{_≤_}
 use mathlib.Core.Path.{_≡_}
 use mathlib.Core.List.{_++_}
-use lib.ListN.{length, drop, length-set}
+use lib.ListN.{length, drop}
 use Rattle.decimal.specs.Decimal.{lastDigits}
 use Rattle.decimal.proofs.fill.Statement.{statement}
 use Rattle.decimal.proofs.fill.Tie as tie

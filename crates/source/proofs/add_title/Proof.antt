@@ -17,7 +17,7 @@ add-title-spec =
     (λ c. search (add-title-laws, stage-laws, fields-of-entry, needs))
     (λ c. search (add-title-laws, stage-laws, fields-of-entry, needs))
     (λ c. search (add-title-laws, stage-laws, fields-of-entry, needs))
-    (λ c κs. (c .before .before .before .before .before .before .before .field-with .ensures .inside, title-room (c .before .before .before .before .before .before .before .field-with .result) (c .before .before .before .before .before .before .found-len .ensures) (stage-room _ _ _ _ _ _ (c .before .before .before .before .before .before .before .before .before .before .pre .1) (title-long _ _ _ (c .before .before .before .before .before .before .before .field-with .ensures) (c .before .before .before .before .before .before .found-len .ensures)) (c .before .before .before .separate .ensures .0) (c .before .before .before .separate .ensures .1))))
+    (λ c κs. (c .before .before .before .before .before .before .before .field-with .ensures .inside, title-room (c .before .before .before .before .before .before .before .field-with .result) (c .before .before .before .before .before .before .found-len .ensures) (stage-room _ _ _ _ _ _ (c .before .before .before .before .before .before .before .before .before .before .pre .1) (title-long _ _ _ (c .before .before .before .before .before .before .before .field-with .ensures) (c .before .before .before .before .before .before .found-len .ensures)) (c .before .before .before .separate .ensures .count) (c .before .before .before .separate .ensures .area))))
     (λ c. search (add-title-laws, stage-laws, fields-of-entry, needs))
     (λ c. search (add-title-laws, stage-laws, fields-of-entry, needs))
     (λ c. search (add-title-laws, stage-laws, fields-of-entry, needs)))
