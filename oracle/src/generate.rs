@@ -84,7 +84,10 @@ fn request(random: &mut Random, kind: &str) -> Option<Request> {
             let limit = random.of(&[1, 5, 20, 63, 64, 64, 65, 65, 66, 100, usize::MAX, usize::MAX]);
             Request::Close(text.into_bytes(), at, limit)
         }
-        "locator" => Request::Locator(texts::locator(random).into_bytes()),
+        "locator" => {
+            let text = texts::locator(random);
+            Request::Locator(if random.below(50) == 0 { refused(random, text) } else { text.into_bytes() })
+        }
         "item" => {
             let text = if random.below(4) > 0 { texts::item(random) } else { texts::pieces(random, 12) };
             let text = if random.below(3) == 0 { format!("[{text};{}]", texts::item(random)) } else { text };
@@ -248,7 +251,7 @@ fn look_up_places(random: &mut Random, text: &str) -> Vec<usize> {
 fn refused(random: &mut Random, text: String) -> Vec<u8> {
     let mut bytes = text.into_bytes();
     let at = random.below(bytes.len() + 1);
-    match random.below(20) {
+    match random.below(200) {
         0 => bytes.resize(65_536 + random.below(3), b'['),
         _ => {
             let broken = random.of(&BROKEN);

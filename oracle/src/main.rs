@@ -5,6 +5,7 @@
 //!     oracle generate SEED N KIND                     N made-up requests of a kind, to be answered or to be sent elsewhere
 //!     oracle store > ../crates/replay/data/answers    the stored list that crates/replay replays
 //!     oracle store SEED TIMES > answers               a list with other seeds, TIMES as long, to run target/bin/replay beside
+//!     oracle count SEED TIMES                         how many calls of each sort that list has, by their answer
 //!     oracle show SEED TIMES KIND N                   the requests of the N-th record of a kind in that list, with their answers
 //!
 //! A place that the Rust's answer does not bear out stops the program.
@@ -23,8 +24,11 @@ fn main() {
         ["generate", seed, n, kind] => write_requests(number(seed), number(n) as usize, kind),
         ["store"] => store(0, 1),
         ["store", seed, times] => store(number(seed), number(times) as usize),
+        ["count", seed, times] => print!("{}", stored::counts(number(seed), number(times) as usize)),
         ["show", seed, times, kind, n] => show(number(seed), number(times) as usize, kind, number(n) as usize),
-        _ => stop("oracle | oracle generate SEED N KIND | oracle store [SEED TIMES] | oracle show SEED TIMES KIND N"),
+        _ => stop(
+            "oracle | oracle generate SEED N KIND | oracle store [SEED TIMES] | oracle count SEED TIMES | oracle show SEED TIMES KIND N",
+        ),
     }
 }
 

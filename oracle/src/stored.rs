@@ -5,7 +5,7 @@ use crate::generate;
 use crate::protocol::Request;
 
 /// The kinds: number in the list, name, seed, how many turns.
-const KINDS: [(u8, &str, u64, usize); 10] = [
+const KINDS: [(u8, &str, u64, usize); 11] = [
     (1, "utf8", 1, 800),
     (2, "escaped", 2, 700),
     (3, "key", 3, 1000),
@@ -15,6 +15,7 @@ const KINDS: [(u8, &str, u64, usize); 10] = [
     (7, "locator", 7, 800),
     (8, "item", 8, 800),
     (9, "pool", 9, 8),
+    (10, "source", 10, 120),
     (11, "lookup", 11, 400),
 ];
 /// A record lies within one block, and the rest of a block is filled with zeros.
@@ -59,6 +60,31 @@ pub fn lines(seed: u64, times: usize, name: &str, n: usize) -> Option<String> {
         }
     });
     out
+}
+
+/// How many pools and calls the list has, by their answer: a line of the request's word, the answer's first number (for a call its number,
+/// 0 where it is accepted) and how many; ` built` where the call built the index.
+pub fn counts(seed: u64, times: usize) -> String {
+    let mut counts = std::collections::BTreeMap::new();
+    records(seed, times, &mut |_, requests, _| {
+        let mut session = Session::default();
+        for request in requests {
+            let before = session.note();
+            let word = match request {
+                Request::Text(_) | Request::Build => "",
+                Request::Pool(_) => "pool",
+                Request::Source(..) => "source",
+                Request::LookUp(_) => "lookup",
+                Request::Annotate(..) => "annotate",
+                _ => continue,
+            };
+            let number = request.answer(&mut session).expect("a request that can be answered").numbers[0];
+            let built = if session.note() > before { " built" } else { "" };
+            *counts.entry((word, number, built)).or_insert(0) += usize::from(!word.is_empty());
+        }
+    });
+    let lines = counts.into_iter().filter(|(_, count)| *count > 0);
+    lines.map(|((word, number, built), count)| format!("{word} {number}{built} {count}\n")).collect()
 }
 
 fn asked(requests: &[Request]) -> String {

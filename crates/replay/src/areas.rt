@@ -70,3 +70,15 @@ pub fn has_bytes(area: &[u8], n: usize, body: &[u8]) -> bool {
     }
     true
 }
+
+// Whether `value` stands at every place from `at` on.
+pub fn has_only(area: &[u8], at: usize, value: u8) -> bool {
+    let mut i = at;
+    while i < area.len() {
+        if area[i] != value {
+            return false;
+        }
+        i += 1;
+    }
+    true
+}

@@ -80,6 +80,9 @@ fn agrees(kind: u8, body: &[u8]) -> bool {
     if kind == 9 {
         return pools::pool_agrees(body);
     }
+    if kind == 10 {
+        return pools::source_agrees(body);
+    }
     if kind == 11 {
         return look_ups::look_ups_agree(body);
     }
@@ -199,5 +202,6 @@ fn main() {
     replay(b"locator", 7);
     replay(b"item", 8);
     replay(b"pool", 9);
+    replay(b"source", 10);
     replay(b"lookup", 11);
 }

@@ -3,6 +3,7 @@ use crate::body::after;
 use crate::body::flag;
 use crate::body::number;
 use base::Span;
+use calls::LocatorAnswer;
 use close::Close;
 use item::Item;
 use item::Parsed;
@@ -46,11 +47,19 @@ fn code(l: Locator) -> usize {
     locator::code_of(l) as usize
 }
 
-// The parts of a locator. No text here is refused.
+// Whether an answer is the stored one: its number, then label code, value and suffix.
+fn is_told(answer: LocatorAnswer, body: &[u8]) -> bool {
+    match answer {
+        LocatorAnswer::Accepted { locator } => (number(body, 0) == 0)
+            & (number(body, 2) == code(locator))
+            & is_located(locator, after(body, 4)),
+        LocatorAnswer::Refused { number: n } => number(body, 0) == n as usize,
+    }
+}
+
+// The parts of a locator.
 pub fn locator_agrees(body: &[u8]) -> bool {
-    let s = after(body, 12);
-    let l = locator::parse_locator(s, 0, s.len());
-    (number(body, 0) == 0) & (number(body, 2) == code(l)) & is_located(l, after(body, 4))
+    is_told(calls::locator(after(body, 12)), body)
 }
 
 // Whether an item has the record that `body` begins with: pairs of prefix, key and locator, value and suffix, label code, marks.
