@@ -1,5 +1,5 @@
 -- The close of a bracket and the group at it, in the form of the code's needs: `r` is what a call gave.
-use Prim.Native.Nat.{ℕ, _+_, _-_, _≤_, _<_}
+use Prim.Native.Nat.{ℕ, _+_, _-_, _*_, _≤_, _<_}
 use native.Mathlib.Omega.{arith}
 use mathlib.Core.Path.{_≡_, refl, sym, _∙_, ap, subst}
 use mathlib.Core.List.{List}
@@ -25,6 +25,7 @@ use Rattle.lookup.specs.declared.Look.the-variants.{At as LookAt, Nothin
 use Rattle.lookup.specs.declared.Matched.{Matched}
 use Rattle.lookup.specs.declared.Matched.the-variants.{Group as MatchedGroup, Nothing as NotMatched}
 use Rattle.lookup.specs.Groups.{Group, GroupAnswer, Found, NoGroup, groupOf, barred, groupAccepted, judge}
+use Rattle.lookup.specs.Rows.{rowsLength, Writable}
 use Rattle.lookup.specs.Resolve.{isBuilt, storedClose, shortLook}
 use Rattle.lookup.specs.Looks.{settled, shortened, lookOf, closeAfter, matched, Inside, LookInside}
 
@@ -190,3 +191,64 @@ after-inside s p index LookNothing i = tt
 after-inside s p index Build i = stored-inside s p index
 
 pub ruleset inside-laws = (stored-inside, within-inside, look-inside, after-inside)
+
+-- what a caller knows of a group that was found ------------------------------------------------------------------------------------
+
+module _ (s : List ℕ) (p : ℕ) (d : Close) where
+  matched-is : {c n : ℕ} → matched (judge s p d) ≡ MatchedGroup c n
+      → (d ≡ At c) × (groupAccepted s p c ≡ true) × (n ≡ length (itemsOf s p c))
+  unfolding judge matched groupOf
+  matched-is {c} {n} = by d
+    where
+      Says : Close → Type 0
+      Says d = (d ≡ At c) × (groupAccepted s p c ≡ true) × (n ≡ length (itemsOf s p c))
+
+      found : (k : ℕ) (t : Bool) → groupAccepted s p k ≡ t → matched (pick t (Found (groupOf s p k)) NoGroup) ≡ MatchedGroup c n → Says (At k)
+      found k true q e =
+          let j : k ≡ c = cc in
+          let i : length (itemsOf s p k) ≡ n = cc in
+          (ap At j, subst (λ (x : ℕ). groupAccepted s p x ≡ true) j q, sym i ∙ ap (λ (x : ℕ). length (itemsOf s p x)) j)
+      found k false q e = let y : _≡_ {A = ℕ} 0 1 = cc in absurd (omega (arith, y))
+
+      by : (d : Close) → matched (judge s p d) ≡ MatchedGroup c n → Says d
+      by (At k) e = found k (groupAccepted s p k) refl e
+      by Nothing e = let y : _≡_ {A = ℕ} 0 1 = cc in absurd (omega (arith, y))
+
+  module _ {m : Matched} (q : m ≡ matched (judge s p d)) where
+    pub matched-none : m ≡ NotMatched → judge s p d ≡ NoGroup
+    unfolding matched
+    matched-none e = go (judge s p d) (sym q ∙ e)
+      where
+        go : (g : GroupAnswer) → matched g ≡ NotMatched → g ≡ NoGroup
+        go (Found g) h = let y : _≡_ {A = ℕ} 0 1 = cc in absurd (omega (arith, y))
+        go NoGroup h = refl
+
+    module _ {c n : ℕ} (e : m ≡ MatchedGroup c n) where
+      pub matched-at : d ≡ At c
+      matched-at = matched-is (sym q ∙ e) .0
+
+      pub matched-accepted : groupAccepted s p c ≡ true
+      matched-accepted = matched-is (sym q ∙ e) .1
+
+      pub matched-count : n ≡ length (itemsOf s p c)
+      matched-count = matched-is (sym q ∙ e) .2
+
+      pub matched-found : judge s p d ≡ Found (groupOf s p c)
+      unfolding judge
+      matched-found = rw (matched-at, matched-accepted)
+
+      pub matched-good : goodItems s p c ≡ true
+      unfolding groupAccepted
+      matched-good = and-right (not (barred s c)) (goodItems s p c) matched-accepted
+
+      pub matched-writable : (items : List ℕ) → length s ≤ 65535 → Inside s p d → 16 * n ≤ length items → Writable s p c items
+      unfolding rowsLength groupOf
+      matched-writable items h i r = record {
+        short = h;
+        after = at-after s p matched-at i;
+        inside = at-inside s p matched-at i;
+        good = matched-good;
+        room = rw matched-count at r;
+      }
+
+pub ruleset matched-laws = (matched-none, matched-at, matched-accepted, matched-count, matched-found, matched-good, matched-writable)

@@ -4,3 +4,5 @@ pub mod Parts
 pub mod Laws
 pub mod Areas
 pub mod RowLaws
+pub mod RefusalLaws
+pub mod Steps

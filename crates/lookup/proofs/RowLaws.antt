@@ -66,10 +66,9 @@ pub pair-put : (k : ℕ) (row : List ℕ) (p : Span) → set (set row k (p .at))
 unfolding putAt
 pair-put k row p = refl
 
-pub rest-put : (row : List ℕ) (code marks : ℕ)
-    → set (set (set (set (set (set row 10 code) 11 marks) 12 0) 13 0) 14 0) 15 0 ≡ putAt 10 (code ∷ marks ∷ 0 ∷ 0 ∷ 0 ∷ 0 ∷ []) row
+pub marks-put : (row : List ℕ) (marks : ℕ) → set (set (set (set (set row 11 marks) 12 0) 13 0) 14 0) 15 0 ≡ putAt 11 (marks ∷ 0 ∷ 0 ∷ 0 ∷ 0 ∷ []) row
 unfolding putAt
-rest-put row code marks = refl
+marks-put row marks = refl
 
 module _ {a b : Bool} where
   pub marks-both : a ≡ true → b ≡ true → 3 ≡ pick a 1 0 + pick b 2 0
@@ -84,21 +83,29 @@ module _ {a b : Bool} where
   pub marks-none : a ≡ false → b ≡ false → 0 ≡ pick a 1 0 + pick b 2 0
   marks-none p q = rw (p, q)
 
--- the row `r₆` of the item `it`, after the five pairs and the rest were put
-pub row-is : (b : Bool) (it : Item) (row : List ℕ) {v w : Span} {code marks : ℕ} {r₁ r₂ r₃ r₄ r₅ r₆ : List ℕ}
-    → r₆ ≡ putAt 10 (code ∷ marks ∷ 0 ∷ 0 ∷ 0 ∷ 0 ∷ []) r₅ → r₅ ≡ putAt 8 (pairOf w) r₄ → r₄ ≡ putAt 6 (pairOf v) r₃ → r₃ ≡ putAt 4 (pairOf (it .whole)) r₂
-    → r₂ ≡ putAt 2 (pairOf (it .key)) r₁ → r₁ ≡ putAt 0 (pairOf (it .prefix)) row
-    → marks ≡ pick (it .suppressed) 1 0 + pick b 2 0 → code ≡ codeOf (it .locator) → w ≡ suffixOf (it .locator) → v ≡ valueOf (it .locator)
-    → 16 ≤ length row → r₆ ≡ written (rowOf b it) row
-unfolding rowOf recordOf marksOf putAt
-row-is b it row e₆ e₅ e₄ e₃ e₂ e₁ m c w v h = rw (e₆, e₅, e₄, e₃, e₂, e₁, m, c, w, v) (all ∙ put-written (rowOf b it) row (rw row-length h))
-  where
-    all : putAt 10 (codeOf (it .locator) ∷ (pick (it .suppressed) 1 0 + pick b 2 0) ∷ 0 ∷ 0 ∷ 0 ∷ 0 ∷ [])
-        (putAt 8 (pairOf (suffixOf (it .locator))) (putAt 6 (pairOf (valueOf (it .locator))) (putAt 4 (pairOf (it .whole)) (putAt 2 (pairOf (it .key)) (putAt 0 (pairOf (it .prefix)) row)))))
-        ≡ putAt 0 (rowOf b it) row
-    all = refl
+-- numbers put one after another: the pairs of an item, those of its locator with the code, and all of them with the marks
+module _ (row : List ℕ) {r₁ r₂ : List ℕ} where
+  pub parts-are : (a b c d e f : ℕ) {r₃ : List ℕ} → r₃ ≡ putAt 4 (e ∷ f ∷ []) r₂ → r₂ ≡ putAt 2 (c ∷ d ∷ []) r₁ → r₁ ≡ putAt 0 (a ∷ b ∷ []) row
+      → r₃ ≡ putAt 0 (a ∷ b ∷ c ∷ d ∷ e ∷ f ∷ []) row
+  unfolding putAt
+  parts-are a b c d e f e₃ e₂ e₁ = rw (e₃, e₂, e₁) refl
 
-pub ruleset row-laws = (pair-put, rest-put, marks-both, marks-first, marks-second, marks-none)
+  pub locator-is : (l : Locator) {v w : Span} {code : ℕ} → r₂ ≡ putAt 8 (pairOf w) r₁ → r₁ ≡ putAt 6 (pairOf v) row → code ≡ codeOf l
+      → w ≡ suffixOf l → v ≡ valueOf l → set r₂ 10 code ≡ putAt 6 (pairOf (valueOf l) ++ pairOf (suffixOf l) ++ (codeOf l ∷ [])) row
+  unfolding putAt
+  locator-is l e₂ e₁ c w v = rw (e₂, e₁, c, w, v) refl
+
+  pub row-is : (b : Bool) (it : Item) {r₃ : List ℕ} {marks : ℕ} → r₃ ≡ putAt 11 (marks ∷ 0 ∷ 0 ∷ 0 ∷ 0 ∷ []) r₂
+      → r₂ ≡ putAt 6 (pairOf (valueOf (it .locator)) ++ pairOf (suffixOf (it .locator)) ++ (codeOf (it .locator) ∷ [])) r₁
+      → r₁ ≡ putAt 0 (pairOf (it .prefix) ++ pairOf (it .key) ++ pairOf (it .whole)) row
+      → marks ≡ pick (it .suppressed) 1 0 + pick b 2 0 → 16 ≤ length row → r₃ ≡ written (rowOf b it) row
+  unfolding rowOf recordOf marksOf putAt
+  row-is b it e₃ e₂ e₁ m h = rw (e₃, e₂, e₁, m) (put-written (rowOf b it) row (rw row-length h))
+
+pub narrow-by : {p : Span} (r : Span) → r ≡ p → Narrow p → Narrow r
+narrow-by r e n = rw e n
+
+pub ruleset row-laws = (pair-put, marks-put, parts-are, locator-is, row-is, narrow-by, marks-both, marks-first, marks-second, marks-none)
 
 -- an item's places fit a record ----------------------------------------------------------------------------------------------------
 
@@ -171,10 +178,7 @@ unfolding partsOf
 item-narrow s a e {it = it} q g h k =
     let f = sym q ∙ g in
     let n = narrow a e (partsOf it) (omega arith) (tidy-parsed s a e it f) (item-in-order s a e it f) in
-    record { prefix = n .0; key = n .1 .0; whole = n .1 .1 .0; value = n .1 .1 .1 .0; suffix = n .1 .1 .1 .1 .0 }
-
-pub narrow-by : {p : Span} (r : Span) → r ≡ p → Narrow p → Narrow r
-narrow-by r e n = rw e n
+    record { prefix = n .0; key = n .1 .0; whole = n .1 .1 .0; locator = record { value = n .1 .1 .1 .0; suffix = n .1 .1 .1 .1 .0 } }
 
 module _ (s : List ℕ) (a e : ℕ) (b : Bool) (row : List ℕ) {r : Parsed} (q : r ≡ itemOf s a e) where
   pub piece-good : {it : Item} {out : List ℕ} → r ≡ Good it → out ≡ written (rowOf b it) row → out ≡ written (pieceRow b (itemOf s a e)) row

@@ -9,6 +9,7 @@ use Rattle.base.specs.Pick.{pick}
 use Rattle.base.specs.Lists.{byteAt}
 use Rattle.base.specs.declared.Span.{Span}
 use Rattle.base.specs.Spans.{pairOf, missing}
+use Rattle.locator.specs.declared.Locator.{Locator}
 use Rattle.locator.specs.Answers.{codeOf, valueOf, suffixOf}
 use Rattle.item.specs.declared.Item.{Item}
 use Rattle.item.specs.declared.Parsed.{Parsed}
@@ -63,12 +64,15 @@ Put k vs row after = (after ≡ putAt k vs row) × (length after ≡ length row)
 abbrev pub Narrow : Span → Type 0
 Narrow p = (p .at ≤ 65535) × (p .len ≤ 65535)
 
+pub record NarrowLocator (l : Locator) : Type 0 where
+  pub value : Narrow (valueOf l)
+  pub suffix : Narrow (suffixOf l)
+
 pub record NarrowItem (it : Item) : Type 0 where
   pub prefix : Narrow (it .prefix)
   pub key : Narrow (it .key)
   pub whole : Narrow (it .whole)
-  pub value : Narrow (valueOf (it .locator))
-  pub suffix : Narrow (suffixOf (it .locator))
+  pub locator : NarrowLocator (it .locator)
 
 -- the records of the group at `p` with its close at `c` can be written: all its items are good, and there is room for them
 pub record Writable (s : List ℕ) (p c : ℕ) (items : List ℕ) : Type 0 where

@@ -1,24 +1,27 @@
 -- The records of a sweep, over lists of groups that follow each other; and areas that are written from some place on.
-use Prim.Native.Nat.{ℕ, zero, suc, _+_, _-_, _*_, _≤_, _<_}
+use Prim.Native.Nat.{ℕ, suc, _+_, _-_, _*_, _≤_}
 use native.Mathlib.Omega.{arith}
 use mathlib.Core.Path.{_≡_, refl, sym, _∙_, ap}
 use mathlib.Core.List.{List, [], _∷_, _++_, append-nil, append-assoc}
 use mathlib.Core.Bool.{Bool, true, false, _&&_, and-false}
-use lib.ListN.{length, take, drop, set, take-append-drop, length-append, length-take, length-drop, drop-of-length-le}
+use lib.ListN.{length, take, drop, set, take-append-drop, length-append, length-drop, drop-of-length-le}
 use lib.Dec.{leb}
-use lib.Seq.{take-all, take-at, drop-at, drop-drop, length-take-le}
+use lib.Seq.{sets-eq, take-all, take-at, drop-at, drop-drop, length-take-le}
 use borrow.Author.Tests.{leb-true, le-leb}
 use Rattle.base.specs.Pick.{pick}
 use Rattle.base.specs.Lists.{written}
-use Rattle.item.specs.declared.Item.{Item}
 use Rattle.item.proofs.Parts.{and-left, and-right}
 use Rattle.lookup.specs.Groups.{Group}
-use Rattle.lookup.specs.Rows.{recordOf, rowOf, rowsIn, rowsOf}
+use Rattle.lookup.specs.Rows.{rowsOf, rowsLength}
+use Rattle.lookup.proofs.RowLaws.{rows-length}
 use Rattle.definition.specs.Lines.{inLine, groupEnd}
 use Rattle.sweep.specs.declared.SweepState.{SweepState}
+use Rattle.sweep.specs.Sweep.{Lent, Swept, lentAfter, sweepRun}
 use Rattle.sweep.specs.Rows.{Placed, placed, groupRow, groupRows, itemCount, itemRows, sweptFrom, insideAfter, endAfter}
-use Rattle.sweep.specs.Stops.{writtenAt, recordsFit, startState, Recorded}
+use Rattle.sweep.specs.Stops.{stopFrom, writtenAt, recordsFit, startState, Counted, Recorded, SweptTo}
+use Rattle.sweep.specs.Facts.{goneOn}
 use Rattle.sweep.proofs.Sizes.{count-append}
+use Rattle.sweep.proofs.Stops.{sweep-in-two}
 
 -- areas ----------------------------------------------------------------------------------------------------------------------------
 
@@ -69,41 +72,25 @@ written-part n area out back h e =
     let b : back ≡ out ++ drop (n + length out) area = e ∙ rw (f, d) refl in
     rw (z, b, append-nil) refl
 
--- five numbers at the front
-pub five-written : (area : List ℕ) (a b c d e : ℕ) → 5 ≤ length area
-    → set (set (set (set (set area 0 a) 1 b) 2 c) 3 d) 4 e ≡ written (a ∷ b ∷ c ∷ d ∷ e ∷ []) area
-unfolding written
-five-written [] a b c d e h = absurd (omega arith)
-five-written (x ∷ []) a b c d e h = absurd (omega arith)
-five-written (x ∷ y ∷ []) a b c d e h = absurd (omega arith)
-five-written (x ∷ y ∷ z ∷ []) a b c d e h = absurd (omega arith)
-five-written (x ∷ y ∷ z ∷ w ∷ []) a b c d e h = absurd (omega arith)
-five-written (x ∷ y ∷ z ∷ w ∷ v ∷ area) a b c d e h = refl
+-- five numbers, one after the other
+pub five-written : (area : List ℕ) (k a b c d e : ℕ) → k + 5 ≤ length area
+    → set (set (set (set (set area k a) (k + 1) b) (k + 2) c) (k + 3) d) (k + 4) e ≡ writtenAt k (a ∷ b ∷ c ∷ d ∷ e ∷ []) area
+unfolding writtenAt
+five-written area k a b c d e h =
+    let one : k + 1 ≡ suc k = omega arith in
+    let two : k + 2 ≡ suc (suc k) = omega arith in
+    let three : k + 3 ≡ suc (suc (suc k)) = omega arith in
+    let four : k + 4 ≡ suc (suc (suc (suc k))) = omega arith in
+    rw (one, two, three, four) (sets-eq (a ∷ b ∷ c ∷ d ∷ e ∷ []) area k h ∙ append-assoc (take k area) (a ∷ b ∷ c ∷ d ∷ e ∷ []) (drop (k + 5) area))
 
 -- item records ---------------------------------------------------------------------------------------------------------------------
 
-row-length : (integral : Bool) (it : Item) → length (rowOf integral it) ≡ 16
-unfolding rowOf recordOf
-row-length integral it = refl
-
-rows-length : (integral : Bool) (its : List Item) → length (rowsIn integral its) ≡ 16 * length its
-unfolding rowsIn
-rows-length integral [] = refl
-rows-length integral (it ∷ its) =
-    let h = rows-length integral its in
-    let r = row-length integral it in
-    rw length-append (omega arith)
-
-pub group-items-length : (g : Group) → length (rowsOf g) ≡ 16 * length (g .items)
-unfolding rowsOf
-group-items-length g = rows-length (g .integral) (g .items)
-
 pub item-rows-length : (gs : List Group) → length (itemRows gs) ≡ 16 * itemCount gs
-unfolding itemRows itemCount
+unfolding itemRows itemCount rowsLength
 item-rows-length [] = refl
 item-rows-length (g ∷ gs) =
     let h = item-rows-length gs in
-    let r = group-items-length g in
+    let r = rows-length g in
     rw length-append (omega arith)
 
 pub item-rows-append : (gs hs : List Group) → itemRows (gs ++ hs) ≡ itemRows gs ++ itemRows hs
@@ -275,3 +262,62 @@ module _ (text : List ℕ) (gs hs : List Group) (s r t : SweepState) (items grou
     item-rows = all-items;
     group-rows = all-groups;
   }
+
+-- from the first state on ------------------------------------------------------------------------------------------------------------
+
+-- what the first sweep asks of it
+pub start-counted : (text : List ℕ) (items groups : ℕ) → Counted text startState items groups
+start-counted text items groups =
+    record { at-by = omega arith; items-by = omega arith; groups-by = omega arith; room = λ h. rw (le-leb 0 items (omega arith), le-leb 0 groups (omega arith)) }
+
+module _ {text : List ℕ} {gs : List Group} {items groups : List ℕ} {r : SweepState} {items' groups' : List ℕ}
+    (a : Recorded text gs startState items groups r items' groups') where
+  pub all-groups-count : r .groups ≡ length gs
+  all-groups-count = let x = a .group-count in omega arith
+
+  pub all-items-count : r .items ≡ itemCount gs
+  all-items-count = let x = a .item-count in omega arith
+
+  -- all records fitted exactly where they fit
+  pub all-fitted : r .fits ≡ recordsFit (itemCount gs) (length gs) (length items) (length groups)
+  all-fitted = a .fitted ∙ rw (all-items-count, all-groups-count)
+
+  pub all-item-rows : r .fits ≡ true → items' ≡ written (itemRows gs) items
+  all-item-rows h = a .item-rows h ∙ written-front (itemRows gs) items
+
+  pub all-group-rows : r .fits ≡ true → groups' ≡ written (groupRows 0 (sweptFrom text false 0 gs)) groups
+  all-group-rows h = a .group-rows h ∙ written-front (groupRows 0 (sweptFrom text false 0 gs)) groups
+
+  -- 3 bytes an item
+  pub all-items-by : {n m : ℕ} → Counted text r n m → 3 * itemCount gs ≤ length text
+  all-items-by c =
+      let x = all-items-count in
+      let y = c .items-by in
+      let z = c .at-by in
+      omega arith
+
+  pub all-groups-by : {n m : ℕ} → Counted text r n m → length gs ≤ length text
+  all-groups-by c =
+      let x = all-groups-count in
+      let y = c .groups-by in
+      let z = c .at-by in
+      omega arith
+
+-- Two sweeps: the first with the index and the note as they were lent, the second, from where it stopped, with those after the build, if
+-- one was wanted. They record the groups of the sweep as run.
+pub swept-whole : (text : List ℕ) (l : Lent) {items groups : List ℕ} {r : SweepState} {items' groups' : List ℕ} {t : SweepState} {items'' groups'' : List ℕ}
+    → SweptTo text (l .note) (l .index) startState items groups r items' groups'
+    → SweptTo text (lentAfter (r .wants) text l .note) (lentAfter (r .wants) text l .index) r items' groups' t items'' groups''
+    → Recorded text (sweepRun text l .groups) startState items groups t items'' groups''
+unfolding goneOn
+swept-whole text l {items} {groups} {r} {items'} {groups'} {t} {items''} {groups''} a b =
+    let s = stopFrom text (l .note) (l .index) 0 in
+    let u = stopFrom text (lentAfter (r .wants) text l .note) (lentAfter (r .wants) text l .index) (r .at) in
+    let e : sweepRun text l .groups ≡ s .groups ++ u .groups = ap (λ (x : Swept). x .groups) (sweep-in-two text l) ∙ rw (a .stands, a .builds) in
+    rw e (recorded-both text (s .groups) (u .groups) startState r t items groups items' groups' items'' groups'' (a .records) (b .records))
+
+-- and leave what the sweep as run leaves
+pub swept-lent : (text : List ℕ) (l : Lent) {items groups : List ℕ} {r : SweepState} {items' groups' : List ℕ}
+    → SweptTo text (l .note) (l .index) startState items groups r items' groups' → sweepRun text l .lent ≡ lentAfter (r .wants) text l
+unfolding goneOn
+swept-lent text l a = ap (λ (x : Swept). x .lent) (sweep-in-two text l) ∙ rw (a .builds)

@@ -4,3 +4,5 @@ pub mod Stops
 pub mod Lines
 pub mod Laws
 pub mod Steps
+pub mod Records
+pub mod Turns

@@ -1,20 +1,19 @@
 -- Whether a group stands in a definition line, in the form of the code's needs: `b` and `r` are what calls gave.
-use Prim.Native.Nat.{ℕ, suc, _+_, _-_, _*_, _≤_, _<_}
+use Prim.Native.Nat.{ℕ, _+_, _-_, _*_, _≤_}
 use native.Mathlib.Omega.{arith}
 use mathlib.Core.Path.{_≡_, refl, sym, _∙_, ap}
 use mathlib.Core.List.{List, [], _∷_}
-use mathlib.Core.Bool.{Bool, true, false, _&&_, _||_, not, and-false, and-true}
+use mathlib.Core.Bool.{Bool, true, false, _&&_, not, and-false, and-true}
 use lib.ListN.{length}
 use lib.Dec.{eqb, leb, ltb}
 use borrow.Author.Tests.{lt-ltb, le-ltb, leb-true, leb-false, ltb-true, ltb-false}
-use Rattle.base.specs.Pick.{pick}
 use Rattle.base.specs.First.{first}
 use Rattle.base.proofs.Searches.{first-by}
 use Rattle.item.specs.declared.Item.{Item}
 use Rattle.item.specs.declared.Parsed.{Parsed}
 use Rattle.item.specs.declared.Parsed.the-variants.{Good, Bad}
 use Rattle.item.specs.Items.{itemOf, isGood}
-use Rattle.item.specs.Pieces.{Stretch, partsAt, pieces, itemsStart, piecesOf, allGood, kept, itemsIn, itemsOf}
+use Rattle.item.specs.Pieces.{partsAt, pieces, itemsStart, piecesOf, allGood, kept, itemsIn, itemsOf}
 use Rattle.item.proofs.Parts.{and-right}
 use Rattle.item.proofs.Pieces.{piece-by, pieces-more, pieces-last, items-more, items-last, first-good, rest-good, items-count}
 use Rattle.index.specs.Entries.{goodItems}

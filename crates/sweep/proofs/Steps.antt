@@ -1,36 +1,30 @@
 -- What a place of the sweep gives, and the sweep from there on, in the form of the code's needs.
-use Prim.Native.Nat.{ℕ, zero, suc, _+_, _-_, _*_, _≤_, _<_}
+use Prim.Native.Nat.{ℕ, _-_, _<_}
 use native.Mathlib.Omega.{arith}
 use mathlib.Core.Path.{_≡_, refl, sym, _∙_, ap}
-use mathlib.Core.List.{List, [], _∷_, _++_}
-use mathlib.Core.Bool.{Bool, true, false, _&&_, not, and-false, and-true}
+use mathlib.Core.List.{List}
+use mathlib.Core.Bool.{Bool, true, false, _&&_, not}
 use lib.ListN.{length}
-use lib.Dec.{eqb, leb, ltb}
-use borrow.Author.Tests.{lt-ltb, eq-eqb, ltb-true, ltb-false, le-leb, lt-leb, leb-true, leb-false, le-ltb}
+use lib.Dec.{leb, ltb}
+use borrow.Author.Tests.{lt-ltb, eq-eqb, leb-true, leb-false, le-ltb}
 use Rattle.base.specs.Pick.{pick}
-use Rattle.base.specs.First.{first}
-use Rattle.base.specs.Lists.{byteAt, isAt}
+use Rattle.base.specs.Lists.{byteAt}
 use Rattle.text.specs.Escape.{escapedAt}
 use Rattle.close.specs.declared.Close.{Close}
 use Rattle.close.specs.declared.Close.the-variants.{At, Nothing}
-use Rattle.item.specs.Pieces.{itemsOf}
 use Rattle.index.specs.Entries.{opensAt}
 use Rattle.index.specs.Built.{builtIndex}
 use Rattle.lookup.specs.declared.Look.{Look}
 use Rattle.lookup.specs.declared.Look.the-variants.{At as LookAt, Nothing as LookNothing, Build as LookBuild}
 use Rattle.lookup.specs.declared.Matched.{Matched}
 use Rattle.lookup.specs.declared.Matched.the-variants.{Group as MatchedGroup, Nothing as NotMatched}
-use Rattle.lookup.specs.Groups.{Group, GroupAnswer, Found, NoGroup, groupOf, groupAccepted, judge}
+use Rattle.lookup.specs.Groups.{GroupAnswer, Found, NoGroup, judge}
 use Rattle.lookup.specs.Resolve.{isBuilt, storedClose, shortLook, orElse, isNothing, closeAsRun, groupAsRun, wantsBuild}
 use Rattle.lookup.specs.Looks.{settled, shortened, lookOf, isBuild, matched, Inside}
 use Rattle.lookup.proofs.Laws.{look-inside}
-use Rattle.sweep.specs.declared.Step.{Step}
 use Rattle.sweep.specs.declared.Step.the-variants.{Next, Group as StepGroup, Build}
-use Rattle.sweep.specs.Sweep.{listed, nextAt}
-use Rattle.sweep.specs.Stops.{Stop, stop, foundWith, wantsAt, after, stopIn, stopFrom}
-use Rattle.sweep.specs.Steps.{stepOf, stepAt, GroupFrom}
-use Rattle.sweep.proofs.Sizes.{After, run-after}
-use Rattle.sweep.proofs.Stops.{stop-end, stop-enough, next-more}
+use Rattle.sweep.specs.Stops.{foundWith, wantsAt, after}
+use Rattle.sweep.specs.Steps.{stepOf, stepAt}
 
 -- what a look says -----------------------------------------------------------------------------------------------------------------
 
@@ -104,11 +98,11 @@ pub ruleset found-laws = (found-after, found-in, found-byte)
 
 module _ (s : List ℕ) (note : ℕ) (index : List ℕ) (p : ℕ) where
   -- no unescaped bracket
-  none-wants : opensAt s p ≡ false → wantsAt s note p ≡ false
+  pub none-wants : opensAt s p ≡ false → wantsAt s note p ≡ false
   unfolding wantsAt
   none-wants e = rw e
 
-  none-found : opensAt s p ≡ false → foundWith s note index p ≡ NoGroup
+  pub none-found : opensAt s p ≡ false → foundWith s note index p ≡ NoGroup
   unfolding foundWith
   none-found e = rw e
 

@@ -1,0 +1,144 @@
+-- What refuses a look-up, in the form of the code's needs, and what holds where nothing does; the size and the locator call.
+use Prim.Native.Nat.{ℕ, _/_, _≤_, _<_}
+use native.Mathlib.Omega.{arith}
+use mathlib.Core.Path.{_≡_, refl, sym, _∙_}
+use mathlib.Core.List.{List}
+use mathlib.Core.Bool.{Bool, true, false, _&&_, _||_, not, true≢false}
+use lib.ListN.{length}
+use lib.Dec.{eqb, ltb}
+use borrow.Author.Tests.{lt-ltb, le-ltb, eq-eqb, ne-eqb, ltb-true, ltb-false}
+use Rattle.base.specs.Pick.{pick}
+use Rattle.base.specs.Lists.{byteAt, isAt}
+use Rattle.text.specs.Utf8.{tooLong, utf8}
+use Rattle.text.specs.Escape.{escapedAt}
+use Rattle.text.specs.Refusal.{afterText, textRefusal}
+use Rattle.locator.specs.declared.Locator.{Locator}
+use Rattle.locator.specs.Locators.{locatorOf}
+use Rattle.item.proofs.Parts.{and-left}
+use Rattle.index.specs.Entries.{opensAt}
+use Rattle.lookup.specs.declared.Size.{Size}
+use Rattle.lookup.specs.declared.Size.the-variants.{Accepted as Sized', Refused as Unsized}
+use Rattle.lookup.specs.declared.LocatorAnswer.{LocatorAnswer}
+use Rattle.lookup.specs.declared.LocatorAnswer.the-variants.{Accepted as Located', Refused as Unlocated}
+use Rattle.lookup.specs.Refusals.{tooFew, lookUpRefusal}
+use Rattle.lookup.specs.Others.{located, notLocated, locatorCall, sized, sizeCall}
+use Rattle.lookup.specs.Values.{locatorValues, locatorNumbers, sizeValues, sizeNumbers}
+
+-- a text that is not refused is short enough and UTF-8
+text-passes : (s : List ℕ) → textRefusal s ≡ 0 → (tooLong s ≡ false) × (utf8 s ≡ true)
+unfolding textRefusal afterText
+text-passes s z = go (tooLong s) (utf8 s) z
+  where
+    go : (a b : Bool) → pick {A = ℕ} a 1 (pick b 0 2) ≡ 0 → (a ≡ false) × (b ≡ true)
+    go true b e = absurd (omega arith)
+    go false false e = absurd (omega arith)
+    go false true e = (refl, refl)
+
+-- one that is, is refused by the same number whatever comes next
+text-refused : (s : List ℕ) (next : ℕ) → (textRefusal s ≡ 0 → ⊥) → textRefusal s ≡ afterText s next
+unfolding textRefusal afterText
+text-refused s next n = go (tooLong s) (utf8 s) n
+  where
+    go : (a b : Bool) → (pick {A = ℕ} a 1 (pick b 0 2) ≡ 0 → ⊥) → pick {A = ℕ} a 1 (pick b 0 2) ≡ pick {A = ℕ} a 1 (pick b next 2)
+    go true b e = refl
+    go false false e = refl
+    go false true e = absurd (e refl)
+
+-- `r` is what the text's own refusal gave
+module _ (s : List ℕ) (at n m : ℕ) {r : ℕ} (q : r ≡ textRefusal s) where
+  pub refused-text : (r ≡ 0 → ⊥) → r ≡ lookUpRefusal s at n m
+  unfolding lookUpRefusal
+  refused-text z = q ∙ text-refused s _ (λ e. z (q ∙ e))
+
+  module _ (z : r ≡ 0) where
+    passed : (x : ℕ) → afterText s x ≡ x
+    unfolding afterText
+    passed x = let k = text-passes s (sym q ∙ z) in rw (k .0, k .1)
+
+    pub refused-past : length s ≤ at → 3 ≡ lookUpRefusal s at n m
+    unfolding lookUpRefusal
+    refused-past h = rw (le-ltb at (length s) h) (sym (passed 3))
+
+    module _ (h : at < length s) where
+      pub refused-other : (byteAt s at ≡ 91 → ⊥) → 3 ≡ lookUpRefusal s at n m
+      unfolding lookUpRefusal
+      refused-other f = rw (lt-ltb at (length s) h, ne-eqb _ _ f) (sym (passed 3))
+
+      module _ (e : byteAt s at ≡ 91) {b : Bool} (d : b ≡ escapedAt s at) where
+        pub refused-escaped : b ≡ true → 4 ≡ lookUpRefusal s at n m
+        unfolding lookUpRefusal
+        refused-escaped t = rw (lt-ltb at (length s) h, eq-eqb _ _ e, sym d ∙ t) (sym (passed 4))
+
+        module _ (f : b ≡ false) where
+          pub refused-index : n < length s → 9 ≡ lookUpRefusal s at n m
+          unfolding lookUpRefusal tooFew
+          refused-index g = rw (lt-ltb at (length s) h, eq-eqb _ _ e, sym d ∙ f, lt-ltb n (length s) g) (sym (passed 9))
+
+          module _ (g : length s ≤ n) where
+            pub refused-records : m < length s → 9 ≡ lookUpRefusal s at n m
+            unfolding lookUpRefusal tooFew
+            refused-records k =
+                rw (lt-ltb at (length s) h, eq-eqb _ _ e, sym d ∙ f, le-ltb n (length s) g, lt-ltb m (length s) k) (sym (passed 9))
+
+            pub refused-not : length s ≤ m → 0 ≡ lookUpRefusal s at n m
+            unfolding lookUpRefusal tooFew
+            refused-not k =
+                rw (lt-ltb at (length s) h, eq-eqb _ _ e, sym d ∙ f, le-ltb n (length s) g, le-ltb m (length s) k) (sym (passed 0))
+
+pub ruleset refusal-laws = (refused-text, refused-past, refused-other, refused-escaped, refused-index, refused-records, refused-not)
+
+-- Where nothing refuses a look-up before the bracket is looked at: the text is short, it is an unescaped `[`, and both areas have a
+-- record for each byte.
+pub record Unrefused (s : List ℕ) (at n m : ℕ) : Type 0 where
+  pub short : length s ≤ 65535
+  pub there : at < length s
+  pub opens : opensAt s at ≡ true
+  pub wide : length s ≤ n
+  pub long : length s ≤ m
+
+pub unrefused : (s : List ℕ) (at n m : ℕ) → lookUpRefusal s at n m ≡ 0 → Unrefused s at n m
+unfolding lookUpRefusal afterText tooFew opensAt
+unrefused s at n m q =
+    let r = go (tooLong s) (utf8 s) (isAt s at 91) (escapedAt s at) (ltb n (length s)) (ltb m (length s)) q in
+    record {
+      short = ltb-false 65535 (length s) (r .0);
+      there = ltb-true at (length s) (and-left (ltb at (length s)) (eqb (byteAt s at) 91) (and-left (isAt s at 91) (not (escapedAt s at)) (r .1)));
+      opens = r .1;
+      wide = ltb-false n (length s) (r .2);
+      long = ltb-false m (length s) (r .3);
+    }
+  where
+    go : (a b c d e f : Bool) → pick {A = ℕ} a 1 (pick b (pick (not c) 3 (pick d 4 (pick (e || f) 9 0))) 2) ≡ 0
+        → (a ≡ false) × (c && not d ≡ true) × (e ≡ false) × (f ≡ false)
+    go true b c d e f q = absurd (omega arith)
+    go false false c d e f q = absurd (omega arith)
+    go false true false d e f q = absurd (omega arith)
+    go false true true true e f q = absurd (omega arith)
+    go false true true false true f q = absurd (omega arith)
+    go false true true false false true q = absurd (omega arith)
+    go false true true false false false q = (refl, refl, refl, refl)
+
+pub at-there : (s : List ℕ) (at n m : ℕ) {r : ℕ} → r ≡ lookUpRefusal s at n m → r ≡ 0 → at < length s
+at-there s at n m q z = unrefused s at n m (sym q ∙ z) .there
+
+-- the size and the locator call
+module _ (s : List ℕ) {r : ℕ} (q : r ≡ textRefusal s) where
+  module _ (n : r ≡ 0 → ⊥) where
+    pub size-refused : sizeValues (Unsized r) ≡ sizeNumbers (sizeCall s)
+    unfolding sizeCall sizeValues sizeNumbers
+    size-refused = rw (← q, ne-eqb r 0 n)
+
+    pub locator-refused : locatorValues (Unlocated r) ≡ locatorNumbers (locatorCall s)
+    unfolding locatorCall locatorValues locatorNumbers notLocated
+    locator-refused = rw (← q, ne-eqb r 0 n)
+
+  module _ (z : r ≡ 0) where
+    pub size-given : sizeValues (Sized' (length s / 3)) ≡ sizeNumbers (sizeCall s)
+    unfolding sizeCall sizeValues sizeNumbers
+    size-given = rw (← q, eq-eqb r 0 z)
+
+    pub locator-given : {l : Locator} → l ≡ locatorOf s 0 (length s) → locatorValues (Located' l) ≡ locatorNumbers (locatorCall s)
+    unfolding locatorCall locatorValues locatorNumbers located
+    locator-given e = rw (← q, eq-eqb r 0 z, e)
+
+pub ruleset call-laws = (size-refused, size-given, locator-refused, locator-given)

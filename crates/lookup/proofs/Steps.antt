@@ -1,0 +1,286 @@
+-- The two halves of a look-up: in the form of the code's needs, and together, with the build between them, the call as run.
+use Prim.Native.Nat.{ℕ, _+_, _-_, _*_, _/_, _≤_, _<_}
+use native.Mathlib.Omega.{arith}
+use mathlib.Core.Path.{_≡_, refl, sym, _∙_, ap}
+use mathlib.Core.List.{List, [], _∷_}
+use mathlib.Core.Bool.{Bool, true, false, _&&_, not, true≢false}
+use lib.ListN.{length}
+use lib.Dec.{eqb, leb, ltb}
+use borrow.Author.Tests.{lt-ltb, le-ltb, leb-true, leb-false, eq-eqb, ne-eqb, eqb-true}
+use Rattle.base.specs.Pick.{pick}
+use Rattle.base.specs.Lists.{written}
+use Rattle.close.specs.declared.Close.{Close}
+use Rattle.close.specs.declared.Close.the-variants.{At, Nothing}
+use Rattle.item.specs.Pieces.{itemsOf}
+use Rattle.item.proofs.Parts.{and-left}
+use Rattle.index.specs.declared.Bracket.{Bracket}
+use Rattle.index.specs.Built.{builtIndex, builtRecords}
+use Rattle.lookup.specs.declared.Look.{Look}
+use Rattle.lookup.specs.declared.Look.the-variants.{At as LookAt, Nothing as LookNothing, Build}
+use Rattle.lookup.specs.declared.LookUp.{LookUp}
+use Rattle.lookup.specs.declared.LookUp.the-variants.{Accepted, Refused}
+use Rattle.lookup.specs.declared.Matched.{Matched}
+use Rattle.lookup.specs.declared.Matched.the-variants.{Group as MatchedGroup, Nothing as NotMatched}
+use Rattle.lookup.specs.declared.Prepared.{Prepared}
+use Rattle.lookup.specs.declared.Prepared.the-variants.{Refused as NotReady, Ready}
+use Rattle.lookup.specs.Groups.{Group, GroupAnswer, Found, NoGroup, groupOf, judge}
+use Rattle.lookup.specs.Rows.{rowsOf, rowsLength}
+use Rattle.lookup.specs.Resolve.{isBuilt, storedClose, shortLook, orElse, isNothing, closeAsRun, wantsBuild, groupAsRun, noteAfter, indexAfter, recordsAfter}
+use Rattle.lookup.specs.Looks.{settled, shortened, lookOf, isBuild, closeAfter, matched, Inside, LookInside}
+use Rattle.lookup.specs.Refusals.{lookUpRefusal}
+use Rattle.lookup.specs.LookUps.{LookedUp, lookUpRefused, lookUpGives, lookUpAnswers, lookedUp, lookUpBuilds, ranWith, lookUpRun}
+use Rattle.lookup.specs.Values.{lookUpValues, lookUpNumbers}
+use Rattle.lookup.specs.Steps.{preparedOf, buildWanted, Fine, answered, finishedOf, finishedItems}
+use Rattle.lookup.proofs.Laws.{look-inside, after-inside, matched-none, matched-found, matched-count}
+use Rattle.lookup.proofs.RefusalLaws.{Unrefused, unrefused}
+
+-- in the form of the needs ---------------------------------------------------------------------------------------------------------
+
+module _ (s : List ℕ) (at note : ℕ) (index : List ℕ) (m : ℕ) {r : ℕ} (q : r ≡ lookUpRefusal s at (length index) m) where
+  pub prepare-refused : (r ≡ 0 → ⊥) → NotReady r ≡ preparedOf s at note index m
+  unfolding preparedOf
+  prepare-refused n = rw (← q, ne-eqb r 0 n)
+
+  pub prepare-ready : {l : Look} → r ≡ 0 → l ≡ lookOf s at note index → Ready l ≡ preparedOf s at note index m
+  unfolding preparedOf
+  prepare-ready z e = rw (← q, eq-eqb r 0 z, e)
+
+module _ {p : Prepared} where
+  pub wants-none : {number : ℕ} → p ≡ NotReady number → false ≡ buildWanted p
+  unfolding buildWanted
+  wants-none e = rw e
+
+  pub wants-look : {l : Look} {b : Bool} → p ≡ Ready l → b ≡ isBuild l → b ≡ buildWanted p
+  unfolding buildWanted
+  wants-look e h = h ∙ rw e
+
+module _ {b : Bool} (note : ℕ) where
+  pub note-built : b ≡ true → 1 ≡ noteAfter b note
+  unfolding noteAfter
+  note-built e = rw e
+
+  pub note-kept : b ≡ false → note ≡ noteAfter b note
+  unfolding noteAfter
+  note-kept e = rw e
+
+pub ruleset prepare-laws = (prepare-refused, prepare-ready, wants-none, wants-look, note-built, note-kept)
+
+-- the answer of a bracket: `m` is what the match gave
+module _ (s : List ℕ) (at note : ℕ) (d : Close) (items : List ℕ) {m : Matched} (q : m ≡ matched (judge s at d)) where
+  pub answer-none : m ≡ NotMatched → Refused 5 note ≡ answered (judge s at d) note items
+  unfolding answered
+  answer-none e = rw (matched-none s at d q e)
+
+  pub items-none : m ≡ NotMatched → items ≡ lookUpAnswers (judge s at d) items .items
+  unfolding lookUpAnswers lookUpRefused
+  items-none e = rw (matched-none s at d q e)
+
+  module _ {c n : ℕ} (e : m ≡ MatchedGroup c n) where
+    width : rowsLength (groupOf s at c) ≡ 16 * n
+    unfolding rowsLength groupOf
+    width = rw (matched-count s at d q e) refl
+
+    module _ (h : length items / 16 < n) where
+      few : ltb (length items) (rowsLength (groupOf s at c)) ≡ true
+      few = lt-ltb (length items) (rowsLength (groupOf s at c)) (omega (arith, width))
+
+      pub answer-few : Refused 10 note ≡ answered (judge s at d) note items
+      unfolding answered
+      answer-few = rw (matched-found s at d q e, few)
+
+      pub items-few : items ≡ lookUpAnswers (judge s at d) items .items
+      unfolding lookUpAnswers lookUpRefused
+      items-few = rw (matched-found s at d q e, few)
+
+    module _ (h : n ≤ length items / 16) where
+      pub items-room : 16 * n ≤ length items
+      items-room = omega arith
+
+      enough : ltb (length items) (rowsLength (groupOf s at c)) ≡ false
+      enough = le-ltb (length items) (rowsLength (groupOf s at c)) (omega (arith, width, items-room))
+
+      pub answer-found : Accepted c n note ≡ answered (judge s at d) note items
+      unfolding answered groupOf
+      answer-found = rw (matched-found s at d q e, enough, matched-count s at d q e)
+
+      pub items-found : {after : List ℕ} → after ≡ written (rowsOf (groupOf s at c)) items → after ≡ lookUpAnswers (judge s at d) items .items
+      unfolding lookUpAnswers lookUpGives
+      items-found o = o ∙ rw (matched-found s at d q e, enough)
+
+pub ruleset answer-laws = (answer-none, items-none, answer-few, items-few, items-room, answer-found, items-found)
+
+module _ (s : List ℕ) (at note : ℕ) (index items : List ℕ) {p : Prepared} where
+  module _ {number : ℕ} (e : p ≡ NotReady number) where
+    pub finish-refused : Refused number note ≡ finishedOf s at note p index items
+    unfolding finishedOf
+    finish-refused = rw e
+
+    pub finish-kept : items ≡ finishedItems s at p index items
+    unfolding finishedItems
+    finish-kept = rw e
+
+  module _ {l : Look} (e : p ≡ Ready l) where
+    pub ready-short : Fine s at p → length s ≤ 65535
+    ready-short f = (rw e at f) .0
+
+    pub ready-there : Fine s at p → at < length s
+    ready-there f = (rw e at f) .1
+
+    pub ready-inside : {d : Close} → Fine s at p → d ≡ closeAfter s at index l → Inside s at d
+    ready-inside f g = rw g (after-inside s at index l ((rw e at f) .2))
+
+    module _ {d : Close} (g : d ≡ closeAfter s at index l) where
+      pub finish-answer : {r : LookUp} {b : Bool} {n : ℕ} → b ≡ isBuild l → n ≡ noteAfter b note → r ≡ answered (judge s at d) n items
+          → r ≡ finishedOf s at note p index items
+      unfolding finishedOf
+      finish-answer b n o = o ∙ rw (e, ← g, ← b, n)
+
+      pub finish-items : {after : List ℕ} → after ≡ lookUpAnswers (judge s at d) items .items → after ≡ finishedItems s at p index items
+      unfolding finishedItems
+      finish-items o = o ∙ rw (e, g)
+
+pub ruleset finish-laws = (finish-refused, finish-kept, ready-short, ready-there, ready-inside, finish-answer, finish-items)
+
+-- the call as run ------------------------------------------------------------------------------------------------------------------
+
+past-64 : (n : ℕ) → isBuild (pick (leb n 64) LookNothing Build) ≡ ltb 64 n
+past-64 n = go (leb n 64) refl
+  where
+    go : (t : Bool) → leb n 64 ≡ t → isBuild (pick t LookNothing Build) ≡ ltb 64 n
+    go true q = sym (le-ltb 64 n (leb-true n 64 q))
+    go false q = sym (lt-ltb 64 n (leb-false n 64 q))
+
+module _ (s : List ℕ) (at note : ℕ) (index : List ℕ) where
+  -- a look asks for the build exactly where the call as run wants one
+  look-wants : isBuild (lookOf s at note index) ≡ wantsBuild s at note
+  unfolding lookOf shortened wantsBuild
+  look-wants = go (isBuilt note) (shortLook s at) (storedClose s at index)
+    where
+      go : (t : Bool) (c d : Close) → isBuild (pick t (settled d) (shortened s at c)) ≡ not t && isNothing c && ltb 64 (length s - at)
+      go true c (At k) = refl
+      go true c Nothing = refl
+      go false (At k) d = refl
+      go false Nothing d = past-64 (length s - at)
+
+  -- and then the close after it is that of the call as run
+  look-close : closeAfter s at (pick (isBuild (lookOf s at note index)) (builtIndex s index) index) (lookOf s at note index) ≡ closeAsRun s at note index
+  unfolding lookOf shortened closeAsRun closeAfter
+  look-close = go (isBuilt note) (shortLook s at) (storedClose s at index)
+    where
+      end : (t : Bool)
+          → closeAfter s at (pick (isBuild (pick t LookNothing Build)) (builtIndex s index) index) (pick t LookNothing Build)
+          ≡ pick t Nothing (storedClose s at (builtIndex s index))
+      end true = refl
+      end false = refl
+
+      go : (t : Bool) (c d : Close)
+          → closeAfter s at (pick (isBuild (pick t (settled d) (shortened s at c))) (builtIndex s index) index) (pick t (settled d) (shortened s at c))
+          ≡ pick t d (orElse c (pick (leb (length s - at) 64) Nothing (storedClose s at (builtIndex s index))))
+      go true c (At k) = refl
+      go true c Nothing = refl
+      go false (At k) d = refl
+      go false Nothing d = end (leb (length s - at) 64)
+
+-- the first half gives what the second asks for
+pub prepared-fine : (s : List ℕ) (at note : ℕ) (index : List ℕ) (m : ℕ) → Fine s at (preparedOf s at note index m)
+unfolding preparedOf
+prepared-fine s at note index m = go (eqb (lookUpRefusal s at (length index) m) 0) refl
+  where
+    go : (t : Bool) → eqb (lookUpRefusal s at (length index) m) 0 ≡ t
+        → Fine s at (pick t (Ready (lookOf s at note index)) (NotReady (lookUpRefusal s at (length index) m)))
+    go true q = let u = unrefused s at (length index) m (eqb-true _ 0 q) in (u .short, u .there, look-inside s at note index)
+    go false q = tt
+
+module _ (s : List ℕ) (at note : ℕ) (index : List ℕ) (m : ℕ) where
+  pub prepared-builds : buildWanted (preparedOf s at note index m) ≡ lookUpBuilds s at note (length index) m
+  unfolding preparedOf buildWanted lookUpBuilds
+  prepared-builds = go (eqb (lookUpRefusal s at (length index) m) 0)
+    where
+      go : (t : Bool) → buildWanted (pick t (Ready (lookOf s at note index)) (NotReady (lookUpRefusal s at (length index) m))) ≡ t && wantsBuild s at note
+      go true = look-wants s at note index
+      go false = refl
+
+  -- what the build asks for
+  module _ (w : buildWanted (preparedOf s at note index m) ≡ true) where
+    wanted : Unrefused s at (length index) m
+    unfolding lookUpBuilds
+    wanted = unrefused s at (length index) m (eqb-true _ 0 (and-left (eqb (lookUpRefusal s at (length index) m) 0) _ (sym prepared-builds ∙ w)))
+
+    pub builds-short : length s ≤ 65535
+    builds-short = wanted .short
+
+    pub builds-wide : length s ≤ length index
+    builds-wide = wanted .wide
+
+    pub builds-long : length s ≤ m
+    builds-long = wanted .long
+
+-- the answer's numbers, from what the bracket gives
+answered-values : (g : GroupAnswer) (note : ℕ) (items : List ℕ)
+    → lookUpValues (answered g note items) ≡ lookUpAnswers g items .number ∷ lookUpAnswers g items .close ∷ lookUpAnswers g items .count ∷ note ∷ []
+unfolding answered lookUpValues lookUpAnswers lookUpRefused lookUpGives
+answered-values (Found g) note items = go (ltb (length items) (rowsLength g))
+  where
+    go : (t : Bool) → lookUpValues (pick t (Refused 10 note) (Accepted (g .close) (length (g .items)) note))
+        ≡ pick t (lookUpRefused 10 items) (lookUpGives g items) .number
+        ∷ pick t (lookUpRefused 10 items) (lookUpGives g items) .close
+        ∷ pick t (lookUpRefused 10 items) (lookUpGives g items) .count ∷ note ∷ []
+    go true = refl
+    go false = refl
+answered-values NoGroup note items = refl
+
+-- `w` is whether the index was built, and `after` what it is then
+module _ (s : List ℕ) (at note : ℕ) (index : List ℕ) (records : List Bracket) (items : List ℕ) {w : Bool} {after : List ℕ}
+    (q : w ≡ buildWanted (preparedOf s at note index (length records))) (e : after ≡ pick w (builtIndex s index) index) where
+  pub finished-values
+      : lookUpValues (finishedOf s at note (preparedOf s at note index (length records)) after items)
+      ≡ lookUpNumbers (lookUpRun s at note index records items)
+  unfolding preparedOf buildWanted finishedOf lookUpRun ranWith lookedUp lookUpNumbers lookUpValues groupAsRun lookUpBuilds lookUpRefused noteAfter
+  finished-values = rw (e, q) (go (eqb (lookUpRefusal s at (length index) (length records)) 0))
+    where
+      r : ℕ
+      r = lookUpRefusal s at (length index) (length records)
+
+      l : Look
+      l = lookOf s at note index
+
+      P : Bool → Prepared
+      P t = pick t (Ready l) (NotReady r)
+
+      go : (t : Bool) → lookUpValues (finishedOf s at note (P t) (pick (buildWanted (P t)) (builtIndex s index) index) items)
+          ≡ pick t (lookUpAnswers (groupAsRun s at note index) items) (lookUpRefused r items) .number
+          ∷ pick t (lookUpAnswers (groupAsRun s at note index) items) (lookUpRefused r items) .close
+          ∷ pick t (lookUpAnswers (groupAsRun s at note index) items) (lookUpRefused r items) .count
+          ∷ noteAfter (t && wantsBuild s at note) note ∷ []
+      go true = rw (look-close s at note index, look-wants s at note index) (answered-values (judge s at (closeAsRun s at note index)) (noteAfter (wantsBuild s at note) note) items)
+      go false = refl
+
+  pub finished-items
+      : finishedItems s at (preparedOf s at note index (length records)) after items ≡ lookUpRun s at note index records items .answer .items
+  unfolding preparedOf buildWanted finishedItems lookUpRun ranWith lookedUp groupAsRun lookUpRefused
+  finished-items = rw (e, q) (go (eqb (lookUpRefusal s at (length index) (length records)) 0))
+    where
+      r : ℕ
+      r = lookUpRefusal s at (length index) (length records)
+
+      l : Look
+      l = lookOf s at note index
+
+      P : Bool → Prepared
+      P t = pick t (Ready l) (NotReady r)
+
+      go : (t : Bool) → finishedItems s at (P t) (pick (buildWanted (P t)) (builtIndex s index) index) items
+          ≡ pick t (lookUpAnswers (groupAsRun s at note index) items) (lookUpRefused r items) .items
+      go true = ap (λ (c : Close). lookUpAnswers (judge s at c) items .items) (look-close s at note index)
+      go false = refl
+
+  -- the index and the bracket records
+  pub ran-index : after ≡ lookUpRun s at note index records items .index
+  unfolding lookUpRun ranWith indexAfter
+  ran-index = e ∙ rw (q, prepared-builds s at note index (length records))
+
+  pub ran-records : {rs : List Bracket} → rs ≡ pick w (builtRecords s records) records → rs ≡ lookUpRun s at note index records items .records
+  unfolding lookUpRun ranWith recordsAfter
+  ran-records o = o ∙ rw (q, prepared-builds s at note index (length records))
+
+pub ruleset step-laws = (prepared-fine, prepared-builds, builds-short, builds-wide, builds-long, finished-values, finished-items, ran-index, ran-records)

@@ -1,0 +1,47 @@
+-- A look-up in two halves, before and after a build that may be wanted between them.
+use Prim.Native.Nat.{ℕ, _≤_, _<_}
+use mathlib.Core.List.{List}
+use mathlib.Core.Bool.{Bool, false}
+use lib.ListN.{length}
+use lib.Dec.{eqb, ltb}
+use Rattle.base.specs.Pick.{pick}
+use Rattle.lookup.specs.declared.Look.{Look}
+use Rattle.lookup.specs.declared.LookUp.{LookUp}
+use Rattle.lookup.specs.declared.LookUp.the-variants.{Accepted, Refused}
+use Rattle.lookup.specs.declared.Prepared.{Prepared}
+use Rattle.lookup.specs.declared.Prepared.the-variants.{Refused as NotReady, Ready}
+use Rattle.lookup.specs.Groups.{GroupAnswer, Found, NoGroup, judge}
+use Rattle.lookup.specs.Rows.{rowsLength}
+use Rattle.lookup.specs.Resolve.{noteAfter}
+use Rattle.lookup.specs.Looks.{lookOf, isBuild, closeAfter, LookInside}
+use Rattle.lookup.specs.Refusals.{lookUpRefusal}
+use Rattle.lookup.specs.LookUps.{lookUpAnswers}
+
+-- before the build: a refusal, or what the bracket gives; `m` bracket records are lent
+unfoldable pub preparedOf : List ℕ → ℕ → ℕ → List ℕ → ℕ → Prepared
+preparedOf s at note index m =
+    pick (eqb (lookUpRefusal s at (length index) m) 0) (Ready (lookOf s at note index)) (NotReady (lookUpRefusal s at (length index) m))
+
+unfoldable pub buildWanted : Prepared → Bool
+buildWanted (NotReady number) = false
+buildWanted (Ready l) = isBuild l
+
+-- what the second half asks for of the first
+abbrev pub Fine : List ℕ → ℕ → Prepared → Type 0
+Fine s at (NotReady number) = Unit {0}
+Fine s at (Ready l) = (length s ≤ 65535) × (at < length s) × LookInside s at l
+
+-- the answer from what the bracket gives: "5 no group at this bracket", "10 answer longer than its area"
+unfoldable pub answered : GroupAnswer → ℕ → List ℕ → LookUp
+answered (Found g) note items = pick (ltb (length items) (rowsLength g)) (Refused 10 note) (Accepted (g .close) (length (g .items)) note)
+answered NoGroup note items = Refused 5 note
+
+-- after the build: the answer, the index being as it is then
+unfoldable pub finishedOf : List ℕ → ℕ → ℕ → Prepared → List ℕ → List ℕ → LookUp
+finishedOf s at note (NotReady number) index items = Refused number note
+finishedOf s at note (Ready l) index items = answered (judge s at (closeAfter s at index l)) (noteAfter (isBuild l) note) items
+
+-- and the item area
+unfoldable pub finishedItems : List ℕ → ℕ → Prepared → List ℕ → List ℕ → List ℕ
+finishedItems s at (NotReady number) index items = items
+finishedItems s at (Ready l) index items = lookUpAnswers (judge s at (closeAfter s at index l)) items .items
