@@ -2,4 +2,5 @@ pub mod Order
 pub mod Records
 pub mod Defined
 pub mod Numbers
+pub mod Progress
 pub mod References

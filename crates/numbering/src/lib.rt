@@ -1,7 +1,9 @@
 // Numbers, uses, labels and reference order, over item and group records.
 pub mod entries;
 pub mod lines;
+pub mod numbers;
 pub mod records;
+pub mod uses;
 
 use definition::Author;
 use definition::Year;
@@ -14,12 +16,21 @@ ghost use Rattle.definition.specs.Defs.{defAuthor, defYear};
 ghost use Rattle.definition.specs.Parts.{authorBytes, yearBytes};
 ghost use Rattle.numbering.specs.Records.{definitionIn, lineDefIn};
 ghost use Rattle.numbering.specs.Defined.{definedAs, DefinedIn};
+ghost use Rattle.numbering.specs.Numbers.{numberAll};
+ghost use Rattle.numbering.specs.Progress.{roomOf, Holds};
 
 // What defines a key: the line that a group starts, by the group's number, or an entry of the pool, by its number.
 pub enum Defined {
     Line { group: usize },
     Entry { number: usize },
     Nothing,
+}
+
+// What became of numbering all groups: whether the labels fit, and the counts of sources and of label bytes.
+pub struct Numbering {
+    pub fits: bool,
+    pub sources: usize,
+    pub label_bytes: usize,
 }
 
 // What defines the key, among the first `n` groups and in the pool.
@@ -104,4 +115,31 @@ pub fn year_in(text: &[u8], pool: &[u8], groups: &[u16], n: usize, d: Defined) -
         Defined::Entry { number } => entries::entry_year(pool, number),
         Defined::Nothing => Year::Missing,
     }
+}
+
+// Numbers, uses and labels of all `n` groups, into their records and into `labels`. Where the labels do not fit, nothing is said of the areas:
+// the caller is to fill them with zeros.
+pub fn number_groups<'a>(
+    text: &'a [u8],
+    mode: u8,
+    pool: &'a [u8],
+    n: usize,
+    items: &mut [u16],
+    groups: &mut [u16],
+    labels: &mut [u8],
+) -> Numbering
+    requires { ⌜ (n ≤ 65535) × (wellFormed (now pool) ≡ true) ⌝ }
+    ensures { λ r. ⌜ Holds (numberAll (now (text .entry)) mode (now (pool .entry)) n (now (items .entry)) (now (groups .entry))) (roomOf (now (labels .entry))) (now (labels .entry)) r (now (items .exit)) (now (groups .exit)) (now (labels .exit)) ⌝ }
+{
+    let mut s = Numbering {
+        fits: true,
+        sources: 0,
+        label_bytes: 0,
+    };
+    let mut g: usize = 0;
+    while g < n {
+        s = numbers::number_group(text, mode, pool, n, g, s, items, groups, labels);
+        g += 1;
+    }
+    s
 }
