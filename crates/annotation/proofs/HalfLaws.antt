@@ -2,7 +2,7 @@
 use Prim.Native.Nat.{ℕ, _≤_}
 use native.Mathlib.Omega.{arith}
 use mathlib.Core.Path.{_≡_, refl, sym, _∙_, ap, subst}
-use mathlib.Core.List.{List}
+use mathlib.Core.List.{List, []}
 use mathlib.Core.Bool.{Bool, true, false, true≢false}
 use lib.ListN.{length}
 use lib.Dec.{eqb}
@@ -15,13 +15,14 @@ use Rattle.lookup.specs.Resolve.{noteAfter}
 use Rattle.sweep.specs.declared.SweepState.{SweepState}
 use Rattle.sweep.specs.Stops.{startState, Counted, SweptTo}
 use Rattle.sweep.proofs.Laws.{start-counted}
+use Rattle.numbering.specs.Numbers.{numberAll}
 use Rattle.annotation.specs.declared.Annotation.{Annotation}
 use Rattle.annotation.specs.declared.Annotation.the-variants.{Refused}
 use Rattle.annotation.specs.declared.Begun.{Begun}
 use Rattle.annotation.specs.Call.{annotateRefusal, zeros}
 use Rattle.annotation.specs.Halves.{BegunBy, Continues, Finished, Zeroed, Ordered}
 use Rattle.annotation.proofs.RefusalLaws.{Unrefused, unrefused}
-use Rattle.annotation.proofs.Answers.{done-refused, done-few, done-room}
+use Rattle.annotation.proofs.Answers.{sources-short, done-refused, done-few, done-room}
 
 -- the first half -----------------------------------------------------------------------------------------------------------------------
 
@@ -70,36 +71,44 @@ pub zeroed-all : (note : ℕ) (items groups references labels : List ℕ) {items
 zeroed-all note items groups references labels i g f l =
     record { refused = refl; item-area = i; group-area = g; reference-area = f; label-area = l }
 
+-- what the first half left
+module _ {text : List ℕ} {mode : ℕ} {pool : List ℕ} {note : ℕ} {p : Begun} {index items groups : List ℕ}
+    (c : Continues text mode pool note p index items groups) (z : p .number ≡ 0) where
+  goes-on : Unrefused text mode pool (length (c .index₀)) (c .lent)
+  goes-on = unrefused text mode pool (length (c .index₀)) (c .lent) (sym (c .begun .refuses) ∙ z)
+
+  pub goes-short : length text ≤ 65535
+  goes-short = goes-on .short
+
+  pub goes-layout : wellFormed pool ≡ true
+  goes-layout = goes-on .layout
+
+  pub goes-counted : Counted text (p .sweep) (length items) (length groups)
+  goes-counted = rw (c .begun .item-area, c .begun .group-area) (c .begun .sweeps z .counted)
+
+  module _ {k : ℕ} {s : SweepState} {items' groups' : List ℕ} (t : SweptTo text k index (p .sweep) items groups s items' groups') where
+    pub groups-short : s .groups ≤ 65535
+    groups-short =
+        let a = goes-short in
+        let x = t .counted .groups-by in
+        let y = t .counted .at-by in
+        omega arith
+
+    pub items-short : s .items ≤ 65535
+    items-short =
+        let a = goes-short in
+        let x = t .counted .items-by in
+        let y = t .counted .at-by in
+        omega arith
+
+    pub numbers-short : k ≡ noteAfter (p .sweep .wants) note → s .fits ≡ true → numberAll text mode pool (s .groups) items' groups' .sources ≤ 65535
+    numbers-short q f = sources-short (c .begun) [] z q (c .built) t f
+
 module _ (text : List ℕ) (mode : ℕ) (pool : List ℕ) (note : ℕ) {p : Begun} (index items groups references labels : List ℕ) where
-  module _ (c : Continues text pool p (length items) (length groups)) (z : p .number ≡ 0) where
-    pub goes-short : length text ≤ 65535
-    goes-short = c .short z
-
-    pub goes-layout : wellFormed pool ≡ true
-    goes-layout = c .layout z
-
-    pub goes-counted : Counted text (p .sweep) (length items) (length groups)
-    goes-counted = c .counted z
-
-    module _ {k : ℕ} {s : SweepState} {items' groups' : List ℕ} (t : SweptTo text k index (p .sweep) items groups s items' groups') where
-      pub groups-short : s .groups ≤ 65535
-      groups-short =
-          let a = c .short z in
-          let x = t .counted .groups-by in
-          let y = t .counted .at-by in
-          omega arith
-
-      pub items-short : s .items ≤ 65535
-      items-short =
-          let a = c .short z in
-          let x = t .counted .items-by in
-          let y = t .counted .at-by in
-          omega arith
-
   pub finished-refused : (p .number ≡ 0 → ⊥)
       → Finished text mode pool note p index items groups references labels (Refused (p .number) note) items groups references labels
   finished-refused n = record {
-    gives = λ index₀ records m items₀ groups₀ b e i. done-refused records references labels (rw (← e) at b) n;
+    gives = λ index₀ records m items₀ groups₀ b e i. done-refused b records references labels e n;
   }
 
   module _ (z : p .number ≡ 0) {k : ℕ} (q : k ≡ noteAfter (p .sweep .wants) note) {s : SweepState} {items' groups' : List ℕ}
@@ -107,17 +116,27 @@ module _ (text : List ℕ) (mode : ℕ) (pool : List ℕ) (note : ℕ) {p : Begu
     pub finished-few : s .fits ≡ false → Zeroed k items' groups' references labels r items'' groups'' references'' labels''
         → Finished text mode pool note p index items groups references labels r items'' groups'' references'' labels''
     finished-few f o = record {
-      gives = λ index₀ records m items₀ groups₀ b e i. done-few records references labels (rw (← e) at b) z q i t f o;
+      gives = λ index₀ records m items₀ groups₀ b e i. done-few b records references labels e z q i t f o;
     }
 
     pub finished-room : s .fits ≡ true
         → Ordered text mode pool (s .groups) (s .items) k items' groups' references labels r items'' groups'' references'' labels''
         → Finished text mode pool note p index items groups references labels r items'' groups'' references'' labels''
     finished-room f o = record {
-      gives = λ index₀ records m items₀ groups₀ b e i. done-room records references labels (rw (← e) at b) z q i t f o;
+      gives = λ index₀ records m items₀ groups₀ b e i. done-room b records references labels e z q i t f o;
     }
 
-pub ruleset finish-laws = (goes-short, goes-layout, goes-counted, groups-short, items-short, finished-refused, finished-few, finished-room)
+pub ruleset finish-laws = (
+  goes-short,
+  goes-layout,
+  goes-counted,
+  groups-short,
+  items-short,
+  numbers-short,
+  finished-refused,
+  finished-few,
+  finished-room,
+)
 
 -- the walk between them ----------------------------------------------------------------------------------------------------------------
 
@@ -127,12 +146,9 @@ module _ {text : List ℕ} {mode : ℕ} {pool : List ℕ} {note : ℕ} {index : 
   passed z = unrefused text mode pool (length index) m (sym (b .refuses) ∙ z)
 
   -- the first half gives what the second asks for
-  pub begun-continues : Continues text pool p (length items) (length groups)
-  begun-continues = record {
-    short = λ z. passed z .short;
-    layout = λ z. passed z .layout;
-    counted = λ z. rw (b .item-area, b .group-area) (b .sweeps z .counted);
-  }
+  pub begun-continues : {index' : List ℕ} → index' ≡ pick (p .sweep .wants) (builtIndex text index) index
+      → Continues text mode pool note p index' items groups
+  begun-continues e = record { index₀ = index; lent = m; items₀ = items₀; groups₀ = groups₀; begun = b; built = e }
 
   -- what the build asks for
   module _ (w : p .sweep .wants ≡ true) where

@@ -1,5 +1,5 @@
 -- An annotation in two halves, before and after a build that may be wanted between them.
-use Prim.Native.Nat.{ℕ, _≤_, min}
+use Prim.Native.Nat.{ℕ, min}
 use mathlib.Core.Path.{_≡_}
 use mathlib.Core.List.{List, [], _∷_}
 use mathlib.Core.Bool.{Bool, true, false, _&&_}
@@ -9,8 +9,7 @@ use Rattle.base.specs.Pick.{pick}
 use Rattle.base.specs.Lists.{written}
 use Rattle.index.specs.declared.Bracket.{Bracket}
 use Rattle.index.specs.Built.{builtIndex}
-use Rattle.pool.specs.Layout.{wellFormed}
-use Rattle.sweep.specs.Stops.{startState, Counted, SweptTo}
+use Rattle.sweep.specs.Stops.{startState, SweptTo}
 use Rattle.numbering.specs.Numbers.{Numbered, numberAll}
 use Rattle.numbering.specs.References.{referencesIn}
 use Rattle.annotation.specs.declared.Annotation.{Annotation}
@@ -35,11 +34,14 @@ pub record BegunBy (text : List ℕ) (mode : ℕ) (pool : List ℕ) (note : ℕ)
   pub item-area : length items' ≡ length items
   pub group-area : length groups' ≡ length groups
 
--- what the second half asks for, the two areas being `items` and `groups` numbers long
-pub record Continues (text pool : List ℕ) (p : Begun) (items groups : ℕ) : Type 0 where
-  pub short : p .number ≡ 0 → length text ≤ 65535
-  pub layout : p .number ≡ 0 → wellFormed pool ≡ true
-  pub counted : p .number ≡ 0 → Counted text (p .sweep) items groups
+-- what the second half asks for: the first half began so, and the index was built where that wanted it
+pub record Continues (text : List ℕ) (mode : ℕ) (pool : List ℕ) (note : ℕ) (p : Begun) (index items groups : List ℕ) : Type 0 where
+  pub index₀ : List ℕ
+  pub lent : ℕ
+  pub items₀ : List ℕ
+  pub groups₀ : List ℕ
+  pub begun : BegunBy text mode pool note index₀ lent items₀ groups₀ p items groups
+  pub built : index ≡ pick (p .sweep .wants) (builtIndex text index₀) index₀
 
 -- an answer, and the four areas with it, are those of a call as run
 pub record Done (ran : AnnotateRan) (r : Annotation) (items groups references labels : List ℕ) : Type 0 where

@@ -1,4 +1,4 @@
--- `annotation::zero_fill_bytes` meets its contract. The loop's invariant: the first numbers are 0 and the others as they were. Assumes nothing.
+-- `annotation::zero_fill_bytes` meets its contract. The loop's invariant: the first bytes are 0 and the others as they were. Assumes nothing.
 use Prim.Native.Nat.{_-_, _≤_}
 use mathlib.Core.Path.{_≡_}
 use mathlib.Core.List.{_++_}
@@ -9,10 +9,10 @@ use Rattle.annotation.proofs.zero_fill_bytes.Statement.{statement}
 use Rattle.annotation.proofs.zero_fill_bytes.Tie as tie
 
 abbrev Inv-loop : tie.InvT-loop
-Inv-loop area₀ i₀ area i = (i ≤ length area₀) × (area ≡ replicate i 0 ++ drop i area₀) × (length area ≡ length area₀)
+Inv-loop bytes₀ k₀ bytes k = (k ≤ length bytes₀) × (bytes ≡ replicate k 0 ++ drop k bytes₀) × (length bytes ≡ length bytes₀)
 
 abbrev μ-loop : tie.MeasureT-loop
-μ-loop area₀ i₀ area i = length area₀ - i
+μ-loop bytes₀ k₀ bytes k = length bytes₀ - k
 
 pub zero-fill-bytes-spec : {M : Type 1} → statement M
 zero-fill-bytes-spec =
