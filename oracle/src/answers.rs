@@ -107,6 +107,12 @@ impl Session {
         usize::from(self.index.get().is_some())
     }
 
+    /// Builds the index as a look-up would, and answers the note.
+    pub fn build(&self) -> usize {
+        self.index.get_or_init(|| probe::pairs(&self.text));
+        self.note()
+    }
+
     /// `bracket_pairs` of the text, one number a byte.
     pub fn index(&self) -> Vec<usize> {
         let entries = probe::index(&self.text);

@@ -31,3 +31,4 @@ pub mod answers;
 pub mod generate;
 pub mod pool;
 pub mod protocol;
+pub mod stored;

@@ -5,14 +5,15 @@
 //!     oracle generate SEED N KIND                     N made-up requests of a kind, to be answered or to be sent elsewhere
 //!     oracle store > ../crates/replay/data/answers    the stored list that crates/replay replays
 //!     oracle store SEED TIMES > answers               a list with other seeds, TIMES as long, to run target/bin/replay beside
+//!     oracle show SEED TIMES KIND N                   the requests of the N-th record of a kind in that list, with their answers
 //!
 //! A place that the Rust's answer does not bear out stops the program.
 
 use std::io::{self, BufRead, Write};
 
 use oracle::answers::Session;
-use oracle::generate;
 use oracle::protocol::Request;
+use oracle::{generate, stored};
 
 fn main() {
     let words: Vec<String> = std::env::args().skip(1).collect();
@@ -22,7 +23,8 @@ fn main() {
         ["generate", seed, n, kind] => write_requests(number(seed), number(n) as usize, kind),
         ["store"] => store(0, 1),
         ["store", seed, times] => store(number(seed), number(times) as usize),
-        _ => stop("oracle | oracle generate SEED N KIND | oracle store [SEED TIMES]"),
+        ["show", seed, times, kind, n] => show(number(seed), number(times) as usize, kind, number(n) as usize),
+        _ => stop("oracle | oracle generate SEED N KIND | oracle store [SEED TIMES] | oracle show SEED TIMES KIND N"),
     }
 }
 
@@ -36,7 +38,11 @@ fn number(word: &str) -> u64 {
 }
 
 fn store(seed: u64, times: usize) {
-    io::stdout().write_all(&generate::stored(seed, times)).expect("output");
+    io::stdout().write_all(&stored::list(seed, times)).expect("output");
+}
+
+fn show(seed: u64, times: usize, kind: &str, n: usize) {
+    print!("{}", stored::lines(seed, times, kind, n).unwrap_or_else(|| stop("no such record")));
 }
 
 fn write_requests(seed: u64, n: usize, kind: &str) {

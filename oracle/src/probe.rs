@@ -48,10 +48,15 @@ pub fn close(text: &str, open: usize, limit: usize) -> Option<usize> {
     close_bracket(text, open, limit)
 }
 
-/// `bracket_pairs`, one number a byte.
+/// `bracket_pairs`.
+pub fn pairs(text: &str) -> HashMap<usize, usize> {
+    bracket_pairs(text)
+}
+
+/// The same, one number a byte.
 pub fn index(text: &str) -> Vec<usize> {
     let mut entries = vec![0; text.len()];
-    for (open, close) in bracket_pairs(text) {
+    for (open, close) in pairs(text) {
         entries[open] = close;
     }
     entries

@@ -10,7 +10,9 @@
 //! | `close TEXT AT LIMIT` | `close_bracket`: 1 and the place, or 0 0; LIMIT `max` for none |
 //! | `locator TEXT` | number, label code, value pair, suffix pair |
 //! | `item TEXT FROM TO` | `parse_item`: 1 and the record of 16, or 0 |
+//! | `pool POOL` | 1 where its layout is kept or it has no bytes, else 0 |
 //! | `text TEXT` | takes the text, with no index: number 0, 1 or 2 |
+//! | `build` | builds the index, if it is not: note 1 |
 //! | `lookup AT` | number, close, item count, note, then the records; over the kept index |
 //! | `scan AT` | the same by the unlimited scan |
 //! | `index` | note, then `bracket_pairs` as one number a byte |
@@ -32,7 +34,9 @@ pub enum Request {
     Close(Vec<u8>, usize, usize),
     Locator(Vec<u8>),
     Item(Vec<u8>, usize, usize),
+    Pool(Vec<u8>),
     Text(Vec<u8>),
+    Build,
     LookUp(usize),
     Scan(usize),
     Index,
@@ -61,7 +65,9 @@ impl Request {
             "close" => Request::Close(words.bytes()?, words.number()?, words.number()?),
             "locator" => Request::Locator(words.bytes()?),
             "item" => Request::Item(words.bytes()?, words.number()?, words.number()?),
+            "pool" => Request::Pool(words.bytes()?),
             "text" => Request::Text(words.bytes()?),
+            "build" => Request::Build,
             "lookup" => Request::LookUp(words.number()?),
             "scan" => Request::Scan(words.number()?),
             "index" => Request::Index,
@@ -88,7 +94,9 @@ impl Request {
             Request::Close(b, at, limit) => format!("close {} {at} {limit}", hex(b)),
             Request::Locator(b) => format!("locator {}", hex(b)),
             Request::Item(b, from, to) => format!("item {} {from} {to}", hex(b)),
+            Request::Pool(b) => format!("pool {}", hex(b)),
             Request::Text(b) => format!("text {}", hex(b)),
+            Request::Build => "build".to_string(),
             Request::LookUp(at) => format!("lookup {at}"),
             Request::Scan(at) => format!("scan {at}"),
             Request::Index => "index".to_string(),
@@ -118,7 +126,9 @@ impl Request {
             },
             Request::Locator(b) => Answer::of(&answers::locator(b)),
             Request::Item(b, from, to) => item(b, *from, *to)?,
+            Request::Pool(b) => Answer::of(&[usize::from(b.is_empty() || crate::pool::entries(b).is_some())]),
             Request::Text(b) => Answer::of(&[session.set_text(b)]),
+            Request::Build => Answer::of(&[session.build()]),
             Request::LookUp(at) => looked_up(session.look_up(*at, false)),
             Request::Scan(at) => looked_up(session.look_up(*at, true)),
             Request::Index => {

@@ -4,3 +4,4 @@ pub mod Defined
 pub mod Numbers
 pub mod Progress
 pub mod References
+pub mod Ordered

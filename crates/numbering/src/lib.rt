@@ -1,7 +1,8 @@
 // Numbers, uses, labels and reference order, over item and group records.
+pub mod define;
 pub mod entries;
-pub mod lines;
 pub mod numbers;
+pub mod order;
 pub mod records;
 pub mod uses;
 
@@ -17,6 +18,9 @@ ghost use Rattle.definition.specs.Parts.{authorBytes, yearBytes};
 ghost use Rattle.numbering.specs.Records.{definitionIn, lineDefIn};
 ghost use Rattle.numbering.specs.Defined.{definedAs, DefinedIn};
 ghost use Rattle.numbering.specs.Numbers.{numberAll};
+ghost use Rattle.numbering.specs.References.{referencesIn};
+ghost use Rattle.base.specs.Lists.{written};
+ghost use lib.ListN.{length};
 ghost use Rattle.numbering.specs.Progress.{roomOf, Holds};
 
 // What defines a key: the line that a group starts, by the group's number, or an entry of the pool, by its number.
@@ -46,7 +50,7 @@ pub fn find(
     ensures { λ r. ⌜ definedAs (now (text .entry)) (now (pool .entry)) (now (groups .entry)) n r ≡ definitionIn (now (text .entry)) (now (groups .entry)) (now (items .entry)) n (now (pool .entry)) (now (key .entry)) ⌝ }
     ensures within { λ r. ⌜ DefinedIn (now (pool .entry)) n r ⌝ }
 {
-    let group = lines::line_in(text, groups, items, n, key);
+    let group = define::line_in(text, groups, items, n, key);
     if group < n {
         return Defined::Line { group };
     }
@@ -142,4 +146,26 @@ pub fn number_groups<'a>(
         g += 1;
     }
     s
+}
+
+// The numbers of the `sources` sources in reference order, at the front of `references`, from the records of `n` groups and `m` items.
+pub fn order_references<'a>(
+    text: &'a [u8],
+    mode: u8,
+    pool: &'a [u8],
+    n: usize,
+    m: usize,
+    sources: usize,
+    items: &[u16],
+    groups: &[u16],
+    references: &mut [u16],
+)
+    requires { ⌜ (n ≤ 65535) × (m ≤ 65535) × (wellFormed (now pool) ≡ true) × (sources ≤ 65535) × (sources ≤ length (now references)) ⌝ }
+    ensures { λ _. ⌜ now (references .exit) ≡ written (referencesIn (now (text .entry)) (now (pool .entry)) (now (groups .entry)) (now (items .entry)) n m mode sources) (now (references .entry)) ⌝ }
+{
+    if mode == 0 {
+        order::order_by_number(sources, references);
+        return;
+    }
+    order::order_by_rank(text, pool, groups, items, n, m, sources, references);
 }

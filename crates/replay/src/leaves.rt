@@ -1,39 +1,7 @@
 // The leaves' kinds: whether the proved function gives the stored answer. A body is the request's numbers, the answer's numbers, the text.
-ghost use Prim.Native.Nat.{_≤_};
-
-// A byte as a number.
-fn wide(b: u8) -> usize
-    ensures { λ r. ⌜ r ≤ 255 ⌝ }
-{
-    b as usize
-}
-
-// The number in the two bytes at `at`, the lower one first; 0 past the end.
-pub fn number(body: &[u8], at: usize) -> usize
-    ensures { λ r. ⌜ r ≤ 65535 ⌝ }
-{
-    if body.len() < 2 {
-        return 0;
-    }
-    if body.len() - 2 < at {
-        return 0;
-    }
-    wide(body[at]) + 256 * wide(body[at + 1])
-}
-
-// What follows the first `n` bytes.
-fn after(body: &[u8], n: usize) -> &[u8] {
-    if n <= body.len() {
-        &body[n..]
-    } else {
-        &body[..0]
-    }
-}
-
-// 1 for true, 0 for false.
-fn flag(b: bool) -> usize {
-    if b { 1 } else { 0 }
-}
+use crate::body::after;
+use crate::body::flag;
+use crate::body::number;
 
 // Whether the text is UTF-8.
 pub fn utf8_agrees(body: &[u8]) -> bool {

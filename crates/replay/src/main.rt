@@ -1,7 +1,14 @@
 // Replays the Rust's stored answers, data/answers, against the proved functions, and says for each kind how many agree.
 // docs/DIFFERENCES.md says how the list was made and how it is laid out.
+mod areas;
+mod body;
 mod leaves;
+mod lent;
+mod look_ups;
+mod parts;
+mod pools;
 
+ghost use mathlib.Core.Path.{_≡_};
 ghost use Prim.Native.Nat.{_<_, _≤_};
 ghost use lib.ListN.{length};
 use libc::STDOUT_FILENO;
@@ -61,21 +68,36 @@ fn agrees(kind: u8, body: &[u8]) -> bool {
     if kind == 5 {
         return leaves::trim_agrees(body);
     }
+    if kind == 6 {
+        return parts::close_agrees(body);
+    }
+    if kind == 7 {
+        return parts::locator_agrees(body);
+    }
+    if kind == 8 {
+        return parts::item_agrees(body);
+    }
+    if kind == 9 {
+        return pools::pool_agrees(body);
+    }
+    if kind == 11 {
+        return look_ups::look_ups_agree(body);
+    }
     false
 }
 
-// The tally with a record, where it is of this kind: the kind, the body's length in two bytes, the body. One cut off does not agree.
+// The tally with a record, where it is of this kind: the kind, the body's length in three bytes, the body. One cut off does not agree.
 fn judged(t: Tally, kind: u8, record: &[u8]) -> Tally {
-    if record.len() < 3 {
+    if record.len() < 4 {
         return t;
     }
     if record[0] != kind {
         return t;
     }
-    if leaves::number(record, 1) + 3 != record.len() {
+    if body::length(record, 1) + 4 != record.len() {
         return counted(t, false);
     }
-    counted(t, agrees(kind, &record[3..]))
+    counted(t, agrees(kind, &record[4..]))
 }
 
 // Where the record that starts at `at` ends; the block's end where it is cut off.
@@ -83,9 +105,9 @@ fn record_end(block: &[u8], at: usize) -> usize
     requires { ⌜ at < length (now block) ⌝ }
     ensures { λ r. ⌜ (at < r) × (r ≤ length (now (block .entry))) ⌝ }
 {
-    let n = leaves::number(block, at + 1);
-    if n + 3 <= block.len() - at {
-        at + (n + 3)
+    let n = body::length(block, at + 1);
+    if n + 4 <= block.len() - at {
+        at + (n + 4)
     } else {
         block.len()
     }
@@ -103,9 +125,16 @@ fn replay_block(t: Tally, kind: u8, block: &[u8]) -> Tally {
     tally
 }
 
+// Zeros for a block of the list.
+fn block() -> [u8; 262144]
+    ensures { λ r. ⌜ 262144 ≡ length r ⌝ }
+{
+    [0; 262144]
+}
+
 // The tally with the next block of the list.
 fn replay_some(t: Tally, kind: u8, fd: i32) -> Step {
-    let mut buf = io::large_buffer();
+    let mut buf = block();
     let n = io::read_full(fd, &mut buf);
     let tally = replay_block(t, kind, &buf[..n]);
     Step {
@@ -166,4 +195,9 @@ fn main() {
     replay(b"key", 3);
     replay(b"white", 4);
     replay(b"trim", 5);
+    replay(b"close", 6);
+    replay(b"locator", 7);
+    replay(b"item", 8);
+    replay(b"pool", 9);
+    replay(b"lookup", 11);
 }

@@ -58,7 +58,7 @@ unfolding namesOf entryOf
 names-start s at e = names-length [] (namesIn (fieldsOf s at e))
 
 -- one name
-beside-at-most : (a k b : ℕ) → besideLen a k b ≤ a + k + b
+pub beside-at-most : (a k b : ℕ) → besideLen a k b ≤ a + k + b
 unfolding besideLen
 beside-at-most a k b = go (eqb a 0) (eqb b 0)
   where
@@ -67,7 +67,7 @@ beside-at-most a k b = go (eqb a 0) (eqb b 0)
     go false true = omega arith
     go false false = omega arith
 
-inside-small : (s : List ℕ) (f : Found) → length s ≤ 32768 → Inside s f → lenOf f ≤ 32768
+pub inside-small : (s : List ℕ) (f : Found) → length s ≤ 32768 → Inside s f → lenOf f ≤ 32768
 inside-small s (At p) h i = omega arith
 inside-small s Missing h i = omega arith
 

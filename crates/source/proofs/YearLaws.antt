@@ -95,6 +95,11 @@ module _ (n : Bool) (m : ℕ) where
   unfolding signedDecimal
   plain-written s e o = rw e o
 
+signed-short : (n : Bool) (m : ℕ) → length (signedDecimal (signed n m)) ≤ 21
+unfolding signedDecimal
+signed-short true m = omega (arith, decimal-short m)
+signed-short false m = omega (arith, decimal-short m)
+
 pub ruleset signed-laws = (sign-length, sign-bound, sign-fits, plain-length, plain-bound)
 
 pub ruleset write-signed-laws = (sign-room, sign-written, plain-room, plain-written)
@@ -181,6 +186,12 @@ parens-length s (YearAt p) i =
     let l = part-length s (p .at) (p .at + p .len) (omega arith) i in
     rw length-append (omega arith)
 parens-length s NoYear i = refl
+
+pub parens-at-most : (s : List ℕ) (y : Year) → length s ≤ 32768 → YearInside s y → parensLen y ≤ 32770
+unfolding parensLen
+parens-at-most s (Number n m) h i = let l = signed-short n m in omega arith
+parens-at-most s (YearAt p) h i = omega arith
+parens-at-most s NoYear h i = omega arith
 
 module _ (s : List ℕ) (y : Year) (n : ℕ) where
   pub parens-missing : (area : List ℕ) → n ≡ parensLen y → n ≡ 0 → area ≡ written (inParens (yearBytes s y)) area

@@ -8,8 +8,8 @@ use Rattle.base.specs.Pick.{pick}
 use Rattle.pool.specs.declared.Found.{Found}
 use Rattle.pool.specs.declared.Found.the-variants.{At, Missing}
 use Rattle.pool.specs.declared.NameParts.{NameParts}
-use Rattle.pool.specs.Entries.{Name}
-use Rattle.source.specs.Text.{nameOf}
+use Rattle.pool.specs.Entries.{Name, Entry, bytesOr}
+use Rattle.source.specs.Text.{nameOf, beside, headOf}
 
 -- the length of `beside`, with a separator of `sep` bytes
 unfoldable pub besideLen : ℕ → ℕ → ℕ → ℕ
@@ -53,3 +53,12 @@ nameLen n = nameLenBy (n .literal) (n .family) (n .given)
 -- the length of the names so far, and one more
 unfoldable pub addLen : ℕ → Name → ℕ
 addLen n name = besideLen n 2 (length (nameOf name))
+
+-- the text without its stop
+unfoldable pub bodyOf : Entry → List ℕ
+bodyOf e = beside (46 ∷ 32 ∷ []) (headOf e) (bytesOr (e .title) [])
+
+-- the first of two that was found
+unfoldable pub orFound : Found → Found → Found
+orFound (At p) other = At p
+orFound Missing other = other

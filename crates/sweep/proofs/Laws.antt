@@ -303,6 +303,11 @@ module _ {text : List ℕ} {gs : List Group} {items groups : List ℕ} {r : Swee
       let z = c .at-by in
       omega arith
 
+-- what a next sweep asks of the state that one left
+pub swept-counted : {text : List ℕ} {note : ℕ} {index : List ℕ} {s : SweepState} {items groups : List ℕ} {r : SweepState} {items' groups' : List ℕ}
+    → SweptTo text note index s items groups r items' groups' → Counted text r (length items') (length groups')
+swept-counted a = rw (a .records .item-area, a .records .group-area) (a .counted)
+
 -- Two sweeps: the first with the index and the note as they were lent, the second, from where it stopped, with those after the build, if
 -- one was wanted. They record the groups of the sweep as run.
 pub swept-whole : (text : List ℕ) (l : Lent) {items groups : List ℕ} {r : SweepState} {items' groups' : List ℕ} {t : SweepState} {items'' groups'' : List ℕ}

@@ -56,7 +56,7 @@ pub struct SweepState {
 }
 
 // What a place gives: no group, a group by its close and the count of its items, or that the index has to be built first.
-pub enum Step {
+enum Step {
     Next,
     Group { close: usize, count: usize },
     Build,

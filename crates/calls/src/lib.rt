@@ -1,0 +1,58 @@
+// The five calls. Each takes every argument, and answers by an enum whose numbers and values a definition gives (specs/Values of its crate).
+// A refusal returns its number and the note as it was given; 5 and 10 keep an index built on the way, with its note.
+pub use index::Bracket;
+pub use lookup::LocatorAnswer;
+pub use lookup::LookUp;
+pub use lookup::Size;
+pub use source::SourceText;
+ghost use mathlib.Core.Path.{_≡_};
+ghost use Rattle.lookup.specs.LookUps.{lookUpRun};
+ghost use Rattle.lookup.specs.Others.{locatorCall, sizeCall};
+ghost use Rattle.lookup.specs.Values.{lookUpValues, lookUpNumbers, locatorValues, locatorNumbers, sizeValues, sizeNumbers};
+ghost use Rattle.source.specs.Call.{sourceTextCall};
+ghost use Rattle.source.specs.Values.{sourceTextValues, sourceTextNumbers};
+
+// The group at the bracket at `at`: the place of its close, the count of its items and the note, and the item records at the front of `items`.
+// Refusals: 1, 2, 3, 4, 9, 5, 10.
+pub fn look_up(
+    text: &[u8],
+    at: usize,
+    note: u8,
+    index: &mut [u16],
+    records: &mut [Bracket],
+    items: &mut [u16],
+) -> LookUp
+    ensures { λ r. let ran = lookUpRun (now (text .entry)) at note (now (index .entry)) (now (records .entry)) (now (items .entry)) in
+        ⌜ (lookUpValues r ≡ lookUpNumbers ran)
+        × (now (index .exit) ≡ ran .index)
+        × (now (records .exit) ≡ ran .records)
+        × (now (items .exit) ≡ ran .answer .items) ⌝ }
+{
+    let n = pairs::count(records);
+    let p = lookup::prepare(text, at, note, index, n);
+    let w = lookup::wants_build(p);
+    pairs::build_when(w, text, index, records);
+    lookup::finish(text, at, note, p, index, items)
+}
+
+// How many item records any annotation of the text needs at most. Refusals: 1, 2.
+pub fn size(text: &[u8]) -> Size
+    ensures { λ r. ⌜ sizeValues r ≡ sizeNumbers (sizeCall (now (text .entry))) ⌝ }
+{
+    lookup::size_call(text)
+}
+
+// The locator that the whole text is: label code, value pair and suffix pair. Refusals: 1, 2.
+pub fn locator(text: &[u8]) -> LocatorAnswer
+    ensures { λ r. ⌜ locatorValues r ≡ locatorNumbers (locatorCall (now (text .entry))) ⌝ }
+{
+    lookup::locator_call(text)
+}
+
+// The text of the pool's entry number `entry`, at the front of `area`: the bytes written. Refusals: 7, 8, 10.
+pub fn source_text(pool: &[u8], entry: usize, area: &mut [u8]) -> SourceText
+    ensures { λ r. let ran = sourceTextCall (now (pool .entry)) entry (now (area .entry)) in
+        ⌜ (sourceTextValues r ≡ sourceTextNumbers ran) × (now (area .exit) ≡ ran .area) ⌝ }
+{
+    source::source_text(pool, entry, area)
+}

@@ -1,0 +1,141 @@
+//! The stored list of requests with their answers. crates/replay reads it; docs/DIFFERENCES.md has the layout of each kind.
+
+use crate::answers::Session;
+use crate::generate;
+use crate::protocol::Request;
+
+/// The kinds: number in the list, name, seed, how many turns.
+const KINDS: [(u8, &str, u64, usize); 10] = [
+    (1, "utf8", 1, 800),
+    (2, "escaped", 2, 700),
+    (3, "key", 3, 1000),
+    (4, "white", 4, 1000),
+    (5, "trim", 5, 800),
+    (6, "close", 6, 600),
+    (7, "locator", 7, 800),
+    (8, "item", 8, 800),
+    (9, "pool", 9, 8),
+    (11, "lookup", 11, 400),
+];
+/// A record lies within one block, and the rest of a block is filled with zeros.
+const BLOCK: usize = 262_144;
+
+/// Hands each record to `take`, with other seeds and so many times as many turns where asked for: the number of its kind, its
+/// requests, its body.
+pub fn records(seed: u64, times: usize, take: &mut dyn FnMut(u8, &[Request], Vec<u8>)) {
+    let mut session = Session::default();
+    for (number, kind, own_seed, n) in KINDS {
+        let known = generate::turns(own_seed + seed, n * times, kind, &mut |turn| match turn[0] {
+            Request::Text(_) => take(number, &turn, text_body(&turn, &mut session)),
+            _ => turn.chunks(1).for_each(|request| take(number, request, body(&request[0], &mut session))),
+        });
+        assert!(known);
+    }
+}
+
+/// The list. A record is the kind's number, the length of its body (three bytes) and its body. All numbers are little-endian.
+pub fn list(seed: u64, times: usize) -> Vec<u8> {
+    let mut out = Vec::new();
+    records(seed, times, &mut |kind, _, body| {
+        if out.len() % BLOCK + 4 + body.len() > BLOCK {
+            out.resize(out.len().next_multiple_of(BLOCK), 0);
+        }
+        out.push(kind);
+        out.extend(&(body.len() as u32).to_le_bytes()[..3]);
+        out.extend(body);
+    });
+    out
+}
+
+/// The lines of the requests of record `n` (from 1) of a kind, each with its answer; none where there is no such record.
+pub fn lines(seed: u64, times: usize, name: &str, n: usize) -> Option<String> {
+    let wanted = KINDS.iter().find(|kind| kind.1 == name)?.0;
+    let mut count = 0;
+    let mut out = None;
+    records(seed, times, &mut |kind, requests, _| {
+        count += usize::from(kind == wanted);
+        if kind == wanted && count == n {
+            out = Some(asked(requests));
+        }
+    });
+    out
+}
+
+fn asked(requests: &[Request]) -> String {
+    let mut session = Session::default();
+    let mut out = Vec::new();
+    for request in requests {
+        out.extend(format!("{}\n    ", request.line()).bytes());
+        request.answer(&mut session).expect("a request that can be answered").write(&mut out);
+    }
+    String::from_utf8(out).expect("lines of ASCII")
+}
+
+// Two bytes a number.
+fn put(out: &mut Vec<u8>, numbers: impl IntoIterator<Item = usize>) {
+    for number in numbers {
+        out.extend(u16::try_from(number).expect("a number of 16 bits").to_le_bytes());
+    }
+}
+
+// A text with calls on it: where the text begins in the body (three bytes), the note that the first call is given (one byte), what the
+// index area holds before it, how many calls, how many entries the index has, those (a place and its close each), the calls, the text.
+fn text_body(turn: &[Request], session: &mut Session) -> Vec<u8> {
+    let Request::Text(text) = &turn[0] else { panic!("a turn of a text begins with it") };
+    session.set_text(text);
+    let note = match turn[1] {
+        Request::Build => session.build(),
+        _ => [0, 0, 2, 255][text.len() % 4],
+    };
+    let calls: Vec<Vec<u8>> = turn[1..].iter().filter_map(|request| call(request, note, session)).collect();
+    let index = session.index().into_iter().enumerate().filter(|entry| entry.1 > 0);
+    let entries: Vec<[usize; 2]> = index.map(|(open, close)| [open, close]).collect();
+    let mut out = vec![0, 0, 0, note as u8];
+    put(&mut out, [left_over(text), calls.len(), entries.len()]);
+    put(&mut out, entries.concat());
+    out.extend(calls.concat());
+    let start = (out.len() as u32).to_le_bytes();
+    out[..3].copy_from_slice(&start[..3]);
+    out.extend(text);
+    out
+}
+
+// A look-up: place, number, close, item count, note, and twelve numbers a record, whose last four are 0.
+fn call(request: &Request, given: usize, session: &Session) -> Option<Vec<u8>> {
+    let mut out = Vec::new();
+    if let Request::LookUp(at) = request {
+        let answer = session.look_up(*at, false);
+        let note = if answer.note == 1 { 1 } else { given };
+        put(&mut out, [(*at).min(65_535), answer.number, answer.close, answer.items.len(), note]);
+        for item in answer.items {
+            assert_eq!(item[12..], [0; 4]);
+            put(&mut out, item[..12].iter().copied());
+        }
+        return Some(out);
+    }
+    None
+}
+
+// What the index area holds before the first call: the place of the text's last close, so that it looks like an entry.
+fn left_over(text: &[u8]) -> usize {
+    text.iter().rposition(|b| *b == b']').unwrap_or(7).min(65_535)
+}
+
+// The request's numbers, the answer's numbers, the answer's bytes where it has them, then the request's bytes.
+fn body(request: &Request, session: &mut Session) -> Vec<u8> {
+    let (bytes, numbers) = match request {
+        Request::Utf8(text) | Request::Locator(text) | Request::Pool(text) => (text, vec![]),
+        Request::Escaped(text, at) | Request::Key(text, at) | Request::White(text, at) => (text, vec![*at]),
+        Request::Trim(text, from, to) | Request::Item(text, from, to) => (text, vec![*from, *to]),
+        Request::Close(text, at, limit) => (text, vec![*at, (*limit).min(65_535)]),
+        Request::Source(pool, entry) => (pool, vec![*entry]),
+        _ => panic!("a kind that is not stored alone"),
+    };
+    let answer = request.answer(session).expect("a request that can be answered");
+    let mut out = Vec::new();
+    put(&mut out, numbers);
+    put(&mut out, answer.numbers);
+    out.extend(answer.bytes.unwrap_or_default());
+    out.extend(bytes);
+    out
+}
