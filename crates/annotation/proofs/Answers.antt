@@ -22,7 +22,7 @@ use Rattle.numbering.specs.Numbers.{Numbered, numberAll}
 use Rattle.annotation.specs.declared.Annotation.{Annotation}
 use Rattle.annotation.specs.declared.Annotation.the-variants.{Refused}
 use Rattle.annotation.specs.declared.Begun.{Begun}
-use Rattle.annotation.specs.Content.{Areas, contentOf, tallyOf}
+use Rattle.annotation.specs.Content.{Areas, contentOf}
 use Rattle.annotation.specs.Call.{annotateRefusal, annotateRefused, roomFor, filled, zeros, zeroFilled, annotateGives, answerOf, AnnotateRan, annotateRan, annotateSwept, annotateRun}
 use Rattle.annotation.specs.Values.{annotationValues, annotationNumbers}
 use Rattle.annotation.specs.Steps.{sweptItems, sweptGroups, numberedFrom, referencesFrom, Fits, ContentAs}
@@ -289,3 +289,5 @@ module _ {text : List ℕ} {mode : ℕ} {pool : List ℕ} {note : ℕ} {index₀
       go : (t : Bool) → eqb (p .number) 0 ≡ t → ran .records ≡ pick (p .sweep .wants) (builtRecords text records) records
       go true q = rw (ran-swept (eqb-true (p .number) 0 q))
       go false q = let n = eqb-false (p .number) 0 q in rw (ran-refused n, b .no-build n)
+
+pub ruleset ran-laws = (ran-index, ran-records)

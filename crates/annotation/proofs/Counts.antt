@@ -1,7 +1,7 @@
 -- There are no more sources than items.
 use Prim.Native.Nat.{ℕ, suc, _+_, _≤_}
 use native.Mathlib.Omega.{arith}
-use mathlib.Core.Path.{_≡_, refl, ap}
+use mathlib.Core.Path.{ap}
 use mathlib.Core.List.{List, [], _∷_, _++_, map}
 use mathlib.Core.Bool.{Bool, true, false}
 use lib.ListN.{length, length-append, length-map}
@@ -9,7 +9,7 @@ use lib.Dec.{eqb}
 use Rattle.base.specs.Pick.{pick}
 use Rattle.lookup.specs.Groups.{Group}
 use Rattle.definition.specs.Lines.{inLine, groupEnd, keyOf}
-use Rattle.sweep.specs.Rows.{Placed, itemCount}
+use Rattle.sweep.specs.Rows.{itemCount}
 use Rattle.annotation.specs.Sources.{Source}
 use Rattle.annotation.specs.Content.{standingOf, allDefined, placedFrom, placedOf, tallyOf}
 use Rattle.annotation.specs.Facts.{isIn, firstUses, numberedKeys}

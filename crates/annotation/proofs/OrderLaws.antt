@@ -6,7 +6,6 @@ use mathlib.Core.Bool.{Bool, true, false, _&&_}
 use lib.ListN.{length}
 use lib.Dec.{leb}
 use borrow.Author.Tests.{leb-true}
-use Rattle.base.specs.Pick.{pick}
 use Rattle.base.specs.Lists.{written}
 use Rattle.item.proofs.Parts.{and-left, and-right}
 use Rattle.numbering.specs.Numbers.{Numbered, numberAll}
@@ -14,8 +13,7 @@ use Rattle.numbering.specs.References.{referencesIn}
 use Rattle.numbering.specs.declared.Numbering.{Numbering}
 use Rattle.numbering.specs.Progress.{roomOf, Agrees, Holds}
 use Rattle.annotation.specs.declared.Annotation.{Annotation}
-use Rattle.annotation.specs.declared.Annotation.the-variants.{Accepted, Refused}
-use Rattle.annotation.specs.Call.{zeros}
+use Rattle.annotation.specs.declared.Annotation.the-variants.{Accepted}
 use Rattle.annotation.specs.Values.{annotationValues}
 use Rattle.annotation.specs.Halves.{roomThen, Zeroed, Ordered}
 

@@ -1,8 +1,8 @@
 -- An area that is filled with zeros, number by number, in the form of the code's needs.
 use Prim.Native.Nat.{ℕ, _+_, _≤_, _<_}
 use native.Mathlib.Omega.{arith}
-use mathlib.Core.Path.{_≡_, refl, _∙_, ap}
-use mathlib.Core.List.{List, [], _∷_, _++_, append-nil}
+use mathlib.Core.Path.{_≡_, _∙_, ap}
+use mathlib.Core.List.{List, [], _++_, append-nil}
 use lib.ListN.{length, set, drop, replicate, drop-of-length-le, length-set}
 use borrow.Author.Fill.{fill-none, fill-more}
 use Rattle.annotation.specs.Call.{zeros}

@@ -2,7 +2,7 @@
 use Prim.Native.Nat.{ℕ, min}
 use mathlib.Core.Path.{_≡_}
 use mathlib.Core.List.{List, [], _∷_}
-use mathlib.Core.Bool.{Bool, true, false, _&&_}
+use mathlib.Core.Bool.{Bool, false, _&&_}
 use lib.ListN.{length}
 use lib.Dec.{leb}
 use Rattle.base.specs.Pick.{pick}
@@ -34,7 +34,8 @@ pub record BegunBy (text : List ℕ) (mode : ℕ) (pool : List ℕ) (note : ℕ)
   pub item-area : length items' ≡ length items
   pub group-area : length groups' ≡ length groups
 
--- what the second half asks for: the first half began so, and the index was built where that wanted it
+-- what the second half asks for: the first half began with some index, areas and count of bracket records lent, and the index was built
+-- where it wanted that
 pub record Continues (text : List ℕ) (mode : ℕ) (pool : List ℕ) (note : ℕ) (p : Begun) (index items groups : List ℕ) : Type 0 where
   pub index₀ : List ℕ
   pub lent : ℕ

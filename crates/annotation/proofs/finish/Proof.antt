@@ -1,4 +1,5 @@
--- `annotation::finish` meets its contract. Assumes nothing.
+-- `annotation::finish` meets its contract. What `number_and_order` requires follows from what the first half left, from the second sweep and
+-- from the note. Assumes nothing.
 use Rattle.annotation.proofs.HalfLaws.{goes-layout, groups-short, items-short, numbers-short, finish-laws}
 use borrow.Author.Needs.{needs}
 use Rattle.annotation.proofs.finish.Statement.{statement}
