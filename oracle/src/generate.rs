@@ -4,6 +4,7 @@ mod pools;
 mod random;
 mod texts;
 
+use crate::answers::text_refusal;
 use crate::protocol::Request;
 use random::{character, Random, NEAR, WIDE};
 
@@ -220,8 +221,9 @@ fn look_ups(random: &mut Random) -> Vec<Request> {
         0 => refused(random, text),
         _ => text.into_bytes(),
     };
+    let built = random.below(4) == 0 && text_refusal(&bytes) == 0;
     let mut out = vec![Request::Text(bytes)];
-    if random.below(4) == 0 {
+    if built {
         out.push(Request::Build);
     }
     for at in places {
