@@ -1,10 +1,10 @@
 -- A numbered item, and those of a group, in the form of the needs.
-use Prim.Native.Nat.{ℕ, zero, suc, _+_, _-_, _*_, _≤_, _<_, min}
+use Prim.Native.Nat.{ℕ, _+_, _-_, _≤_, _<_, min}
 use native.Mathlib.Omega.{arith}
 use mathlib.Core.Path.{_≡_, refl, sym, _∙_, ap}
-use mathlib.Core.List.{List, [], _∷_, _++_}
+use mathlib.Core.List.{List, _++_}
 use mathlib.Core.Bool.{Bool, true, false, not}
-use lib.ListN.{length, take, drop, set, length-append, length-take, length-drop}
+use lib.ListN.{length, take, drop, length-append, length-take, length-drop}
 use lib.Dec.{leb}
 use borrow.Author.Tests.{le-leb, lt-leb, leb-true, leb-false, not-true, not-false}
 use Rattle.base.specs.Pick.{pick}
@@ -16,7 +16,7 @@ use Rattle.label.specs.Areas.{fitted}
 use Rattle.numbering.specs.declared.Numbering.{Numbering}
 use Rattle.numbering.specs.declared.uses.Count.{Count}
 use Rattle.numbering.specs.Records.{keyIn, suppressedIn, definitionIn}
-use Rattle.numbering.specs.Numbers.{numberIn, useIn, sourcesIn, setLast, Numbered, labelIn, citeAs, citeIn, citeFrom}
+use Rattle.numbering.specs.Numbers.{setLast, Numbered, labelIn, citeAs, citeIn}
 use Rattle.numbering.specs.Progress.{Counts, roomOf, Agrees, Holds, Advances}
 
 -- two truths that cannot both be

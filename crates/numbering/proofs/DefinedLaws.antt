@@ -1,13 +1,11 @@
 -- What defines a key, and the author and the year that it gives, in the form of the needs.
-use Prim.Native.Nat.{ℕ, zero, suc, _+_, _-_, _≤_, _<_}
+use Prim.Native.Nat.{ℕ, _-_, _≤_, _<_}
 use native.Mathlib.Omega.{arith}
 use mathlib.Core.Path.{_≡_, refl, sym, _∙_, ap}
 use mathlib.Core.List.{List, []}
-use mathlib.Core.Bool.{Bool, true, false, _&&_, and-false}
-use mathlib.Core.Option.{Option, none, some}
-use lib.ListN.{length, getD, List·getD-eq-default}
-use lib.Dec.{eqb, ltb}
-use borrow.Author.Tests.{lt-ltb, le-ltb, ltb-true, ltb-false}
+use mathlib.Core.Option.{none}
+use lib.ListN.{length}
+use borrow.Author.Tests.{lt-ltb, le-ltb}
 use Rattle.pool.specs.Layout.{countOf}
 use Rattle.source.specs.Text.{authorOf, yearOf}
 use Rattle.definition.specs.declared.Author.{Author}
@@ -17,7 +15,7 @@ use Rattle.definition.specs.declared.Year.the-variants.{Missing as NoYear}
 use Rattle.definition.specs.Attributes.{attrValue, valueIn, wordsOf, wordsIn, authorWord, yearWord}
 use Rattle.definition.specs.Lines.{attributesOf}
 use Rattle.definition.specs.Parts.{authorBytes, yearBytes}
-use Rattle.definition.specs.Defs.{Def, lineDef, entryDef, defAuthor, defYear}
+use Rattle.definition.specs.Defs.{lineDef, entryDef, defAuthor, defYear}
 use Rattle.numbering.specs.declared.Defined.{Defined}
 use Rattle.numbering.specs.declared.Defined.the-variants.{Line, Entry as EntryOf, Nothing}
 use Rattle.numbering.specs.Records.{closeOfRecord, nextIn, lineIn, lineDefIn, definitionIn}

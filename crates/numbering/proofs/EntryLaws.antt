@@ -6,7 +6,7 @@ use mathlib.Core.List.{List, [], _∷_}
 use mathlib.Core.Bool.{Bool, true, false, not, _&&_}
 use mathlib.Core.Option.{Option, none, some}
 use lib.ListN.{length}
-use lib.Dec.{eqb, ltb}
+use lib.Dec.{ltb}
 use borrow.Author.Tests.{lt-ltb, le-ltb, eq-eqb, ne-eqb}
 use Rattle.base.specs.Pick.{pick}
 use Rattle.base.specs.First.{first}
@@ -15,8 +15,8 @@ use Rattle.base.specs.declared.Span.{Span}
 use Rattle.pool.specs.declared.Found.{Found}
 use Rattle.pool.specs.declared.Found.the-variants.{At, Missing}
 use Rattle.pool.specs.declared.NameParts.{NameParts}
-use Rattle.pool.specs.Fields.{Field, fieldAt, fieldEnd, fieldsOf}
-use Rattle.pool.specs.Entries.{Name, Entry, bytesOr, fieldWith, nameAfter, nameAt, namesIn, entryOf}
+use Rattle.pool.specs.Fields.{fieldAt, fieldEnd, fieldsOf}
+use Rattle.pool.specs.Entries.{Name, bytesOr, fieldWith, nameAfter, nameAt, namesIn, entryOf}
 use Rattle.pool.specs.Layout.{countOf, offsetOf, endOf, wellFormed, entriesIn, entriesOf}
 use Rattle.pool.specs.Places.{Reads, ReadsName, FieldsIn, EntryIn}
 use Rattle.pool.proofs.FieldLaws.{fields-next, fields-end}
@@ -28,7 +28,6 @@ use Rattle.source.specs.Years.{yearBytes as yearTextOf, ReadsYear}
 use Rattle.source.specs.Text.{isEmpty, orBytes, authorBy, authorOf, yearOf}
 use Rattle.definition.specs.declared.Author.{Author}
 use Rattle.definition.specs.declared.Author.the-variants.{InPool, Missing as NoAuthor}
-use Rattle.definition.specs.declared.Year.{Year}
 use Rattle.definition.specs.declared.Year.the-variants.{InPool as YearInPool, Number, Missing as NoYear}
 use Rattle.definition.specs.Parts.{authorBytes, yearBytes}
 use Rattle.definition.specs.Defs.{Def, entryDef, entryDefines, firstEntry}

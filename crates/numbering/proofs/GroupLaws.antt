@@ -3,9 +3,8 @@ use Prim.Native.Nat.{ℕ, zero, suc, _+_, _-_, _≤_, _<_}
 use native.Mathlib.Omega.{arith}
 use mathlib.Core.Path.{_≡_, refl, sym, _∙_, ap}
 use mathlib.Core.List.{List}
-use mathlib.Core.Bool.{Bool, true, false, _&&_}
-use mathlib.Core.Option.{Option, none, some}
-use Rattle.definition.specs.Defs.{Def, isDefined}
+use mathlib.Core.Bool.{Bool, true, false}
+use Rattle.definition.specs.Defs.{isDefined}
 use Rattle.numbering.specs.declared.Defined.{Defined}
 use Rattle.numbering.specs.declared.Defined.the-variants.{Line, Entry as EntryOf, Nothing}
 use Rattle.numbering.specs.Records.{keyIn, definitionIn}

@@ -1,11 +1,10 @@
 -- The label of an item record, in the form of the needs.
 use Prim.Native.Nat.{ℕ}
-use mathlib.Core.Path.{_≡_, refl, sym, _∙_, ap}
+use mathlib.Core.Path.{_≡_, refl, _∙_, ap}
 use mathlib.Core.List.{List, []}
-use mathlib.Core.Bool.{Bool, true, false}
+use mathlib.Core.Bool.{Bool, false}
 use mathlib.Core.Option.{Option, none, some}
 use lib.ListN.{length}
-use lib.Dec.{eqb}
 use borrow.Author.Tests.{eq-eqb}
 use Rattle.pool.specs.Entries.{bytesOr}
 use Rattle.definition.specs.declared.Author.{Author}
@@ -13,7 +12,7 @@ use Rattle.definition.specs.declared.Author.the-variants.{Missing}
 use Rattle.definition.specs.declared.Year.{Year}
 use Rattle.definition.specs.declared.Year.the-variants.{Missing as NoYear}
 use Rattle.definition.specs.Parts.{orEmpty, authorBytes, authorGiven, yearBytes}
-use Rattle.definition.specs.Defs.{Def, defAuthor, defYear}
+use Rattle.definition.specs.Defs.{defAuthor, defYear}
 use Rattle.label.specs.Labels.{labelBy, labelText}
 use Rattle.label.specs.Areas.{fitted}
 use Rattle.numbering.specs.declared.Defined.{Defined}

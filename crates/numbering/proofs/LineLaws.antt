@@ -1,14 +1,13 @@
 -- Definition lines among the group records, in the form of the needs.
-use Prim.Native.Nat.{ℕ, _+_, _-_, _≤_, _<_}
+use Prim.Native.Nat.{ℕ, _-_, _≤_, _<_}
 use native.Mathlib.Omega.{arith}
-use mathlib.Core.Path.{_≡_, refl, sym, _∙_, ap}
+use mathlib.Core.Path.{_≡_, refl, sym, _∙_}
 use mathlib.Core.List.{List}
-use mathlib.Core.Bool.{Bool, true, false, _&&_, _||_, and-false, and-true}
-use lib.ListN.{length, getD, List·getD-eq-default}
-use lib.Dec.{eqb, ltb}
+use mathlib.Core.Bool.{Bool, true, false, and-false, and-true}
+use lib.ListN.{length, List·getD-eq-default}
 use borrow.Author.Tests.{eq-eqb, ne-eqb}
 use Rattle.base.specs.Last.{last}
-use Rattle.base.specs.Lists.{byteAt, same}
+use Rattle.base.specs.Lists.{same}
 use Rattle.definition.specs.Lines.{startsLine, colonAfter}
 use Rattle.definition.proofs.Laws.{colon-cut}
 use Rattle.numbering.specs.Records.{groupField, keyIn, bareIn, closeOfRecord, definesIn, definesKeyIn, lineIn}

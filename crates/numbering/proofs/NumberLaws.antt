@@ -1,19 +1,17 @@
 -- The items of a group, and all groups, in the form of the needs.
 use Prim.Native.Nat.{ℕ, zero, suc, _+_, _-_, _*_, _≤_, _<_}
 use native.Mathlib.Omega.{arith}
-use mathlib.Core.Path.{_≡_, refl, sym, _∙_, ap}
+use mathlib.Core.Path.{_≡_, refl, sym, _∙_}
 use mathlib.Core.List.{List, []}
-use mathlib.Core.Bool.{Bool, true, false, not, _&&_, and-false}
+use mathlib.Core.Bool.{Bool, true, false, not, and-false}
 use lib.ListN.{length, set}
-use lib.Dec.{eqb, leb}
 use borrow.Author.Tests.{le-leb, eq-eqb, ne-eqb, not-true, not-false}
 use Rattle.base.specs.Pick.{pick}
-use Rattle.base.specs.Lists.{written}
 use Rattle.source.proofs.WriteLaws.{written-none}
 use Rattle.numbering.specs.declared.Numbering.{Numbering}
 use Rattle.numbering.specs.Records.{groupField}
 use Rattle.numbering.specs.Numbers.{Numbered, citeIn, citeFrom, standsNumbered, isNumbered, numberGroup, numberFrom, numberAll, definedFrom}
-use Rattle.numbering.specs.Progress.{keysDefined, roomOf, Agrees, Holds, Advances}
+use Rattle.numbering.specs.Progress.{keysDefined, roomOf, Holds, Advances}
 use Rattle.numbering.proofs.GroupLaws.{keys-are}
 use Rattle.numbering.proofs.CiteLaws.{state, full-more, none-yet, then, as-step, cite-grows}
 

@@ -5,10 +5,9 @@ use native.Mathlib.Numerals.{add-one}
 use mathlib.Core.Path.{_≡_, refl, sym, _∙_, ap}
 use mathlib.Core.List.{List, [], _∷_, _++_, map}
 use mathlib.Core.Bool.{Bool, true, false}
-use mathlib.Core.Option.{Option, none, some}
-use lib.ListN.{length, getD, set, take, drop, drop-of-length-le, length-append, length-drop, length-set}
+use lib.ListN.{length, getD, set, take, drop, drop-of-length-le, length-drop}
 use lib.Seq.{drop-cons, drop-drop, drop-append-add, length-take-le}
-use lib.Dec.{eqb, ltb}
+use lib.Dec.{ltb}
 use borrow.Author.Tests.{lt-ltb, le-ltb, eq-eqb, ne-eqb}
 use Rattle.base.specs.Pick.{pick}
 use Rattle.base.specs.First.{first}
@@ -18,11 +17,11 @@ use Rattle.base.specs.Lists.{written, upFrom}
 use Rattle.base.specs.declared.Span.{Span}
 use Rattle.base.proofs.Searches.{first-by}
 use Rattle.pool.specs.Entries.{bytesOr}
-use Rattle.source.proofs.WriteLaws.{written-front, written-none, written-byte, written-length}
+use Rattle.source.proofs.WriteLaws.{written-front, written-none, written-byte}
 use Rattle.definition.specs.declared.Author.{Author}
 use Rattle.definition.specs.declared.Author.the-variants.{InText, InPool, Missing}
 use Rattle.definition.specs.Parts.{authorBytes, authorGiven}
-use Rattle.definition.specs.Defs.{Def, defAuthor}
+use Rattle.definition.specs.Defs.{defAuthor}
 use Rattle.definition.proofs.Firsts.{first-out, first-stop, first-more}
 use Rattle.definition.proofs.Parts.{first-shift}
 use Rattle.numbering.specs.declared.Defined.{Defined}
@@ -119,30 +118,12 @@ pub ruleset rank-laws = (with-below, rank-text, rank-pool, rank-key)
 -- the place of a source ----------------------------------------------------------------------------------------------------------
 
 module _ (text pool groups items : List ℕ) (n m : ℕ) (bytes numbers : List ℕ) (i : ℕ) where
-  abbrev rank : ℕ → List ℕ
-  rank = rankIn text pool groups items n m
-
   pub greater-is : {k : ℕ} {v : List ℕ} {r : Bool} → k ≡ getD numbers i 0 → v ≡ rankIn text pool groups items n m k → r ≡ less bytes v
       → r ≡ greaterAt (rankIn text pool groups items n m) bytes numbers i
   unfolding greaterAt
   greater-is p q e = e ∙ rw (q, p) refl
 
-  pub place-start : (c : ℕ) → first (greaterAt (rankIn text pool groups items n m) bytes numbers) c 0
-      ≡ first (greaterAt (rankIn text pool groups items n m) bytes numbers) (c - 0) 0
-  place-start c = let z : c - 0 ≡ c = omega arith in rw z refl
-
-  module _ (c : ℕ) {w : ℕ} (p : w ≡ first (greaterAt (rankIn text pool groups items n m) bytes numbers) (c - i) i) where
-    pub place-out : c ≤ i → i ≡ w
-    place-out h = first-out (greaterAt (rankIn text pool groups items n m) bytes numbers) i c p h
-
-    pub place-stop : {b : Bool} → i < c → b ≡ greaterAt (rankIn text pool groups items n m) bytes numbers i → b ≡ true → i ≡ w
-    place-stop h q t = first-stop (greaterAt (rankIn text pool groups items n m) bytes numbers) i c p h (sym q ∙ t)
-
-    pub place-more : {b : Bool} → i < c → b ≡ greaterAt (rankIn text pool groups items n m) bytes numbers i → b ≡ false
-        → w ≡ first (greaterAt (rankIn text pool groups items n m) bytes numbers) (c - (i + 1)) (i + 1)
-    place-more h q t = first-more (greaterAt (rankIn text pool groups items n m) bytes numbers) i c p h (sym q ∙ t)
-
-pub ruleset place-laws = (greater-is, place-start, place-out, place-stop, place-more)
+pub ruleset place-laws = (greater-is)
 
 -- numbers one place further ------------------------------------------------------------------------------------------------------
 
@@ -241,7 +222,7 @@ inserted-next rank (suc i) l k =
     let y : suc i + 1 ≡ suc (i + 1) = omega arith in
     rw (z, y) (inserted-next rank i (insertBy rank l k) (k + 1))
 
-inserted-count : (rank : ℕ → List ℕ) (i : ℕ) (l : List ℕ) (k : ℕ) → length (insertedFrom rank i l k) ≡ length l + i
+pub inserted-count : (rank : ℕ → List ℕ) (i : ℕ) (l : List ℕ) (k : ℕ) → length (insertedFrom rank i l k) ≡ length l + i
 unfolding insertedFrom
 inserted-count rank zero l k = omega arith
 inserted-count rank (suc i) l k =

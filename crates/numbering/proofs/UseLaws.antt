@@ -2,16 +2,15 @@
 use Prim.Native.Nat.{ℕ, _+_, _-_, _*_, _%_, _≤_, _<_}
 use native.Mathlib.Omega.{arith}
 use native.Mathlib.Nat.{mod-lt}
-use mathlib.Core.Path.{_≡_, refl, sym, _∙_, ap}
+use mathlib.Core.Path.{_≡_, refl, sym, _∙_}
 use mathlib.Core.List.{List}
 use mathlib.Core.Bool.{Bool, true, false, _&&_}
-use lib.ListN.{length, set}
+use lib.ListN.{set}
 use lib.Dec.{ltb}
 use borrow.Author.Tests.{lt-ltb, le-ltb}
 use Rattle.base.specs.Pick.{pick}
 use Rattle.base.specs.Last.{last}
 use Rattle.base.specs.Lists.{same}
-use Rattle.numbering.specs.declared.uses.Count.{Count}
 use Rattle.numbering.specs.Records.{itemField, keyIn}
 use Rattle.numbering.specs.Numbers.{sameUse, lastUse, numberIn, useIn, sourcesIn, setLast}
 use Rattle.numbering.specs.Progress.{Counts}

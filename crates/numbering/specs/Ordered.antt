@@ -1,10 +1,12 @@
 -- Reference order as the code makes it: numbers are inserted one after the other, by their ranks.
-use Prim.Native.Nat.{ℕ, zero, suc, _+_}
+use Prim.Native.Nat.{ℕ, zero, suc, _+_, _≤_, _<_}
+use mathlib.Core.Path.{_≡_}
 use mathlib.Core.List.{List, [], _∷_}
-use mathlib.Core.Bool.{Bool}
+use mathlib.Core.Bool.{Bool, true, false}
 use lib.ListN.{getD, set}
 use lib.Dec.{eqb}
 use Rattle.base.specs.Pick.{pick}
+use Rattle.base.specs.Sorted.{Sorted}
 use Rattle.numbering.specs.Records.{itemField}
 use Rattle.numbering.specs.Order.{less}
 
@@ -25,6 +27,14 @@ hasNumber items k j = eqb (itemField items j 12) k
 -- the number at place `i` has a greater rank than these bytes
 unfoldable pub greaterAt : (ℕ → List ℕ) → List ℕ → List ℕ → ℕ → Bool
 greaterAt rank bytes numbers i = less bytes (rank (getD numbers i 0))
+
+-- a test that holds at a place, among the first `c`, holds at all after it
+abbrev pub Rising : (ℕ → Bool) → ℕ → Type 0
+Rising f c = (i j : ℕ) → i ≤ j → j < c → f i ≡ true → f j ≡ true
+
+-- numbers in order: none has a lower rank than one before it
+abbrev pub SortedBy : (ℕ → List ℕ) → List ℕ → Type 0
+SortedBy rank l = Sorted (λ a b. less (rank b) (rank a) ≡ false) l
 
 -- an area with `x` at place `i`, and the `n` numbers from there on one place further
 unfoldable pub shifted : ℕ → List ℕ → ℕ → ℕ → List ℕ

@@ -4,14 +4,13 @@ use definition::Author;
 use definition::Year;
 use pool::Found;
 ghost use mathlib.Core.Path.{_≡_};
-ghost use mathlib.Core.List.{[]};
 ghost use mathlib.Core.Bool.{true, not, _&&_};
-ghost use Prim.Native.Nat.{_+_, _<_, _≤_};
+ghost use Prim.Native.Nat.{_+_, _<_};
 ghost use Rattle.base.specs.Lists.{part, same};
 ghost use Rattle.pool.specs.Fields.{fieldsOf};
-ghost use Rattle.pool.specs.Entries.{namesIn, nameAfter, entryOf};
+ghost use Rattle.pool.specs.Entries.{namesIn, nameAfter};
 ghost use Rattle.pool.specs.Layout.{countOf, wellFormed};
-ghost use Rattle.pool.specs.Places.{FieldsIn, EntryIn};
+ghost use Rattle.pool.specs.Places.{FieldsIn};
 ghost use Rattle.source.specs.Text.{isEmpty, orBytes, authorBy, authorOf, yearOf};
 ghost use Rattle.numbering.specs.Defined.{
   entryAt,

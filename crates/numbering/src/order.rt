@@ -10,7 +10,7 @@ ghost use Rattle.base.specs.First.{first};
 ghost use Rattle.base.specs.Lists.{written, upFrom};
 ghost use Rattle.pool.specs.Layout.{wellFormed};
 ghost use Rattle.numbering.specs.Order.{less};
-ghost use Rattle.numbering.specs.Ordered.{insertBy, insertedFrom, hasNumber, greaterAt, shifted};
+ghost use Rattle.numbering.specs.Ordered.{insertBy, insertedFrom, hasNumber, greaterAt, shifted, Rising, SortedBy};
 ghost use Rattle.numbering.specs.References.{rankIn};
 
 // Whether the bytes `a` come before the bytes `b`.
@@ -90,7 +90,7 @@ fn is_greater<'a>(
     is_less(rank, rank_of(text, pool, groups, items, n, m, k))
 }
 
-// The first of the `count` places of `references` whose source has a greater rank than `rank`; `count` where none has.
+// The first of the `count` places of `references` whose source has a greater rank than `rank`, all after it having one too; `count` where none has.
 fn place_of<'a>(
     text: &'a [u8],
     pool: &'a [u8],
@@ -102,17 +102,20 @@ fn place_of<'a>(
     references: &[u16],
     count: usize,
 ) -> usize
-    requires { ⌜ (n < 4294967296) × (m < 4294967296) × (wellFormed (now pool) ≡ true) ⌝ }
+    requires { ⌜ (n < 4294967296) × (m < 4294967296) × (wellFormed (now pool) ≡ true) × (count < 65536) × Rising (greaterAt (rankIn (now text) (now pool) (now groups) (now items) n m) (now rank) (now references)) count ⌝ }
     ensures { λ r. ⌜ r ≡ first (greaterAt (rankIn (now (text .entry)) (now (pool .entry)) (now (groups .entry)) (now (items .entry)) n m) (now (rank .entry)) (now (references .entry))) count 0 ⌝ }
 {
-    let mut i: usize = 0;
-    while i < count {
-        if is_greater(text, pool, groups, items, n, m, rank, references, i) {
-            return i;
+    let mut low: usize = 0;
+    let mut high = count;
+    while low < high {
+        let middle = low + (high - low) / 2;
+        if is_greater(text, pool, groups, items, n, m, rank, references, middle) {
+            high = middle;
+        } else {
+            low = middle + 1;
         }
-        i += 1;
     }
-    i
+    low
 }
 
 // The number `v` at place `from`, and those from there up to `to` one place further.
@@ -142,7 +145,7 @@ fn insert_source<'a>(
     count: usize,
     references: &mut [u16],
 )
-    requires { ⌜ (n < 4294967296) × (m < 4294967296) × (wellFormed (now pool) ≡ true) × (count < 65535) × (count < length (now references)) ⌝ }
+    requires { ⌜ (n < 4294967296) × (m < 4294967296) × (wellFormed (now pool) ≡ true) × (count < 65535) × (count < length (now references)) × SortedBy (rankIn (now text) (now pool) (now groups) (now items) n m) (take count (now references)) ⌝ }
     ensures { λ _. ⌜ now (references .exit) ≡ written (insertBy (rankIn (now (text .entry)) (now (pool .entry)) (now (groups .entry)) (now (items .entry)) n m) (take count (now (references .entry))) (count + 1)) (now (references .entry)) ⌝ }
 {
     let rank = rank_of(text, pool, groups, items, n, m, count + 1);

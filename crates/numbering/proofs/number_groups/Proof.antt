@@ -1,4 +1,5 @@
--- `numbering::number_groups` meets its contract. Assumes nothing.
+-- `numbering::number_groups` meets its contract. The loop's invariant: the areas advanced by the first `g` groups. The measure is what is
+-- left of the groups. Assumes nothing.
 use Prim.Native.Nat.{_-_, _*_, _≤_}
 use native.Mathlib.Omega.{arith}
 use mathlib.Core.Path.{_≡_, refl}

@@ -1,4 +1,5 @@
--- `numbering::numbers::all_defined` meets its contract. Assumes nothing.
+-- `numbering::numbers::all_defined` meets its contract. The loop's invariant: all keys are defined exactly where those from `i` on are.
+-- The measure is what is left of the count. Assumes nothing.
 use Prim.Native.Nat.{_+_, _-_}
 use mathlib.Core.Path.{_≡_}
 use Rattle.numbering.specs.Progress.{keysDefined}

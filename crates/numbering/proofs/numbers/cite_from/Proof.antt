@@ -1,4 +1,5 @@
--- `numbering::numbers::cite_from` meets its contract. Assumes nothing.
+-- `numbering::numbers::cite_from` meets its contract. The loop's invariant: the areas advanced by the first `i` items. The measure is
+-- what is left of the count. Assumes nothing.
 use Prim.Native.Nat.{_-_, _≤_}
 use native.Mathlib.Omega.{arith}
 use mathlib.Core.Path.{_≡_, refl}

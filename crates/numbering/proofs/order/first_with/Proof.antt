@@ -1,4 +1,5 @@
--- `numbering::order::first_with` meets its contract. Assumes nothing.
+-- `numbering::order::first_with` meets its contract. The loop's invariant: the first record with the number from `j` on is the first one
+-- of all. The measure is what is left of the records. Assumes nothing.
 use Prim.Native.Nat.{_-_}
 use mathlib.Core.Path.{_≡_}
 use Rattle.base.specs.First.{first}

@@ -1,6 +1,7 @@
 -- `numbering::order::insert_source` meets its contract. Assumes nothing.
 use borrow.Author.Needs.{needs}
 use Rattle.numbering.proofs.OrderLaws.{insert-laws}
+use Rattle.numbering.proofs.Sorting.{sorted-laws}
 use Rattle.numbering.proofs.order.insert_source.Statement.{statement}
 use Rattle.numbering.proofs.order.insert_source.Tie as tie
 
@@ -10,9 +11,9 @@ insert-source-spec =
     (tie.spec
     (λ c. search needs)
     (λ c κs. search needs)
-    (λ c κs. search needs)
+    (λ c κs. search (insert-laws, sorted-laws, needs))
     (λ c. search needs)
     (λ c. search needs)
-    (λ c κs. search (insert-laws, needs))
+    (λ c κs. search (insert-laws, sorted-laws, needs))
     (λ c. search needs)
-    (λ c. search (insert-laws, needs)))
+    (λ c. search (insert-laws, sorted-laws, needs)))

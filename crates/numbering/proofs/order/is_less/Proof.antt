@@ -1,4 +1,5 @@
--- `numbering::order::is_less` meets its contract. Assumes nothing.
+-- `numbering::order::is_less` meets its contract. The loop's invariant: the bytes from `i` on are in the order of the whole. The measure
+-- is what is left of the first. Assumes nothing.
 use Prim.Native.Nat.{_-_, _≤_}
 use mathlib.Core.Path.{_≡_}
 use lib.ListN.{length, drop}

@@ -1,4 +1,5 @@
--- `numbering::order::order_by_rank` meets its contract. Assumes nothing.
+-- `numbering::order::order_by_rank` meets its contract. The loop's invariant: the first `i` numbers are in order at the front of the
+-- area. The measure is what is left of the sources. Assumes nothing.
 use Prim.Native.Nat.{_-_, _≤_}
 use mathlib.Core.Path.{_≡_}
 use mathlib.Core.List.{[]}
@@ -8,6 +9,7 @@ use Rattle.numbering.specs.Ordered.{insertedFrom}
 use Rattle.numbering.specs.References.{rankIn}
 use borrow.Author.Needs.{needs}
 use Rattle.numbering.proofs.OrderLaws.{ranks-laws}
+use Rattle.numbering.proofs.Sorting.{sorted-laws}
 use Rattle.numbering.proofs.order.order_by_rank.Statement.{statement}
 use Rattle.numbering.proofs.order.order_by_rank.Tie as tie
 
@@ -23,10 +25,10 @@ order-by-rank-spec =
     (tie.spec
     Inv-loop
     μ-loop
-    (λ c. search (ranks-laws, needs))
-    (λ c κs. search (ranks-laws, needs))
-    (λ c. search (ranks-laws, needs))
-    (λ c. search (ranks-laws, needs))
-    (λ c. search (ranks-laws, needs))
-    (λ c. search (ranks-laws, needs))
-    (λ c. search (ranks-laws, needs)))
+    (λ c. search (ranks-laws, sorted-laws, needs))
+    (λ c κs. search (ranks-laws, sorted-laws, needs))
+    (λ c. search (ranks-laws, sorted-laws, needs))
+    (λ c. search (ranks-laws, sorted-laws, needs))
+    (λ c. search (ranks-laws, sorted-laws, needs))
+    (λ c. search (ranks-laws, sorted-laws, needs))
+    (λ c. search (ranks-laws, sorted-laws, needs)))
