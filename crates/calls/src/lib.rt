@@ -1,11 +1,15 @@
 // The five calls. Each takes every argument, and answers by an enum whose numbers and values a definition gives (specs/Values of its crate).
 // A refusal returns its number and the note as it was given; 5 and 10 keep an index built on the way, with its note.
+pub use annotation::Annotation;
 pub use index::Bracket;
 pub use lookup::LocatorAnswer;
 pub use lookup::LookUp;
 pub use lookup::Size;
 pub use source::SourceText;
 ghost use mathlib.Core.Path.{_≡_};
+ghost use Rattle.annotation.specs.Call.{annotateRun};
+ghost use Rattle.annotation.specs.Halves.{areas};
+ghost use Rattle.annotation.specs.Values.{annotationValues, annotationNumbers};
 ghost use Rattle.lookup.specs.LookUps.{lookUpRun};
 ghost use Rattle.lookup.specs.Others.{locatorCall, sizeCall};
 ghost use Rattle.lookup.specs.Values.{lookUpValues, lookUpNumbers, locatorValues, locatorNumbers, sizeValues, sizeNumbers};
@@ -33,6 +37,49 @@ pub fn look_up(
     let w = lookup::wants_build(p);
     pairs::build_when(w, text, index, records);
     lookup::finish(text, at, note, p, index, items)
+}
+
+// The groups of the text: the counts of groups, items, sources and label bytes and the note, and at the front of each area its records:
+// items, groups, one number a source in reference order, and the labels one after the other.
+// Refusals: 1, 2, 6, 7, 9, 10; 10 fills the four areas with zeros.
+pub fn annotate<'a>(
+    text: &'a [u8],
+    mode: u8,
+    pool: &'a [u8],
+    note: u8,
+    index: &mut [u16],
+    records: &mut [Bracket],
+    items: &mut [u16],
+    groups: &mut [u16],
+    references: &mut [u16],
+    labels: &mut [u8],
+) -> Annotation
+    ensures { λ r. let given = areas (now (items .entry)) (now (groups .entry)) (now (references .entry)) (now (labels .entry)) in
+        let annotated = annotateRun (now (text .entry)) mode (now (pool .entry)) note (now (index .entry)) (now (records .entry)) given in
+        ⌜ (annotationValues r ≡ annotationNumbers annotated)
+        × (now (index .exit) ≡ annotated .index)
+        × (now (records .exit) ≡ annotated .records)
+        × (now (items .exit) ≡ annotated .answer .areas .items)
+        × (now (groups .exit) ≡ annotated .answer .areas .groups)
+        × (now (references .exit) ≡ annotated .answer .areas .references)
+        × (now (labels .exit) ≡ annotated .answer .areas .labels) ⌝ }
+{
+    let n = pairs::count(records);
+    let p = annotation::prepare(text, mode, pool, note, index, n, items, groups);
+    let w = annotation::wants_build(p);
+    pairs::build_when(w, text, index, records);
+    annotation::finish(
+        text,
+        mode,
+        pool,
+        note,
+        p,
+        index,
+        items,
+        groups,
+        references,
+        labels,
+    )
 }
 
 // How many item records any annotation of the text needs at most. Refusals: 1, 2.

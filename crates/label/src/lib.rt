@@ -1,1 +1,227 @@
-// The label of an item, written into the rest of the label bytes. Definitions only, so far.
+// The label of an item, written at the front of the rest of the label bytes. Nothing is written where it does not fit.
+use definition::Author;
+use definition::Year;
+ghost use mathlib.Core.Path.{_≡_};
+ghost use mathlib.Core.List.{[], _∷_, _++_};
+ghost use Prim.Native.Nat.{_≤_, _<_};
+ghost use lib.ListN.{length};
+ghost use Rattle.base.specs.Lists.{part, written};
+ghost use Rattle.text.specs.White.{trimEnd, trim};
+ghost use Rattle.pool.specs.Numbers.{signed};
+ghost use Rattle.pool.specs.Entries.{bytesOr};
+ghost use Rattle.source.specs.Decimal.{decimal, signedDecimal};
+ghost use Rattle.definition.specs.Parts.{authorGiven, yearBytes};
+ghost use Rattle.label.specs.Areas.{fitted};
+ghost use Rattle.label.specs.Labels.{authorYear, yearOnly, labelBy};
+
+// Bytes, where they fit. Their length.
+fn write_bytes(label: &[u8], out: &mut [u8]) -> usize
+    ensures { λ r. ⌜ (r ≡ length (now (label .entry))) × (now (out .exit) ≡ fitted (now (label .entry)) (now (out .entry))) ⌝ }
+{
+    let n = label.len();
+    if out.len() < n {
+        return n;
+    }
+    bytes::copy(label, out);
+    n
+}
+
+// A number in decimal, where it fits. Its length.
+fn write_number(number: u64, out: &mut [u8]) -> usize
+    ensures { λ r. ⌜ (r ≡ length (decimal number)) × (now (out .exit) ≡ fitted (decimal number) (now (out .entry))) ⌝ }
+{
+    let n = decimal::digit_count(number);
+    if out.len() < n {
+        return n;
+    }
+    decimal::write_decimal(out, number);
+    n
+}
+
+// How many bytes a number with its sign has.
+fn signed_len(negative: bool, magnitude: u64) -> usize
+    ensures { λ r. ⌜ (r ≡ length (signedDecimal (signed negative magnitude))) × (r ≤ 21) ⌝ }
+{
+    let n = decimal::digit_count(magnitude);
+    if negative {
+        return n + 1;
+    }
+    n
+}
+
+// A number with its sign, for which there is room.
+fn put_signed(negative: bool, magnitude: u64, out: &mut [u8])
+    requires { ⌜ length (signedDecimal (signed negative magnitude)) ≤ length (now out) ⌝ }
+    ensures { λ _. ⌜ now (out .exit) ≡ written (signedDecimal (signed negative magnitude)) (now (out .entry)) ⌝ }
+{
+    if negative {
+        out[0] = 45;
+        decimal::write_decimal(&mut out[1..], magnitude);
+    } else {
+        decimal::write_decimal(out, magnitude);
+    }
+}
+
+// A number with its sign, where it fits. Its length.
+fn write_signed(negative: bool, magnitude: u64, out: &mut [u8]) -> usize
+    ensures { λ r. ⌜ (r ≡ length (signedDecimal (signed negative magnitude))) × (now (out .exit) ≡ fitted (signedDecimal (signed negative magnitude)) (now (out .entry))) ⌝ }
+{
+    let n = signed_len(negative, magnitude);
+    if out.len() < n {
+        return n;
+    }
+    put_signed(negative, magnitude, out);
+    n
+}
+
+// An author and a space, for which there is room.
+fn put_author(author: &[u8], out: &mut [u8])
+    requires { ⌜ length (now author) < length (now out) ⌝ }
+    ensures { λ _. ⌜ now (out .exit) ≡ written (now (author .entry) ++ (32 ∷ [])) (now (out .entry)) ⌝ }
+{
+    let k = author.len();
+    bytes::copy(author, out);
+    out[k] = 32;
+}
+
+// An author, a space and a year, where they fit. Their length.
+fn write_both(author: &[u8], year: &[u8], out: &mut [u8]) -> usize
+    ensures { λ r. ⌜ (r ≡ length (now (author .entry) ++ (32 ∷ now (year .entry)))) × (now (out .exit) ≡ fitted (now (author .entry) ++ (32 ∷ now (year .entry))) (now (out .entry))) ⌝ }
+{
+    let k = author.len() + 1;
+    let n = k + year.len();
+    if out.len() < n {
+        return n;
+    }
+    put_author(author, out);
+    bytes::copy(year, &mut out[k..]);
+    n
+}
+
+// The same with a number for a year.
+fn write_both_signed(author: &[u8], negative: bool, magnitude: u64, out: &mut [u8]) -> usize
+    ensures { λ r. ⌜ (r ≡ length (now (author .entry) ++ (32 ∷ signedDecimal (signed negative magnitude)))) × (now (out .exit) ≡ fitted (now (author .entry) ++ (32 ∷ signedDecimal (signed negative magnitude))) (now (out .entry))) ⌝ }
+{
+    let k = author.len() + 1;
+    let n = k + signed_len(negative, magnitude);
+    if out.len() < n {
+        return n;
+    }
+    put_author(author, out);
+    put_signed(negative, magnitude, &mut out[k..]);
+    n
+}
+
+// The bytes from `k` on, trimmed at their end, where they fit. Their length.
+fn write_content(label: &[u8], k: usize, out: &mut [u8]) -> usize
+    requires { ⌜ k < length (now label) ⌝ }
+    ensures { λ r. ⌜ (r ≡ length (part (now (label .entry)) k (trimEnd (now (label .entry)) k (length (now (label .entry)))))) × (now (out .exit) ≡ fitted (part (now (label .entry)) k (trimEnd (now (label .entry)) k (length (now (label .entry))))) (now (out .entry))) ⌝ }
+{
+    let e = text::trim_end(label, k, label.len());
+    write_bytes(&label[k..e], out)
+}
+
+// "author, space, year, trimmed, or the number if nothing is left", where it fits. Its length.
+fn write_author_year(author: &[u8], year: &[u8], number: u16, out: &mut [u8]) -> usize
+    ensures { λ r. ⌜ (r ≡ length (authorYear number (now (author .entry)) (now (year .entry)))) × (now (out .exit) ≡ fitted (authorYear number (now (author .entry)) (now (year .entry))) (now (out .entry))) ⌝ }
+{
+    let k = text::trim_start(author, 0, author.len());
+    if k < author.len() {
+        let e = text::trim_end(year, 0, year.len());
+        if 0 < e {
+            return write_both(&author[k..], &year[..e], out);
+        }
+        return write_content(author, k, out);
+    }
+    let y = text::trim_start(year, 0, year.len());
+    if y < year.len() {
+        return write_content(year, y, out);
+    }
+    write_number(number as u64, out)
+}
+
+// The same with a number for a year: something is left.
+fn write_author_signed(author: &[u8], negative: bool, magnitude: u64, out: &mut [u8]) -> usize
+    ensures { λ r. ⌜ (r ≡ length (trim (now (author .entry) ++ (32 ∷ signedDecimal (signed negative magnitude))))) × (now (out .exit) ≡ fitted (trim (now (author .entry) ++ (32 ∷ signedDecimal (signed negative magnitude)))) (now (out .entry))) ⌝ }
+{
+    let k = text::trim_start(author, 0, author.len());
+    if k < author.len() {
+        return write_both_signed(&author[k..], negative, magnitude, out);
+    }
+    write_signed(negative, magnitude, out)
+}
+
+// "A suppressed item shows the year even if that is empty, else its number", where it fits. Its length.
+fn write_year<'a>(text: &'a [u8], pool: &'a [u8], number: u16, year: Year, out: &mut [u8]) -> usize
+    ensures { λ r. ⌜ (r ≡ length (yearOnly number (yearBytes (now (text .entry)) (now (pool .entry)) year))) × (now (out .exit) ≡ fitted (yearOnly number (yearBytes (now (text .entry)) (now (pool .entry)) year)) (now (out .entry))) ⌝ }
+{
+    match year {
+        Year::InText { part: _ } => write_bytes(definition::year_part(text, pool, year), out),
+        Year::InPool { part: _ } => write_bytes(definition::year_part(text, pool, year), out),
+        Year::Number {
+            negative,
+            magnitude,
+        } => write_signed(negative, magnitude, out),
+        Year::Missing => write_number(number as u64, out),
+    }
+}
+
+// The label by author and year, where it fits. Its length.
+fn write_named<'a>(
+    text: &'a [u8],
+    pool: &'a [u8],
+    number: u16,
+    author: Author,
+    year: Year,
+    out: &mut [u8],
+) -> usize
+    ensures { λ r. ⌜ (r ≡ length (authorYear number (authorGiven (now (text .entry)) (now (pool .entry)) author) (bytesOr (yearBytes (now (text .entry)) (now (pool .entry)) year) []))) × (now (out .exit) ≡ fitted (authorYear number (authorGiven (now (text .entry)) (now (pool .entry)) author) (bytesOr (yearBytes (now (text .entry)) (now (pool .entry)) year) [])) (now (out .entry))) ⌝ }
+{
+    let name = definition::author_bytes(text, pool, author);
+    match year {
+        Year::Number {
+            negative,
+            magnitude,
+        } => write_author_signed(name, negative, magnitude, out),
+        Year::InText { part: _ } => write_author_year(
+            name,
+            definition::year_part(text, pool, year),
+            number,
+            out,
+        ),
+        Year::InPool { part: _ } => write_author_year(
+            name,
+            definition::year_part(text, pool, year),
+            number,
+            out,
+        ),
+        Year::Missing => write_author_year(
+            name,
+            definition::year_part(text, pool, year),
+            number,
+            out,
+        ),
+    }
+}
+
+// The label of an item, where it fits. Its length.
+pub fn write_label<'a>(
+    text: &'a [u8],
+    pool: &'a [u8],
+    mode: u8,
+    suppressed: bool,
+    number: u16,
+    author: Author,
+    year: Year,
+    out: &mut [u8],
+) -> usize
+    ensures { λ r. ⌜ (r ≡ length (labelBy mode suppressed number (authorGiven (now (text .entry)) (now (pool .entry)) author) (yearBytes (now (text .entry)) (now (pool .entry)) year))) × (now (out .exit) ≡ fitted (labelBy mode suppressed number (authorGiven (now (text .entry)) (now (pool .entry)) author) (yearBytes (now (text .entry)) (now (pool .entry)) year)) (now (out .entry))) ⌝ }
+{
+    if mode == 0 {
+        return write_number(number as u64, out);
+    }
+    if suppressed {
+        return write_year(text, pool, number, year, out);
+    }
+    write_named(text, pool, number, author, year, out)
+}

@@ -1,19 +1,14 @@
 -- Numbers put into a lent area, one after another, and an area whose rest was lent and came back.
-use Prim.Native.Nat.{ℕ, zero, suc, _+_, _-_, _≤_, _<_}
+use Prim.Native.Nat.{ℕ, suc, _+_, _-_, _≤_}
 use native.Mathlib.Omega.{arith}
 use native.Mathlib.Nat.{zero-add}
 use native.Mathlib.Numerals.{add-one}
-use mathlib.Core.Path.{_≡_, refl, sym, _∙_, ap}
+use mathlib.Core.Path.{_≡_, refl, sym, _∙_}
 use mathlib.Core.List.{List, [], _∷_, _++_, append-assoc, append-nil}
 use lib.ListN.{length, take, drop, set, take-append-drop, length-append, length-drop, length-set, drop-of-length-le}
 use lib.Seq.{take-all, take-at, drop-at, drop-drop, drop-set-lt, take-suc-set, length-take-le}
 use Rattle.base.specs.Lists.{written}
 use Rattle.lookup.specs.Rows.{putAt}
-
-pub put-length : (k : ℕ) (vs row : List ℕ) → length (putAt k vs row) ≡ length row
-unfolding putAt
-put-length k [] row = refl
-put-length k (v ∷ vs) row = put-length (k + 1) vs (set row k v) ∙ length-set row k v
 
 put-split : (k : ℕ) (vs row : List ℕ) → k + length vs ≤ length row → putAt k vs row ≡ take k row ++ (vs ++ drop (k + length vs) row)
 unfolding putAt

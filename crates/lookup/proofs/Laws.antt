@@ -15,7 +15,7 @@ use Rattle.close.specs.Scan.{closeWithin}
 use Rattle.close.proofs.Laws.{within-after, within-inside as within-in, within-byte}
 use Rattle.item.specs.declared.Judged.{Judged}
 use Rattle.item.specs.declared.Judged.the-variants.{Good, Bad}
-use Rattle.item.specs.Pieces.{piecesOf, allGood, itemsOf}
+use Rattle.item.specs.Pieces.{itemsOf}
 use Rattle.item.specs.Judge.{judgedOf}
 use Rattle.item.proofs.Parts.{and-left, and-right}
 use Rattle.item.proofs.Judge.{good-all, good-count, bad-some}
@@ -24,7 +24,7 @@ use Rattle.lookup.specs.declared.Look.{Look}
 use Rattle.lookup.specs.declared.Look.the-variants.{At as LookAt, Nothing as LookNothing, Build}
 use Rattle.lookup.specs.declared.Matched.{Matched}
 use Rattle.lookup.specs.declared.Matched.the-variants.{Group as MatchedGroup, Nothing as NotMatched}
-use Rattle.lookup.specs.Groups.{Group, GroupAnswer, Found, NoGroup, groupOf, barred, groupAccepted, judge}
+use Rattle.lookup.specs.Groups.{GroupAnswer, Found, NoGroup, groupOf, barred, groupAccepted, judge}
 use Rattle.lookup.specs.Rows.{rowsLength, Writable}
 use Rattle.lookup.specs.Resolve.{isBuilt, storedClose, shortLook}
 use Rattle.lookup.specs.Looks.{settled, shortened, lookOf, closeAfter, matched, Inside, LookInside}

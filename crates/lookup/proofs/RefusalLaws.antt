@@ -3,7 +3,7 @@ use Prim.Native.Nat.{ℕ, _/_, _≤_, _<_}
 use native.Mathlib.Omega.{arith}
 use mathlib.Core.Path.{_≡_, refl, sym, _∙_}
 use mathlib.Core.List.{List}
-use mathlib.Core.Bool.{Bool, true, false, _&&_, _||_, not, true≢false}
+use mathlib.Core.Bool.{Bool, true, false, _&&_, _||_, not}
 use lib.ListN.{length}
 use lib.Dec.{eqb, ltb}
 use borrow.Author.Tests.{lt-ltb, le-ltb, eq-eqb, ne-eqb, ltb-true, ltb-false}
@@ -16,12 +16,10 @@ use Rattle.locator.specs.declared.Locator.{Locator}
 use Rattle.locator.specs.Locators.{locatorOf}
 use Rattle.item.proofs.Parts.{and-left}
 use Rattle.index.specs.Entries.{opensAt}
-use Rattle.lookup.specs.declared.Size.{Size}
 use Rattle.lookup.specs.declared.Size.the-variants.{Accepted as Sized', Refused as Unsized}
-use Rattle.lookup.specs.declared.LocatorAnswer.{LocatorAnswer}
 use Rattle.lookup.specs.declared.LocatorAnswer.the-variants.{Accepted as Located', Refused as Unlocated}
 use Rattle.lookup.specs.Refusals.{tooFew, lookUpRefusal}
-use Rattle.lookup.specs.Others.{located, notLocated, locatorCall, sized, sizeCall}
+use Rattle.lookup.specs.Others.{located, notLocated, locatorCall, sizeCall}
 use Rattle.lookup.specs.Values.{locatorValues, locatorNumbers, sizeValues, sizeNumbers}
 
 -- a text that is not refused is short enough and UTF-8
@@ -70,22 +68,15 @@ module _ (s : List ℕ) (at n m : ℕ) {r : ℕ} (q : r ≡ textRefusal s) where
         refused-escaped t = rw (lt-ltb at (length s) h, eq-eqb _ _ e, sym d ∙ t) (sym (passed 4))
 
         module _ (f : b ≡ false) where
-          pub refused-index : n < length s → 9 ≡ lookUpRefusal s at n m
+          pub refused-few : (ltb n (length s) || ltb m (length s)) ≡ true → 9 ≡ lookUpRefusal s at n m
           unfolding lookUpRefusal tooFew
-          refused-index g = rw (lt-ltb at (length s) h, eq-eqb _ _ e, sym d ∙ f, lt-ltb n (length s) g) (sym (passed 9))
+          refused-few t = rw (lt-ltb at (length s) h, eq-eqb _ _ e, sym d ∙ f, t) (sym (passed 9))
 
-          module _ (g : length s ≤ n) where
-            pub refused-records : m < length s → 9 ≡ lookUpRefusal s at n m
-            unfolding lookUpRefusal tooFew
-            refused-records k =
-                rw (lt-ltb at (length s) h, eq-eqb _ _ e, sym d ∙ f, le-ltb n (length s) g, lt-ltb m (length s) k) (sym (passed 9))
+          pub refused-not : (ltb n (length s) || ltb m (length s)) ≡ false → 0 ≡ lookUpRefusal s at n m
+          unfolding lookUpRefusal tooFew
+          refused-not t = rw (lt-ltb at (length s) h, eq-eqb _ _ e, sym d ∙ f, t) (sym (passed 0))
 
-            pub refused-not : length s ≤ m → 0 ≡ lookUpRefusal s at n m
-            unfolding lookUpRefusal tooFew
-            refused-not k =
-                rw (lt-ltb at (length s) h, eq-eqb _ _ e, sym d ∙ f, le-ltb n (length s) g, le-ltb m (length s) k) (sym (passed 0))
-
-pub ruleset refusal-laws = (refused-text, refused-past, refused-other, refused-escaped, refused-index, refused-records, refused-not)
+pub ruleset refusal-laws = (refused-text, refused-past, refused-other, refused-escaped, refused-few, refused-not)
 
 -- Where nothing refuses a look-up before the bracket is looked at: the text is short, it is an unescaped `[`, and both areas have a
 -- record for each byte.

@@ -3,7 +3,7 @@ use Prim.Native.Nat.{ℕ, suc, _+_, _-_, _*_, _≤_, _<_}
 use native.Mathlib.Omega.{arith}
 use mathlib.Core.Path.{_≡_, refl, sym, _∙_, ap, subst}
 use mathlib.Core.List.{List, [], _∷_, _++_, append-nil}
-use mathlib.Core.Bool.{Bool, true, false, _&&_, true≢false}
+use mathlib.Core.Bool.{Bool, true, false, true≢false}
 use lib.ListN.{length, take, drop, set, length-append, length-take, length-drop}
 use lib.Dec.{eqb, leb, ltb}
 use borrow.Author.Tests.{ltb-true, eqb-true}
@@ -15,7 +15,7 @@ use Rattle.base.specs.declared.Span.{Span}
 use Rattle.base.specs.Spans.{span, missing, spanOf, pairOf, presentOf, InOrder}
 use Rattle.locator.specs.declared.Label.{Label}
 use Rattle.locator.specs.declared.Locator.{Locator}
-use Rattle.locator.specs.declared.Locator.the-variants.{Nothing, Plain, Labelled}
+use Rattle.locator.specs.declared.Locator.the-variants.{Nothing, Plain}
 use Rattle.locator.specs.Matchers.{no-code}
 use Rattle.locator.specs.Locators.{skipBlanks, labelOf, valued, labelled, locatorFrom, locatorOf}
 use Rattle.locator.specs.Answers.{codeOf, valueOf, suffixOf}
@@ -43,7 +43,7 @@ use Rattle.lookup.specs.Rows.{
   NarrowItem,
   Writable,
 }
-use Rattle.lookup.proofs.Areas.{put-written, written-length, back-length, back-next, back-last}
+use Rattle.lookup.proofs.Areas.{put-written, back-length, back-next, back-last}
 
 -- a record has 16 numbers ----------------------------------------------------------------------------------------------------------
 

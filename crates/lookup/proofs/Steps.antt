@@ -1,9 +1,9 @@
 -- The two halves of a look-up: in the form of the code's needs, and together, with the build between them, the call as run.
-use Prim.Native.Nat.{ℕ, _+_, _-_, _*_, _/_, _≤_, _<_}
+use Prim.Native.Nat.{ℕ, _-_, _*_, _/_, _≤_, _<_}
 use native.Mathlib.Omega.{arith}
-use mathlib.Core.Path.{_≡_, refl, sym, _∙_, ap}
+use mathlib.Core.Path.{_≡_, refl, sym, _∙_, ap, subst}
 use mathlib.Core.List.{List, [], _∷_}
-use mathlib.Core.Bool.{Bool, true, false, _&&_, not, true≢false}
+use mathlib.Core.Bool.{Bool, true, false, _&&_, not}
 use lib.ListN.{length}
 use lib.Dec.{eqb, leb, ltb}
 use borrow.Author.Tests.{lt-ltb, le-ltb, leb-true, leb-false, eq-eqb, ne-eqb, eqb-true}
@@ -11,24 +11,23 @@ use Rattle.base.specs.Pick.{pick}
 use Rattle.base.specs.Lists.{written}
 use Rattle.close.specs.declared.Close.{Close}
 use Rattle.close.specs.declared.Close.the-variants.{At, Nothing}
-use Rattle.item.specs.Pieces.{itemsOf}
 use Rattle.item.proofs.Parts.{and-left}
 use Rattle.index.specs.declared.Bracket.{Bracket}
 use Rattle.index.specs.Built.{builtIndex, builtRecords}
 use Rattle.lookup.specs.declared.Look.{Look}
-use Rattle.lookup.specs.declared.Look.the-variants.{At as LookAt, Nothing as LookNothing, Build}
+use Rattle.lookup.specs.declared.Look.the-variants.{Nothing as LookNothing, Build}
 use Rattle.lookup.specs.declared.LookUp.{LookUp}
 use Rattle.lookup.specs.declared.LookUp.the-variants.{Accepted, Refused}
 use Rattle.lookup.specs.declared.Matched.{Matched}
 use Rattle.lookup.specs.declared.Matched.the-variants.{Group as MatchedGroup, Nothing as NotMatched}
 use Rattle.lookup.specs.declared.Prepared.{Prepared}
 use Rattle.lookup.specs.declared.Prepared.the-variants.{Refused as NotReady, Ready}
-use Rattle.lookup.specs.Groups.{Group, GroupAnswer, Found, NoGroup, groupOf, judge}
+use Rattle.lookup.specs.Groups.{GroupAnswer, Found, NoGroup, groupOf, judge}
 use Rattle.lookup.specs.Rows.{rowsOf, rowsLength}
 use Rattle.lookup.specs.Resolve.{isBuilt, storedClose, shortLook, orElse, isNothing, closeAsRun, wantsBuild, groupAsRun, noteAfter, indexAfter, recordsAfter}
-use Rattle.lookup.specs.Looks.{settled, shortened, lookOf, isBuild, closeAfter, matched, Inside, LookInside}
+use Rattle.lookup.specs.Looks.{settled, shortened, lookOf, isBuild, closeAfter, matched, Inside}
 use Rattle.lookup.specs.Refusals.{lookUpRefusal}
-use Rattle.lookup.specs.LookUps.{LookedUp, lookUpRefused, lookUpGives, lookUpAnswers, lookedUp, lookUpBuilds, ranWith, lookUpRun}
+use Rattle.lookup.specs.LookUps.{lookUpRefused, lookUpGives, lookUpAnswers, lookedUp, lookUpBuilds, ranWith, lookUpRun}
 use Rattle.lookup.specs.Values.{lookUpValues, lookUpNumbers}
 use Rattle.lookup.specs.Steps.{preparedOf, buildWanted, Fine, answered, finishedOf, finishedItems}
 use Rattle.lookup.proofs.Laws.{look-inside, after-inside, matched-none, matched-found, matched-count}
@@ -152,7 +151,7 @@ past-64 n = go (leb n 64) refl
 
 module _ (s : List ℕ) (at note : ℕ) (index : List ℕ) where
   -- a look asks for the build exactly where the call as run wants one
-  look-wants : isBuild (lookOf s at note index) ≡ wantsBuild s at note
+  pub look-wants : isBuild (lookOf s at note index) ≡ wantsBuild s at note
   unfolding lookOf shortened wantsBuild
   look-wants = go (isBuilt note) (shortLook s at) (storedClose s at index)
     where
@@ -163,7 +162,7 @@ module _ (s : List ℕ) (at note : ℕ) (index : List ℕ) where
       go false Nothing d = past-64 (length s - at)
 
   -- and then the close after it is that of the call as run
-  look-close : closeAfter s at (pick (isBuild (lookOf s at note index)) (builtIndex s index) index) (lookOf s at note index) ≡ closeAsRun s at note index
+  pub look-close : closeAfter s at (pick (isBuild (lookOf s at note index)) (builtIndex s index) index) (lookOf s at note index) ≡ closeAsRun s at note index
   unfolding lookOf shortened closeAsRun closeAfter
   look-close = go (isBuilt note) (shortLook s at) (storedClose s at index)
     where
@@ -180,6 +179,12 @@ module _ (s : List ℕ) (at note : ℕ) (index : List ℕ) where
       go true c Nothing = refl
       go false (At k) d = refl
       go false Nothing d = end (leb (length s - at) 64)
+
+  -- which so lies after its bracket, in the text, at a `]`
+  pub run-inside : Inside s at (closeAsRun s at note index)
+  run-inside =
+      subst (λ (d : Close). Inside s at d) look-close
+      (after-inside s at (pick (isBuild (lookOf s at note index)) (builtIndex s index) index) (lookOf s at note index) (look-inside s at note index))
 
 -- the first half gives what the second asks for
 pub prepared-fine : (s : List ℕ) (at note : ℕ) (index : List ℕ) (m : ℕ) → Fine s at (preparedOf s at note index m)

@@ -3,10 +3,9 @@
 use Prim.Native.Nat.{ℕ, _+_, _*_, _≤_, _<_}
 use mathlib.Core.Path.{_≡_}
 use mathlib.Core.List.{List, [], _∷_, _++_}
-use mathlib.Core.Bool.{Bool, true, false}
+use mathlib.Core.Bool.{Bool, true}
 use lib.ListN.{length, set}
 use Rattle.base.specs.Pick.{pick}
-use Rattle.base.specs.Lists.{byteAt}
 use Rattle.base.specs.declared.Span.{Span}
 use Rattle.base.specs.Spans.{pairOf, missing}
 use Rattle.locator.specs.declared.Locator.{Locator}

@@ -5,7 +5,6 @@ use mathlib.Core.Bool.{Bool, false}
 use lib.ListN.{length}
 use lib.Dec.{eqb, ltb}
 use Rattle.base.specs.Pick.{pick}
-use Rattle.lookup.specs.declared.Look.{Look}
 use Rattle.lookup.specs.declared.LookUp.{LookUp}
 use Rattle.lookup.specs.declared.LookUp.the-variants.{Accepted, Refused}
 use Rattle.lookup.specs.declared.Prepared.{Prepared}

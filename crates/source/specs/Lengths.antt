@@ -57,3 +57,8 @@ addLen n name = besideLen n 2 (length (nameOf name))
 -- the text without its stop
 unfoldable pub bodyOf : Entry → List ℕ
 bodyOf e = beside (46 ∷ 32 ∷ []) (headOf e) (bytesOr (e .title) [])
+
+-- the first of two that was found
+unfoldable pub orFound : Found → Found → Found
+orFound (At p) other = At p
+orFound Missing other = other

@@ -39,7 +39,7 @@ module _ (text : List ℕ) where
       go false = omega arith
 
   -- the sweep is at its end
-  stop-end : (n note : ℕ) (index : List ℕ) (at : ℕ) → length text ≤ at → stopIn n text note index at ≡ stop [] at false
+  pub stop-end : (n note : ℕ) (index : List ℕ) (at : ℕ) → length text ≤ at → stopIn n text note index at ≡ stop [] at false
   unfolding stopIn
   stop-end zero note index at h = refl
   stop-end (suc n) note index at h = rw (le-ltb at (length text) h)

@@ -1,4 +1,5 @@
 pub mod Sweep
 pub mod Rows
 pub mod Stops
+pub mod Steps
 pub mod Facts

@@ -1,6 +1,6 @@
 -- `lookup::look_up_refusal` meets its contract. Assumes nothing.
-use Rattle.lookup.proofs.RefusalLaws.{refusal-laws}
 use borrow.Author.Needs.{needs}
+use Rattle.lookup.proofs.RefusalLaws.{refusal-laws}
 use Rattle.lookup.proofs.look_up_refusal.Statement.{statement}
 use Rattle.lookup.proofs.look_up_refusal.Tie as tie
 
@@ -14,7 +14,6 @@ look-up-refusal-spec =
     (λ c. search (refusal-laws, needs))
     (λ c. search (refusal-laws, needs))
     (λ c κs. search (refusal-laws, needs))
-    (λ c. search (refusal-laws, needs))
     (λ c. search (refusal-laws, needs))
     (λ c. search (refusal-laws, needs))
     (λ c. search (refusal-laws, needs)))

@@ -1,7 +1,6 @@
 -- `lookup::write_rows` meets its contract. The loop's invariant, the record `Writing`: the records of the pieces from `from` on, put into `items`
 -- from `n` on, give the area as it is to be; the next piece ends at `to`. Assumes nothing.
-use Prim.Native.Nat.{_-_, _≤_, _<_}
-use native.Mathlib.Omega.{arith}
+use Prim.Native.Nat.{_-_, _≤_}
 use mathlib.Core.Path.{_≡_}
 use lib.ListN.{length}
 use borrow.Author.Needs.{needs}

@@ -1,3 +1,4 @@
+-- `source::names_len` meets its contract. The loop's invariant: `n` with the names from `i` on gives the whole length. Assumes nothing.
 use borrow.Author.Needs.{needs}
 use Rattle.source.proofs.NamesLaws.{names-laws}
 use Rattle.pool.proofs.ReaderLaws.{walk-laws}
@@ -13,10 +14,6 @@ use Rattle.source.specs.Text.{namesOf}
 use Rattle.source.specs.Lengths.{addLen}
 use Rattle.source.proofs.names_len.Statement.{statement}
 use Rattle.source.proofs.names_len.Tie as tie
-use Rattle.source.proofs.names_len.Reads as reads
-use Rattle.source.proofs.names_len.Lts as lts
-use Rattle.pool.proofs.field_end.Reads as field-end-reads
-use Rattle.source.proofs.next_len.Reads as next-len-reads
 
 abbrev Inv-loop : tie.InvT-loop
 Inv-loop pool at e n₀ i₀ n i =
@@ -25,33 +22,15 @@ Inv-loop pool at e n₀ i₀ n i =
 abbrev μ-loop : tie.MeasureT-loop
 μ-loop pool at e n₀ i₀ n i = e - i
 
-loop-holds : tie.Need-loop-holds Inv-loop μ-loop
-loop-holds c = search (names-laws, walk-laws, fields-of-entry, needs)
-
-field-end-requires : tie.Need-field-end-requires Inv-loop μ-loop
-field-end-requires c κs = search (names-laws, walk-laws, fields-of-entry, needs)
-
-next-len-requires : tie.Need-next-len-requires Inv-loop μ-loop
-next-len-requires c κs = search (names-laws, walk-laws, fields-of-entry, needs)
-
-loop-less : tie.Need-loop-less Inv-loop μ-loop
-loop-less c = search (names-laws, walk-laws, fields-of-entry, needs)
-
-loop-again : tie.Need-loop-again Inv-loop μ-loop
-loop-again c = search (names-laws, walk-laws, fields-of-entry, needs)
-
-returns : tie.Need-returns Inv-loop μ-loop
-returns c = search (names-laws, walk-laws, fields-of-entry, needs)
-
 pub names-len-spec : {M : Type 1} → statement M
 names-len-spec =
     tie.close
     (tie.spec
     Inv-loop
     μ-loop
-    loop-holds
-    field-end-requires
-    next-len-requires
-    loop-less
-    loop-again
-    returns)
+    (λ c. search (names-laws, walk-laws, fields-of-entry, needs))
+    (λ c κs. search (names-laws, walk-laws, fields-of-entry, needs))
+    (λ c κs. search (names-laws, walk-laws, fields-of-entry, needs))
+    (λ c. search (names-laws, walk-laws, fields-of-entry, needs))
+    (λ c. search (names-laws, walk-laws, fields-of-entry, needs))
+    (λ c. search (names-laws, walk-laws, fields-of-entry, needs)))

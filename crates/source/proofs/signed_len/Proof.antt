@@ -1,26 +1,15 @@
+-- `source::signed_len` meets its contract. Assumes nothing.
 use borrow.Author.Needs.{needs}
 use Rattle.source.proofs.YearLaws.{signed-laws}
 use Rattle.source.proofs.signed_len.Statement.{statement}
 use Rattle.source.proofs.signed_len.Tie as tie
-use Rattle.source.proofs.signed_len.Reads as reads
-use Rattle.source.proofs.signed_len.Lts as lts
-use Rattle.decimal.proofs.digit_count.Reads as digit-count-reads
-
-digit-count-requires : tie.Need-digit-count-requires
-digit-count-requires c κs = search (signed-laws, needs)
-
-add-result : tie.Need-add-result
-add-result c = search (signed-laws, needs)
-
-digit-count-requires-2 : tie.Need-digit-count-requires-2
-digit-count-requires-2 c κs = search (signed-laws, needs)
-
-returns : tie.Need-returns
-returns c = search (signed-laws, needs)
-
-returns-2 : tie.Need-returns-2
-returns-2 c = search (signed-laws, needs)
 
 pub signed-len-spec : {M : Type 1} → statement M
 signed-len-spec =
-    tie.close (tie.spec digit-count-requires add-result digit-count-requires-2 returns returns-2)
+    tie.close
+    (tie.spec
+    (λ c κs. search (signed-laws, needs))
+    (λ c. search (signed-laws, needs))
+    (λ c κs. search (signed-laws, needs))
+    (λ c. search (signed-laws, needs))
+    (λ c. search (signed-laws, needs)))

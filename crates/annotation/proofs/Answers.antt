@@ -1,0 +1,291 @@
+-- What the two sweeps leave, with the numbers and the references after them, is the answer of the call as run.
+use Prim.Native.Nat.{ℕ, _*_, _≤_, min}
+use native.Mathlib.Omega.{arith}
+use mathlib.Core.Path.{_≡_, refl, sym, _∙_, ap}
+use mathlib.Core.List.{List, [], _∷_, _++_}
+use mathlib.Core.Bool.{Bool, true, false, _&&_, and-false, true≢false}
+use lib.ListN.{length, drop}
+use lib.Dec.{eqb, leb}
+use borrow.Author.Tests.{eq-eqb, ne-eqb, eqb-true, eqb-false, le-leb, lt-leb, leb-true, leb-false}
+use Rattle.base.specs.Pick.{pick}
+use Rattle.base.specs.Lists.{written}
+use Rattle.index.specs.declared.Bracket.{Bracket}
+use Rattle.index.specs.Built.{builtIndex, builtRecords}
+use Rattle.lookup.specs.Groups.{Group}
+use Rattle.lookup.specs.Resolve.{noteAfter, indexAfter, recordsAfter}
+use Rattle.sweep.specs.declared.SweepState.{SweepState}
+use Rattle.sweep.specs.Sweep.{Lent, lentOf, lentAfter, sweepRun}
+use Rattle.sweep.specs.Rows.{groupRows, itemCount, itemRows, sweptFrom}
+use Rattle.sweep.specs.Stops.{startState, Recorded, SweptTo}
+use Rattle.sweep.proofs.Laws.{item-rows-length, group-rows-length, swept-length, all-groups-count, all-items-count, all-fitted, all-item-rows, all-group-rows, swept-whole, swept-lent}
+use Rattle.numbering.specs.Numbers.{Numbered, numberAll}
+use Rattle.annotation.specs.declared.Annotation.{Annotation}
+use Rattle.annotation.specs.declared.Annotation.the-variants.{Refused}
+use Rattle.annotation.specs.declared.Begun.{Begun}
+use Rattle.annotation.specs.Content.{Areas, contentOf, tallyOf}
+use Rattle.annotation.specs.Call.{annotateRefusal, annotateRefused, roomFor, filled, zeros, zeroFilled, annotateGives, answerOf, AnnotateRan, annotateRan, annotateSwept, annotateRun}
+use Rattle.annotation.specs.Values.{annotationValues, annotationNumbers}
+use Rattle.annotation.specs.Steps.{sweptItems, sweptGroups, numberedFrom, referencesFrom, Fits, ContentAs}
+use Rattle.annotation.specs.Halves.{areas, BegunBy, Done, Zeroed, roomThen, referencesThen, Ordered}
+use Rattle.annotation.proofs.Counts.{sources-by}
+use Rattle.annotation.proofs.Passes.{numbers-agree}
+use Rattle.annotation.proofs.Found.{swept-fits}
+use Rattle.annotation.proofs.ByRecords.{content-agrees}
+use Rattle.annotation.proofs.RefusalLaws.{Unrefused, unrefused}
+
+-- tests --------------------------------------------------------------------------------------------------------------------------------
+
+leb-min : (n a k : ℕ) → leb n (min a k) ≡ (leb n a && leb n k)
+leb-min n a k = go (leb n a) refl (leb n k) refl
+  where
+    go : (x : Bool) → leb n a ≡ x → (y : Bool) → leb n k ≡ y → leb n (min a k) ≡ (x && y)
+    go true p true q =
+        let u = leb-true n a p in
+        let v = leb-true n k q in
+        le-leb n (min a k) (omega arith)
+    go true p false q = let v = leb-false n k q in lt-leb n (min a k) (omega arith)
+    go false p y q = let u = leb-false n a p in lt-leb n (min a k) (omega arith)
+
+-- the five tests of `roomFor`, the first two of which are made before the others
+none-before : (a b c d e : Bool) → (a && b) ≡ false → (a && b && c && d && e) ≡ false
+none-before true true c d e h = absurd (true≢false h)
+none-before true false c d e h = refl
+none-before false b c d e h = refl
+
+turned : (c d e : Bool) → ((e && d) && c) ≡ (c && d && e)
+turned true true true = refl
+turned true true false = refl
+turned true false true = refl
+turned true false false = refl
+turned false d e = and-false (e && d)
+
+all-after : (a b c d e : Bool) → (a && b) ≡ true → ((e && d) && c) ≡ (a && b && c && d && e)
+all-after true true c d e h = turned c d e
+all-after true false c d e h = absurd (true≢false (sym h))
+all-after false b c d e h = absurd (true≢false (sym h))
+
+-- two sweeps, and the records numbered ---------------------------------------------------------------------------------------------------
+
+module _ {text : List ℕ} {mode : ℕ} {pool : List ℕ} {note : ℕ} {index₀ : List ℕ} {m : ℕ} {items₀ groups₀ : List ℕ} {p : Begun} {items groups : List ℕ}
+    (b : BegunBy text mode pool note index₀ m items₀ groups₀ p items groups) (records : List Bracket) where
+  abbrev lent : Lent
+  lent = lentOf note index₀ records
+
+  abbrev all : List Group
+  all = sweepRun text lent .groups
+
+  abbrev content : Areas
+  content = contentOf text mode all pool
+
+  -- after the second sweep
+  module _ (z : p .number ≡ 0) {k : ℕ} (e : k ≡ noteAfter (p .sweep .wants) note) {index : List ℕ}
+      (i : index ≡ pick (p .sweep .wants) (builtIndex text index₀) index₀) {s : SweepState} {items' groups' : List ℕ}
+      (t : SweptTo text k index (p .sweep) items groups s items' groups') where
+    not-refused : Unrefused text mode pool (length index₀) m
+    not-refused = unrefused text mode pool (length index₀) m (sym (b .refuses) ∙ z)
+
+    whole : Recorded text all startState items₀ groups₀ s items' groups'
+    unfolding lentAfter indexAfter
+    whole = swept-whole text lent (b .sweeps z) (rw (e, i) at t)
+
+    fits : Fits text all
+    fits = swept-fits text lent (not-refused .short)
+
+    abbrev restItems : List ℕ
+    restItems = drop (length (itemRows all)) items₀
+
+    abbrev restGroups : List ℕ
+    restGroups = drop (length (groupRows 0 (sweptFrom text false 0 all))) groups₀
+
+    abbrev known : Numbered
+    known = numberedFrom text mode all pool restItems restGroups
+
+    agrees : ContentAs content all known (referencesFrom text mode all pool known) restItems restGroups
+    agrees = content-agrees text mode all pool restItems restGroups fits
+
+    records-fit : s .fits ≡ (leb (length (content .items)) (length items₀) && leb (length (content .groups)) (length groups₀))
+    records-fit = all-fitted whole ∙ rw (agrees .item-count, agrees .group-count)
+
+    -- the records as they are once they are numbered
+    abbrev made : Numbered
+    made = numberAll text mode pool (s .groups) items' groups'
+
+    module _ (f : s .fits ≡ true) where
+      items-then : items' ≡ sweptItems all restItems
+      unfolding written
+      items-then = all-item-rows whole f
+
+      groups-then : groups' ≡ sweptGroups text all restGroups
+      unfolding written
+      groups-then = all-group-rows whole f
+
+      then-known : made ≡ known
+      then-known = rw (all-groups-count whole, items-then, groups-then)
+
+      then-ordered : referencesThen text mode pool (s .groups) (s .items) made ≡ content .references
+      then-ordered = rw (then-known, all-groups-count whole, all-items-count whole) (agrees .references)
+
+      then-sources : made .sources ≡ length (content .references)
+      then-sources = rw then-known (sym (agrees .source-count))
+
+      then-labels : made .labels ≡ content .labels
+      then-labels = rw then-known (agrees .labels)
+
+      then-items : made .items ≡ written (content .items) items₀
+      unfolding written
+      then-items =
+          ap (λ (x : Numbered). x .items) then-known
+          ∙ (agrees .items ∙ ap (λ (n : ℕ). content .items ++ drop n items₀) (item-rows-length all ∙ sym (agrees .item-count)))
+
+      then-groups : made .groups ≡ written (content .groups) groups₀
+      unfolding written
+      then-groups =
+          ap (λ (x : Numbered). x .groups) then-known
+          ∙ (agrees .groups
+          ∙ ap (λ (n : ℕ). content .groups ++ drop n groups₀)
+          (group-rows-length 0 (sweptFrom text false 0 all) ∙ (ap (λ (n : ℕ). 5 * n) (swept-length text false 0 all) ∙ sym (agrees .group-count))))
+
+      -- there are no more sources than a number of 16 bits holds
+      pub sources-short : made .sources ≤ 65535
+      sources-short =
+          let a : made .sources ≡ known .sources = ap (λ (x : Numbered). x .sources) then-known in
+          let c = numbers-agree text mode all pool restItems restGroups fits .sources in
+          let d = sources-by text mode all pool in
+          let h = fits .room in
+          let l = fits .short in
+          omega arith
+
+-- the call as run ----------------------------------------------------------------------------------------------------------------------
+
+module _ {text : List ℕ} {mode : ℕ} {pool : List ℕ} {note : ℕ} {index₀ : List ℕ} {m : ℕ} {items₀ groups₀ : List ℕ} {p : Begun} {items groups : List ℕ}
+    (b : BegunBy text mode pool note index₀ m items₀ groups₀ p items groups) (records : List Bracket) (references labels : List ℕ)
+    (l : length records ≡ m) where
+  abbrev held : Areas
+  held = areas items₀ groups₀ references labels
+
+  abbrev ran : AnnotateRan
+  ran = annotateRun text mode pool note index₀ records held
+
+  refusal : annotateRefusal text mode pool (length index₀) (length records) ≡ p .number
+  refusal = rw l (sym (b .refuses))
+
+  -- a refusal
+  module _ (n : p .number ≡ 0 → ⊥) where
+    ran-refused : ran ≡ annotateRan (annotateRefused (p .number) held) (lent b records)
+    unfolding annotateRun
+    ran-refused = rw (refusal, ne-eqb (p .number) 0 n)
+
+    pub done-refused : Done ran (Refused (p .number) note) items groups references labels
+    unfolding annotateRan annotationValues annotationNumbers
+    done-refused = record {
+      values = rw ran-refused;
+      item-area = b .keeps-items n ∙ rw ran-refused;
+      group-area = b .keeps-groups n ∙ rw ran-refused;
+      reference-area = rw ran-refused;
+      label-area = rw ran-refused;
+    }
+
+  module _ (z : p .number ≡ 0) where
+    abbrev found : List Group
+    found = all b records
+
+    abbrev wanted : Areas
+    wanted = content b records
+
+    ran-swept : ran
+        ≡ annotateRan
+        (pick (roomFor wanted held) (annotateGives found wanted held) (annotateRefused 10 (zeroFilled held)))
+        (lentAfter (p .sweep .wants) text (lent b records))
+    unfolding annotateRun annotateSwept answerOf
+    ran-swept = rw (refusal, eq-eqb (p .number) 0 z, swept-lent text (lent b records) (b .sweeps z))
+
+    -- an answer by the room that there is
+    done-by : {k : ℕ} → k ≡ noteAfter (p .sweep .wants) note → (t : Bool) → roomFor wanted held ≡ t
+        → {r : Annotation} {items' groups' references' labels' : List ℕ}
+        → annotationValues r
+        ≡ pick t (0 ∷ length found ∷ itemCount found ∷ length (wanted .references) ∷ length (wanted .labels) ∷ k ∷ []) (10 ∷ 0 ∷ 0 ∷ 0 ∷ 0 ∷ k ∷ [])
+        → items' ≡ pick t (written (wanted .items) items₀) (zeros items₀)
+        → groups' ≡ pick t (written (wanted .groups) groups₀) (zeros groups₀)
+        → references' ≡ pick t (written (wanted .references) references) (zeros references)
+        → labels' ≡ pick t (written (wanted .labels) labels) (zeros labels)
+        → Done ran r items' groups' references' labels'
+    unfolding annotateRan annotationNumbers annotateGives filled zeroFilled lentAfter
+    done-by e true q v i g f l = record {
+      values = v ∙ rw (ran-swept, q, e);
+      item-area = i ∙ rw (ran-swept, q);
+      group-area = g ∙ rw (ran-swept, q);
+      reference-area = f ∙ rw (ran-swept, q);
+      label-area = l ∙ rw (ran-swept, q);
+    }
+    done-by e false q v i g f l = record {
+      values = v ∙ rw (ran-swept, q, e);
+      item-area = i ∙ rw (ran-swept, q);
+      group-area = g ∙ rw (ran-swept, q);
+      reference-area = f ∙ rw (ran-swept, q);
+      label-area = l ∙ rw (ran-swept, q);
+    }
+
+    module _ {k : ℕ} (e : k ≡ noteAfter (p .sweep .wants) note) {index : List ℕ} (i : index ≡ pick (p .sweep .wants) (builtIndex text index₀) index₀)
+        {s : SweepState} {items' groups' : List ℕ} (t : SweptTo text k index (p .sweep) items groups s items' groups') where
+      recorded : Recorded text found startState items₀ groups₀ s items' groups'
+      recorded = whole b records z e i t
+
+      tested : s .fits ≡ (leb (length (wanted .items)) (length items₀) && leb (length (wanted .groups)) (length groups₀))
+      tested = records-fit b records z e i t
+
+      module _ (f : s .fits ≡ false) where
+        no-room : roomFor wanted held ≡ false
+        unfolding roomFor
+        no-room =
+            none-before (leb (length (wanted .items)) (length items₀)) (leb (length (wanted .groups)) (length groups₀))
+            (leb (length (wanted .references)) (length references)) (leb (length (wanted .labels)) (length labels))
+            (leb (length (wanted .labels)) 65535)
+            (sym tested ∙ f)
+
+        pub done-few : {r : Annotation} {items'' groups'' references'' labels'' : List ℕ}
+            → Zeroed k items' groups' references labels r items'' groups'' references'' labels''
+            → Done ran r items'' groups'' references'' labels''
+        unfolding annotationValues
+        done-few o =
+            done-by e false no-room (rw (o .refused)) (o .item-area ∙ rw (recorded .item-area)) (o .group-area ∙ rw (recorded .group-area))
+            (o .reference-area) (o .label-area)
+
+      module _ (f : s .fits ≡ true) where
+        room : roomThen (made b records z e i t) references labels ≡ roomFor wanted held
+        unfolding roomThen roomFor
+        room =
+            rw
+            (then-labels b records z e i t f, then-sources b records z e i t f, leb-min (length (wanted .labels)) 65535 (length labels))
+            (all-after (leb (length (wanted .items)) (length items₀)) (leb (length (wanted .groups)) (length groups₀))
+            (leb (length (wanted .references)) (length references)) (leb (length (wanted .labels)) (length labels))
+            (leb (length (wanted .labels)) 65535)
+            (sym tested ∙ f))
+
+        pub done-room : {r : Annotation} {items'' groups'' references'' labels'' : List ℕ}
+            → Ordered text mode pool (s .groups) (s .items) k items' groups' references labels r items'' groups'' references'' labels''
+            → Done ran r items'' groups'' references'' labels''
+        done-room o =
+            done-by e (roomFor wanted held) refl
+            (o .values
+            ∙ rw (room, then-sources b records z e i t f, then-labels b records z e i t f, all-groups-count recorded, all-items-count recorded))
+            (o .item-area ∙ rw (room, then-items b records z e i t f, recorded .item-area))
+            (o .group-area ∙ rw (room, then-groups b records z e i t f, recorded .group-area))
+            (o .reference-area ∙ rw (room, then-ordered b records z e i t f))
+            (o .label-area ∙ rw (room, then-labels b records z e i t f))
+
+  -- the index and the bracket records that the call leaves
+  pub ran-index : ran .index ≡ pick (p .sweep .wants) (builtIndex text index₀) index₀
+  unfolding annotateRan lentAfter indexAfter
+  ran-index = go (eqb (p .number) 0) refl
+    where
+      go : (t : Bool) → eqb (p .number) 0 ≡ t → ran .index ≡ pick (p .sweep .wants) (builtIndex text index₀) index₀
+      go true q = rw (ran-swept (eqb-true (p .number) 0 q))
+      go false q = let n = eqb-false (p .number) 0 q in rw (ran-refused n, b .no-build n)
+
+  pub ran-records : ran .records ≡ pick (p .sweep .wants) (builtRecords text records) records
+  unfolding annotateRan lentAfter recordsAfter
+  ran-records = go (eqb (p .number) 0) refl
+    where
+      go : (t : Bool) → eqb (p .number) 0 ≡ t → ran .records ≡ pick (p .sweep .wants) (builtRecords text records) records
+      go true q = rw (ran-swept (eqb-true (p .number) 0 q))
+      go false q = let n = eqb-false (p .number) 0 q in rw (ran-refused n, b .no-build n)

@@ -1,0 +1,330 @@
+-- Two lists of bytes joined by a space: which bytes are white, and where the whole begins and ends, trimmed.
+use Prim.Native.Nat.{ℕ, zero, suc, _+_, _-_, _≤_, _<_}
+use native.Mathlib.Omega.{arith}
+use native.Mathlib.Numerals.{add-one}
+use mathlib.Core.Path.{_≡_, refl, sym, _∙_, ap}
+use mathlib.Core.List.{List, _∷_, _++_}
+use mathlib.Core.Logic.{_⊎_, inl, inr}
+use mathlib.Core.Bool.{Bool, true, false, not, _||_, false-and, and-false, or-false}
+use lib.ListN.{length, take, drop, length-append, length-drop, List·getD-append, List·getD-eq-default}
+use lib.Seq.{getD-append-seam, getD-append-add, take-append-le, drop-append-le, take-append-add, drop-append-add}
+use lib.Dec.{ltb}
+use borrow.Author.Tests.{ne-eqb, lt-ltb, le-ltb, lt-leb, ltb-true, ltb-false}
+use Rattle.base.specs.Pick.{pick}
+use Rattle.base.specs.First.{first}
+use Rattle.base.specs.Lists.{byteAt, part}
+use Rattle.text.specs.White.{whiteOne, whiteTwo, whiteThree, spaceWidth, isWhite, trimStart, contentEnd, trimEnd, trim}
+use Rattle.text.proofs.Whites.{white-ascii}
+use Rattle.text.proofs.Trims.{start-by, end-from, end-by}
+use Rattle.definition.proofs.Parts.{part-is, first-shift}
+
+-- the width of a White_Space character, by its bytes
+unfoldable widthBy : ℕ → ℕ → ℕ → ℕ
+widthBy a b c = pick (whiteOne a) 1 (pick (whiteTwo a b) 2 (pick (whiteThree a b c) 3 0))
+
+width-is : (s : List ℕ) (i : ℕ) → spaceWidth s i ≡ widthBy (byteAt s i) (byteAt s (i + 1)) (byteAt s (i + 2))
+unfolding spaceWidth widthBy
+width-is s i = refl
+
+-- a byte below 128 is no later byte of a white character
+width-second : (a b c : ℕ) → b < 128 → widthBy a b c ≡ pick (whiteOne a) 1 0
+unfolding widthBy
+width-second a b c h = simp (ne-eqb b 0x85 (omega arith), ne-eqb b 0xA0 (omega arith), ne-eqb b 0x9A (omega arith), ne-eqb b 0x80 (omega arith), ne-eqb b 0x81 (omega arith), and-false)
+
+width-third : (a b c : ℕ) → c < 128 → widthBy a b c ≡ pick (whiteOne a) 1 (pick (whiteTwo a b) 2 0)
+unfolding widthBy
+width-third a b c h = simp (ne-eqb c 0x80 (omega arith), ne-eqb c 0xA8 (omega arith), ne-eqb c 0xA9 (omega arith), ne-eqb c 0xAF (omega arith), ne-eqb c 0x9F (omega arith), lt-leb 0x80 c (omega arith), false-and, and-false, or-false)
+
+pub split : (t : Bool) → (t ≡ true) ⊎ (t ≡ false)
+split true = inl refl
+split false = inr refl
+
+-- the tests of `isWhite` at the start of a list, where the places before stop at 0
+test-first : (w : ℕ) → (ltb 0 w || ltb 1 w || ltb 2 w) ≡ ltb 0 w
+test-first zero = refl
+test-first (suc w) = rw (lt-ltb 0 (suc w) (omega arith)) refl
+
+test-second : (t : Bool) (w : ℕ) → (t || ltb 1 w || ltb 2 w) ≡ (t || ltb 1 w)
+test-second true w = refl
+test-second false w = go (split (ltb 1 w))
+  where
+    go : (ltb 1 w ≡ true) ⊎ (ltb 1 w ≡ false) → (ltb 1 w || ltb 2 w) ≡ ltb 1 w
+    go (inl p) = rw p refl
+    go (inr p) = let q = ltb-false 1 w p in rw (p, le-ltb 2 w (omega arith)) refl
+
+module _ (A Y : List ℕ) where
+  -- the two joined by a space
+  abbrev pub Join : List ℕ
+  Join = A ++ (32 ∷ Y)
+
+  join-length : length Join ≡ length A + (1 + length Y)
+  join-length = simp length-append (omega arith)
+
+  byte-left : (i : ℕ) → i < length A → byteAt Join i ≡ byteAt A i
+  byte-left i h = List·getD-append A (32 ∷ Y) 0 i h
+
+  byte-space : (i : ℕ) → i ≡ length A → byteAt Join i ≡ 32
+  byte-space i e = rw e (getD-append-seam A 32 Y 0)
+
+  byte-right : (i j : ℕ) → i ≡ length A + suc j → byteAt Join i ≡ byteAt Y j
+  byte-right i j e = rw e (getD-append-add A (32 ∷ Y) (suc j) 0)
+
+  byte-none : (i : ℕ) → length A ≤ i → byteAt A i ≡ 0
+  byte-none i h = List·getD-eq-default A 0 h
+
+  -- in the first list
+  width-left : (i : ℕ) → i < length A → spaceWidth Join i ≡ spaceWidth A i
+  width-left i h = go (split (ltb (i + 1) (length A))) (split (ltb (i + 2) (length A)))
+    where
+      go : (ltb (i + 1) (length A) ≡ true) ⊎ (ltb (i + 1) (length A) ≡ false) → (ltb (i + 2) (length A) ≡ true) ⊎ (ltb (i + 2) (length A) ≡ false)
+          → spaceWidth Join i ≡ spaceWidth A i
+      go (inr p) r =
+          let q = ltb-false (i + 1) (length A) p in
+          rw (width-is Join i, width-is A i, byte-left i h, byte-space (i + 1) (omega arith), byte-none (i + 1) (omega arith))
+          (width-second (byteAt A i) 32 (byteAt Join (i + 2)) (omega arith) ∙ sym (width-second (byteAt A i) 0 (byteAt A (i + 2)) (omega arith)))
+      go (inl p) (inr r) =
+          let q = ltb-true (i + 1) (length A) p in
+          let z = ltb-false (i + 2) (length A) r in
+          rw (width-is Join i, width-is A i, byte-left i h, byte-left (i + 1) q, byte-space (i + 2) (omega arith), byte-none (i + 2) (omega arith))
+          (width-third (byteAt A i) (byteAt A (i + 1)) 32 (omega arith) ∙ sym (width-third (byteAt A i) (byteAt A (i + 1)) 0 (omega arith)))
+      go (inl p) (inl r) =
+          let q = ltb-true (i + 1) (length A) p in
+          let z = ltb-true (i + 2) (length A) r in
+          rw (width-is Join i, width-is A i, byte-left i h, byte-left (i + 1) q, byte-left (i + 2) z) refl
+
+  white-left : (i : ℕ) → i < length A → isWhite Join i ≡ isWhite A i
+  unfolding isWhite
+  white-left i h = rw (width-left i h, width-left (i - 1) (omega arith), width-left (i - 2) (omega arith)) refl
+
+  -- the space
+  white-space : isWhite Join (length A) ≡ true
+  white-space = let b = byte-space (length A) refl in white-ascii Join (length A) (rw b (omega arith)) ∙ rw b refl
+
+  width-space : (i : ℕ) → i ≡ length A → spaceWidth Join i ≡ 1
+  unfolding widthBy
+  width-space i e = rw (width-is Join i, byte-space i e) refl
+
+  -- the byte before the space begins no longer character
+  width-before : (i : ℕ) → i ≡ length A - 1 → spaceWidth Join i ≤ 1
+  width-before i e = go (split (ltb i (length A)))
+    where
+      small : (t : Bool) → pick t 1 0 ≤ 1
+      small true = omega arith
+      small false = omega arith
+
+      go : (ltb i (length A) ≡ true) ⊎ (ltb i (length A) ≡ false) → spaceWidth Join i ≤ 1
+      go (inl p) =
+          let q = ltb-true i (length A) p in
+          rw (width-is Join i, byte-space (i + 1) (omega arith), width-second (byteAt Join i) 32 (byteAt Join (i + 2)) (omega arith)) (small (whiteOne (byteAt Join i)))
+      go (inr p) = let q = ltb-false i (length A) p in rw (width-space i (omega arith)) (omega arith)
+
+  -- in the second list
+  width-right : (i j : ℕ) → i ≡ length A + suc j → spaceWidth Join i ≡ spaceWidth Y j
+  width-right i j e =
+      rw (width-is Join i, width-is Y j, byte-right i j e, byte-right (i + 1) (j + 1) (omega arith), byte-right (i + 2) (j + 2) (omega arith)) refl
+
+  white-right : (i j : ℕ) → i ≡ length A + suc j → isWhite Join i ≡ isWhite Y j
+  unfolding isWhite
+  white-right i zero e =
+      rw (width-right i 0 e, width-space (i - 1) (omega arith), le-ltb 2 (spaceWidth Join (i - 2)) (let w = width-before (i - 2) (omega arith) in omega arith), test-first) (simp or-false)
+  white-right i (suc zero) e =
+      rw (width-right i 1 e, width-right (i - 1) 0 (omega arith), width-space (i - 2) (omega arith), or-false)
+      (sym (test-second (ltb 0 (spaceWidth Y 1)) (spaceWidth Y 0)))
+  white-right i (suc (suc j)) e =
+      rw (width-right i (suc (suc j)) e, width-right (i - 1) (suc (suc j) - 1) (omega arith), width-right (i - 2) (suc (suc j) - 2) (omega arith)) refl
+
+-- searches, cut in two
+first-before : (f : ℕ → Bool) (n m i : ℕ) → first f n i < i + n → first f (n + m) i ≡ first f n i
+unfolding first
+first-before f zero m i h = absurd (omega arith)
+first-before f (suc n) m i h = let z : suc n + m ≡ suc (n + m) = omega arith in rw z (go (f i) h (first-before f n m (i + 1)))
+  where
+    go : (t : Bool) → pick t i (first f n (i + 1)) < i + suc n → (first f n (i + 1) < i + 1 + n → first f (n + m) (i + 1) ≡ first f n (i + 1))
+        → pick t i (first f (n + m) (i + 1)) ≡ pick t i (first f n (i + 1))
+    go true q rec = refl
+    go false q rec = rec (omega arith)
+
+first-after : (f : ℕ → Bool) (n m i : ℕ) → i + n ≤ first f n i → first f (n + m) i ≡ first f m (i + n)
+unfolding first
+first-after f zero m i h = let z : 0 + m ≡ m = omega arith in let y : i + 0 ≡ i = omega arith in rw (z, y) refl
+first-after f (suc n) m i h = let z : suc n + m ≡ suc (n + m) = omega arith in rw z (go (f i) h (first-after f n m (i + 1)))
+  where
+    y : i + 1 + n ≡ i + suc n
+    y = omega arith
+
+    go : (t : Bool) → i + suc n ≤ pick t i (first f n (i + 1)) → (i + 1 + n ≤ first f n (i + 1) → first f (n + m) (i + 1) ≡ first f m (i + 1 + n))
+        → pick t i (first f (n + m) (i + 1)) ≡ first f m (i + suc n)
+    go true q rec = absurd (omega arith)
+    go false q rec = rec (omega arith) ∙ ap (first f m) y
+
+-- the end of the content, cut in two
+content-after : (s : List ℕ) (a n m : ℕ) → a + n < contentEnd s (a + n) m → contentEnd s a (n + m) ≡ contentEnd s (a + n) m
+unfolding contentEnd
+content-after s a n zero h = absurd (omega arith)
+content-after s a n (suc m) h = let z : n + suc m ≡ suc (n + m) = omega arith in rw (z, y) (go (isWhite s (a + n + m)) h (content-after s a n m))
+  where
+    y : a + (n + m) ≡ a + n + m
+    y = omega arith
+
+    go : (t : Bool) → a + n < pick t (contentEnd s (a + n) m) (suc (a + n + m)) → (a + n < contentEnd s (a + n) m → contentEnd s a (n + m) ≡ contentEnd s (a + n) m)
+        → pick t (contentEnd s a (n + m)) (suc (a + n + m)) ≡ pick t (contentEnd s (a + n) m) (suc (a + n + m))
+    go true q rec = rec q
+    go false q rec = refl
+
+content-before : (s : List ℕ) (a n m : ℕ) → contentEnd s (a + n) m ≤ a + n → contentEnd s a (n + m) ≡ contentEnd s a n
+unfolding contentEnd
+content-before s a n zero h = let z : n + 0 ≡ n = omega arith in rw z refl
+content-before s a n (suc m) h = let z : n + suc m ≡ suc (n + m) = omega arith in rw (z, y) (go (isWhite s (a + n + m)) h (content-before s a n m))
+  where
+    y : a + (n + m) ≡ a + n + m
+    y = omega arith
+
+    go : (t : Bool) → pick t (contentEnd s (a + n) m) (suc (a + n + m)) ≤ a + n → (contentEnd s (a + n) m ≤ a + n → contentEnd s a (n + m) ≡ contentEnd s a n)
+        → pick t (contentEnd s a (n + m)) (suc (a + n + m)) ≡ contentEnd s a n
+    go true q rec = rec q
+    go false q rec = absurd (omega arith)
+
+-- the same bytes are white in two stretches, the one in `s` being `d` places further
+content-shift : (s t : List ℕ) (d x n : ℕ) → ((j : ℕ) → j < x + n → isWhite t j ≡ isWhite s (j + d)) → contentEnd t x n + d ≡ contentEnd s (x + d) n
+unfolding contentEnd
+content-shift s t d x zero h = refl
+content-shift s t d x (suc n) h = rw (y, h (x + n) (omega arith)) (go (isWhite s (x + n + d)) (content-shift s t d x n (λ j l. h j (omega arith))))
+  where
+    y : x + d + n ≡ x + n + d
+    y = omega arith
+
+    go : (b : Bool) → contentEnd t x n + d ≡ contentEnd s (x + d) n → pick b (contentEnd t x n) (suc (x + n)) + d ≡ pick b (contentEnd s (x + d) n) (suc (x + n + d))
+    go true r = r
+    go false r = omega arith
+
+module _ (A Y : List ℕ) where
+  left : (j : ℕ) → j < length A → isWhite A j ≡ isWhite (Join A Y) (j + 0)
+  left j h = let z : j + 0 ≡ j = omega arith in rw z (sym (white-left A Y j h))
+
+  right : (j : ℕ) → isWhite Y j ≡ isWhite (Join A Y) (j + (length A + 1))
+  right j = sym (white-right A Y (j + (length A + 1)) j (omega arith))
+
+  -- where the first list's content begins, seen in the whole
+  first-left : first (λ i. not (isWhite (Join A Y) i)) (length A) 0 ≡ trimStart A 0 (length A)
+  unfolding trimStart
+  first-left =
+      let z : length A - 0 ≡ length A = omega arith in
+      rw z
+      (sym (first-shift (λ i. not (isWhite A i)) (λ i. not (isWhite (Join A Y) i)) 0 (length A) 0 (λ j l. ap not (left j (omega arith)))) ∙ omega arith)
+
+  start-first : trimStart A 0 (length A) < length A → trimStart (Join A Y) 0 (length (Join A Y)) ≡ trimStart A 0 (length A)
+  unfolding trimStart
+  start-first h =
+      let z : length (Join A Y) - 0 ≡ length A + (1 + length Y) = omega (arith, join-length A Y) in
+      let f = first-left in
+      rw z (first-before (λ i. not (isWhite (Join A Y) i)) (length A) (1 + length Y) 0 (omega arith) ∙ f)
+
+  first-space : first (λ i. not (isWhite (Join A Y) i)) (1 + length Y) (length A) ≡ first (λ i. not (isWhite (Join A Y) i)) (length Y) (length A + 1)
+  unfolding first
+  first-space = let z : 1 + length Y ≡ suc (length Y) = omega arith in rw (z, white-space A Y) refl
+
+  start-second : length A ≤ trimStart A 0 (length A) → trimStart (Join A Y) 0 (length (Join A Y)) ≡ length A + 1 + trimStart Y 0 (length Y)
+  unfolding trimStart
+  start-second h =
+      let z : length (Join A Y) - 0 ≡ length A + (1 + length Y) = omega (arith, join-length A Y) in
+      let f = first-left in
+      let y : length Y - 0 ≡ length Y = omega arith in
+      let x : 0 + length A ≡ length A = omega arith in
+      let w : length A + 1 ≡ 0 + (length A + 1) = omega arith in
+      rw (z, y)
+      (first-after (λ i. not (isWhite (Join A Y) i)) (length A) (1 + length Y) 0 (omega arith)
+      ∙ ap (first (λ i. not (isWhite (Join A Y) i)) (1 + length Y)) x
+      ∙ first-space
+      ∙ ap (first (λ i. not (isWhite (Join A Y) i)) (length Y)) w
+      ∙ sym (first-shift (λ i. not (isWhite Y i)) (λ i. not (isWhite (Join A Y) i)) (length A + 1) (length Y) 0 (λ j l. ap not (right j)))
+      ∙ omega arith)
+
+  -- where the second list's content ends, seen in the whole
+  content-right : (x n : ℕ) → contentEnd (Join A Y) (length A + 1 + x) n ≡ length A + 1 + contentEnd Y x n
+  content-right x n =
+      let z : length A + 1 + x ≡ x + (length A + 1) = omega arith in
+      rw z (sym (content-shift (Join A Y) Y (length A + 1) x n (λ j l. right j)) ∙ omega arith)
+
+  -- the content of the first list from `k` on, with the space
+  content-left : (k : ℕ) → k ≤ length A → contentEnd (Join A Y) k (length A - k + 1) ≡ contentEnd A k (length A - k)
+  unfolding contentEnd
+  content-left k h =
+      let p : k + (length A - k) ≡ length A = omega arith in
+      let q : k + 0 ≡ k = omega arith in
+      let r = content-shift (Join A Y) A 0 k (length A - k) (λ j l. left j (omega arith)) in
+      rw (add-one, p, white-space A Y) (sym (rw q at r) ∙ omega arith)
+
+  module _ (k : ℕ) (h : k ≤ length A) where
+    whole : length (Join A Y) - k ≡ length A - k + 1 + length Y
+    whole = omega (arith, join-length A Y)
+
+    past : k + (length A - k + 1) ≡ length A + 1 + 0
+    past = omega arith
+
+    end-second : 0 < trimEnd Y 0 (length Y) → trimEnd (Join A Y) k (length (Join A Y)) ≡ length A + 1 + trimEnd Y 0 (length Y)
+    unfolding trimEnd
+    end-second q =
+        let y : length Y - 0 ≡ length Y = omega arith in
+        let c : contentEnd (Join A Y) (k + (length A - k + 1)) (length Y) ≡ length A + 1 + contentEnd Y 0 (length Y) = rw past (content-right 0 (length Y)) in
+        let g : 0 < contentEnd Y 0 (length Y) = rw y at q in
+        rw (whole, y) (content-after (Join A Y) k (length A - k + 1) (length Y) (omega arith) ∙ c)
+
+    end-first : trimEnd Y 0 (length Y) ≤ 0 → trimEnd (Join A Y) k (length (Join A Y)) ≡ trimEnd A k (length A)
+    unfolding trimEnd
+    end-first q =
+        let y : length Y - 0 ≡ length Y = omega arith in
+        let c : contentEnd (Join A Y) (k + (length A - k + 1)) (length Y) ≡ length A + 1 + contentEnd Y 0 (length Y) = rw past (content-right 0 (length Y)) in
+        let g : contentEnd Y 0 (length Y) ≤ 0 = rw y at q in
+        rw whole (content-before (Join A Y) k (length A - k + 1) (length Y) (omega arith) ∙ content-left k h)
+
+  end-right : (x : ℕ) → x ≤ length Y → trimEnd (Join A Y) (length A + 1 + x) (length (Join A Y)) ≡ length A + 1 + trimEnd Y x (length Y)
+  unfolding trimEnd
+  end-right x h =
+      let z : length (Join A Y) - (length A + 1 + x) ≡ length Y - x = omega (arith, join-length A Y) in
+      rw z (content-right x (length Y - x))
+
+-- parts of the whole
+module _ (A Y : List ℕ) where
+  part-left : (k e : ℕ) → k ≤ e → e ≤ length A → part (Join A Y) k e ≡ part A k e
+  part-left k e h g =
+      let l : e ≤ length (Join A Y) = omega (arith, join-length A Y) in
+      let n : e - k ≤ length (drop k A) = rw length-drop (omega arith) in
+      rw (part-is (Join A Y) k e h l, part-is A k e h g, drop-append-le k A (32 ∷ Y) (omega arith), take-append-le (e - k) (drop k A) (32 ∷ Y) n) refl
+
+  part-right : (x e : ℕ) → x ≤ e → e ≤ length Y → part (Join A Y) (length A + 1 + x) (length A + 1 + e) ≡ part Y x e
+  part-right x e h g =
+      let l : length A + 1 + e ≤ length (Join A Y) = omega (arith, join-length A Y) in
+      let d : length A + 1 + e - (length A + 1 + x) ≡ e - x = omega arith in
+      let p : length A + 1 + x ≡ length A + suc x = omega arith in
+      rw (part-is (Join A Y) (length A + 1 + x) (length A + 1 + e) (omega arith) l, part-is Y x e h g, d, p, drop-append-add A (32 ∷ Y) (suc x)) refl
+
+  part-across : (k e : ℕ) → k ≤ length A → e ≤ length Y → part (Join A Y) k (length A + 1 + e) ≡ drop k A ++ (32 ∷ take e Y)
+  part-across k e h g =
+      let l : length A + 1 + e ≤ length (Join A Y) = omega (arith, join-length A Y) in
+      let d : length A + 1 + e - k ≡ length (drop k A) + suc e = rw length-drop (omega arith) in
+      rw (part-is (Join A Y) k (length A + 1 + e) (omega arith) l, d, drop-append-le k A (32 ∷ Y) h, take-append-add (drop k A) (32 ∷ Y) (suc e)) refl
+
+  -- the whole, trimmed: the first list has a byte that is not white, and so has the second; only the first has one; it has none
+  pub trim-both : trimStart A 0 (length A) < length A → 0 < trimEnd Y 0 (length Y)
+      → trim (Join A Y) ≡ drop (trimStart A 0 (length A)) A ++ (32 ∷ take (trimEnd Y 0 (length Y)) Y)
+  unfolding trim
+  trim-both h g =
+      let k = trimStart A 0 (length A) in
+      let l : k ≤ length A = omega arith in
+      rw (start-first A Y h, end-second A Y k l g) (part-across k (trimEnd Y 0 (length Y)) l (omega (arith, end-by Y 0 (length Y))))
+
+  pub trim-first : trimStart A 0 (length A) < length A → trimEnd Y 0 (length Y) ≤ 0
+      → trim (Join A Y) ≡ part A (trimStart A 0 (length A)) (trimEnd A (trimStart A 0 (length A)) (length A))
+  unfolding trim
+  trim-first h g =
+      let k = trimStart A 0 (length A) in
+      let l : k ≤ length A = omega arith in
+      rw (start-first A Y h, end-first A Y k l g) (part-left k (trimEnd A k (length A)) (end-from A k (length A)) (omega (arith, end-by A k (length A))))
+
+  pub trim-second : length A ≤ trimStart A 0 (length A)
+      → trim (Join A Y) ≡ part Y (trimStart Y 0 (length Y)) (trimEnd Y (trimStart Y 0 (length Y)) (length Y))
+  unfolding trim
+  trim-second h =
+      let k = trimStart Y 0 (length Y) in
+      let l : k ≤ length Y = omega (arith, start-by Y 0 (length Y)) in
+      rw (start-second A Y h, end-right A Y k l) (part-right k (trimEnd Y k (length Y)) (end-from Y k (length Y)) (omega (arith, end-by Y k (length Y))))

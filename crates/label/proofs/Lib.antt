@@ -1,0 +1,4 @@
+pub mod Joins
+pub mod Decimals
+pub mod WriteLaws
+pub mod LabelLaws

@@ -1,0 +1,304 @@
+-- Definitions from the records: they depend on no number, use, label or standing, and are those of the paper.
+use Prim.Native.Nat.{ℕ, suc, _+_, _-_, _*_, _%_, _<_}
+use native.Mathlib.Omega.{arith}
+use mathlib.Core.Path.{_≡_, refl, sym, _∙_, ap}
+use mathlib.Core.List.{List, [], _∷_, _++_, map, append-assoc}
+use mathlib.Core.Bool.{Bool, true, false, _&&_, not}
+use mathlib.Core.Option.{Option, none, some}
+use lib.ListN.{length, length-append}
+use lib.Dec.{eqb, ltb}
+use borrow.Author.Tests.{lt-ltb, le-ltb, ne-eqb}
+use Rattle.base.specs.Pick.{pick}
+use Rattle.base.specs.Last.{last}
+use Rattle.base.specs.Lists.{same}
+use Rattle.base.specs.Sorted.{Each}
+use Rattle.item.specs.declared.Item.{Item}
+use Rattle.lookup.specs.Groups.{Group}
+use Rattle.lookup.specs.Rows.{itemWidth, marksOf, recordOf, rowOf, rowsIn, rowsOf}
+use Rattle.pool.specs.Layout.{entriesOf}
+use Rattle.sweep.specs.Rows.{Placed, groupWidth, groupRow, groupRows, sweptFrom, itemRows}
+use Rattle.definition.specs.Lines.{startsLine, colonAfter, bareItem, onlyKey, defines, inLine, groupEnd, nextOpen, keyOf, definedKey}
+use Rattle.definition.specs.Defs.{Def, lineDef, definesKey, lastLine, firstEntry, orDef, defOf}
+use Rattle.numbering.specs.Records.{
+  groupField,
+  keyIn,
+  suppressedIn,
+  bareIn,
+  closeOfRecord,
+  definesIn,
+  definesKeyIn,
+  lineIn,
+  nextIn,
+  lineDefIn,
+  definitionIn,
+}
+use Rattle.base.proofs.Lasts.{lastFrom, last-from, last-same}
+use Rattle.numbering.proofs.Fields.{item-field, group-field, SameItems, SameGroups}
+
+-- areas whose records agree, but for numbers, uses, labels and standings -------------------------------------------------------------
+
+pub key-same : (text items others : List ℕ) (k : ℕ) → SameItems items others → keyIn text items k ≡ keyIn text others k
+unfolding keyIn
+key-same text items others k h = rw (h k 2 (omega arith), h k 3 (omega arith))
+
+bare-same : (items others : List ℕ) (k : ℕ) → SameItems items others → bareIn items k ≡ bareIn others k
+unfolding bareIn
+bare-same items others k h = rw (h k 1 (omega arith), h k 5 (omega arith), h k 11 (omega arith))
+
+close-same : (groups others : List ℕ) (g : ℕ) → SameGroups groups others → closeOfRecord groups g ≡ closeOfRecord others g
+unfolding closeOfRecord
+close-same groups others g h = rw (h g 0 (omega arith), h g 1 (omega arith))
+
+module _ (text groups otherGroups items otherItems : List ℕ) (h : SameGroups groups otherGroups) (i : SameItems items otherItems) where
+  defines-same : (key : List ℕ) (g : ℕ) → definesKeyIn text groups items key g ≡ definesKeyIn text otherGroups otherItems key g
+  unfolding definesKeyIn definesIn
+  defines-same key g =
+      rw (
+        h g 0 (omega arith),
+        h g 3 (omega arith),
+        h g 2 (omega arith),
+        close-same groups otherGroups g h,
+        bare-same items otherItems (groupField otherGroups g 2) i,
+        key-same text items otherItems (groupField otherGroups g 2) i,
+      )
+
+  line-same : (n g : ℕ) → lineDefIn text groups n g ≡ lineDefIn text otherGroups n g
+  unfolding lineDefIn nextIn
+  line-same n g = rw (close-same groups otherGroups g h, h (g + 1) 0 (omega arith))
+
+  pub definition-same : (n : ℕ) (pool key : List ℕ)
+      → definitionIn text groups items n pool key ≡ definitionIn text otherGroups otherItems n pool key
+  unfolding definitionIn lineIn
+  definition-same n pool key =
+      let e = last-same (definesKeyIn text groups items key) (definesKeyIn text otherGroups otherItems key) n n (λ j l. defines-same key j) in
+      rw (e, line-same n (last (definesKeyIn text otherGroups otherItems key) n n))
+
+-- one item and one group -------------------------------------------------------------------------------------------------------------
+
+pub rows-length : (integral : Bool) (is : List Item) → length (rowsIn integral is) ≡ itemWidth * length is
+unfolding rowsIn rowOf recordOf
+rows-length integral [] = refl
+rows-length integral (i ∷ is) = omega (arith, rows-length integral is)
+
+-- the record of an item, after `k` others
+module _ (text before : List ℕ) (integral : Bool) (i : Item) (after : List ℕ) (k : ℕ) (h : length before ≡ itemWidth * k) where
+  pub key-at : keyIn text (before ++ (rowOf integral i ++ after)) k ≡ keyOf text i
+  unfolding keyIn rowOf recordOf
+  key-at =
+      let here : List ℕ = rowOf integral i ++ after in
+      rw (item-field before here k 2 h, item-field before here k 3 h)
+
+  pub suppressed-at : suppressedIn (before ++ (rowOf integral i ++ after)) k ≡ i .suppressed
+  unfolding suppressedIn rowOf recordOf marksOf
+  suppressed-at = rw (item-field before (rowOf integral i ++ after) k 11 h) (go (i .suppressed) integral)
+    where
+      go : (s b : Bool) → eqb ((pick s 1 0 + pick b 2 0) % 2) 1 ≡ s
+      go true true = refl
+      go true false = refl
+      go false true = refl
+      go false false = refl
+
+  bare-at : bareIn (before ++ (rowOf integral i ++ after)) k ≡ bareItem i
+  unfolding bareIn bareItem rowOf recordOf marksOf
+  bare-at =
+      let here : List ℕ = rowOf integral i ++ after in
+      rw (item-field before here k 1 h, item-field before here k 5 h, item-field before here k 11 h)
+      (ap (λ (b : Bool). eqb (i .prefix .len) 0 && eqb (i .whole .len) 0 && b) (go (i .suppressed) integral))
+    where
+      go : (s b : Bool) → eqb ((pick s 1 0 + pick b 2 0) % 2) 0 ≡ not s
+      go true true = refl
+      go true false = refl
+      go false true = refl
+      go false false = refl
+
+-- "a group of one item, no prefix, no locator, not suppressed", and its key
+one-key : (text key before : List ℕ) (integral : Bool) (is : List Item) (after : List ℕ) (k : ℕ) (s c : Bool) → length before ≡ itemWidth * k
+    → (s && eqb (length is) 1 && bareIn (before ++ (rowsIn integral is ++ after)) k && c)
+    && same (keyIn text (before ++ (rowsIn integral is ++ after)) k) key
+    ≡ (s && onlyKey is && c) && same (definedKey text is) key
+unfolding onlyKey definedKey rowsIn
+one-key text key before integral [] after k true c h = refl
+one-key text key before integral [] after k false c h = refl
+one-key text key before integral (i ∷ []) after k s c h =
+    rw (append-assoc (rowOf integral i) [] after, key-at text before integral i ([] ++ after) k h, bare-at text before integral i ([] ++ after) k h)
+    (go s)
+  where
+    go : (t : Bool) → (t && true && bareItem i && c) && same (keyOf text i) key ≡ (t && bareItem i && c) && same (keyOf text i) key
+    go true = refl
+    go false = refl
+one-key text key before integral (i ∷ j ∷ more) after k s c h = rw (ne-eqb (suc (suc (length more))) 1 (λ e. omega arith)) (go s)
+  where
+    go : (t : Bool)
+        → (t && false && bareIn (before ++ (rowsIn integral (i ∷ j ∷ more) ++ after)) k && c)
+        && same (keyIn text (before ++ (rowsIn integral (i ∷ j ∷ more) ++ after)) k) key
+        ≡ (t && false && c) && same (keyOf text i) key
+    go true = refl
+    go false = refl
+
+-- the groups, one after the other ----------------------------------------------------------------------------------------------------
+
+pub regroup : (a b c d : List ℕ) → a ++ ((b ++ c) ++ d) ≡ (a ++ b) ++ (c ++ d)
+regroup a b c d = simp append-assoc
+
+abbrev pub groupsOf : List Placed → List Group
+groupsOf ps = map (λ (p : Placed). p .group) ps
+
+-- a group that closes after it opens
+abbrev pub Closes : Group → Type 0
+Closes g = g .at < g .close
+
+-- where the records of groups lie in the areas: after `g` group records and `k` item records
+pub record LieAt (groups items : List ℕ) (g k : ℕ) (ps : List Placed) (beforeGroups afterGroups beforeItems afterItems : List ℕ) : Type 0 where
+  pub gcount : length beforeGroups ≡ groupWidth * g
+  pub icount : length beforeItems ≡ itemWidth * k
+  pub gis : groups ≡ beforeGroups ++ (groupRows k ps ++ afterGroups)
+  pub iis : items ≡ beforeItems ++ (itemRows (groupsOf ps) ++ afterItems)
+
+module _ (groups items : List ℕ) (g k : ℕ) (p : Placed) (ps : List Placed) (gb ga ib ia : List ℕ) (l : LieAt groups items g k (p ∷ ps) gb ga ib ia) where
+  -- the group after the first
+  pub lie-next : LieAt groups items (g + 1) (k + length (p .group .items)) ps (gb ++ groupRow k p) ga (ib ++ rowsOf (p .group)) ia
+  unfolding groupRows groupRow itemRows rowsOf
+  lie-next = record {
+    gcount = omega (arith, length-append gb (groupRow k p), l .gcount);
+    icount = omega (arith, length-append ib (rowsOf (p .group)), rows-length (p .group .integral) (p .group .items), l .icount);
+    gis = l .gis ∙ regroup gb (groupRow k p) (groupRows (k + length (p .group .items)) ps) ga;
+    iis = l .iis ∙ regroup ib (rowsOf (p .group)) (itemRows (groupsOf ps)) ia;
+  }
+
+  -- the first
+  group-at : groupField groups g 0 ≡ p .group .at
+  unfolding groupRows groupRow
+  group-at = rw (l .gis) (group-field gb (groupRows k (p ∷ ps) ++ ga) g 0 (l .gcount))
+
+  group-len : groupField groups g 1 ≡ groupEnd (p .group) - p .group .at
+  unfolding groupRows groupRow
+  group-len = rw (l .gis) (group-field gb (groupRows k (p ∷ ps) ++ ga) g 1 (l .gcount))
+
+  pub group-first : groupField groups g 2 ≡ k
+  unfolding groupRows groupRow
+  group-first = rw (l .gis) (group-field gb (groupRows k (p ∷ ps) ++ ga) g 2 (l .gcount))
+
+  pub group-items : groupField groups g 3 ≡ length (p .group .items)
+  unfolding groupRows groupRow
+  group-items = rw (l .gis) (group-field gb (groupRows k (p ∷ ps) ++ ga) g 3 (l .gcount))
+
+  pub group-standing : groupField groups g 4 ≡ p .standing
+  unfolding groupRows groupRow
+  group-standing = rw (l .gis) (group-field gb (groupRows k (p ∷ ps) ++ ga) g 4 (l .gcount))
+
+  group-close : Closes (p .group) → closeOfRecord groups g ≡ p .group .close
+  unfolding closeOfRecord
+  group-close h = rw (group-at, group-len) (omega arith)
+
+  group-defines : (text key : List ℕ) → Closes (p .group) → definesKeyIn text groups items key g ≡ definesKey text key (p .group)
+  unfolding definesKeyIn definesIn definesKey defines itemRows rowsOf
+  group-defines text key h =
+      rw (group-at, group-items, group-first, group-close h, l .iis, append-assoc (rowsOf (p .group)) (itemRows (groupsOf ps)) ia)
+      (one-key text key ib (p .group .integral) (p .group .items) (itemRows (groupsOf ps) ++ ia) k
+      (startsLine text (p .group .at)) (colonAfter text (p .group .close)) (l .icount))
+
+-- where the next group begins
+next-at : (text groups items : List ℕ) (g k n : ℕ) (ps : List Placed) (gb ga ib ia : List ℕ) → LieAt groups items (g + 1) k ps gb ga ib ia
+    → g + 1 + length ps ≡ n → nextIn text groups n g ≡ nextOpen text (groupsOf ps)
+unfolding nextIn
+next-at text groups items g k n [] gb ga ib ia l h = rw (le-ltb (g + 1) n (omega arith))
+next-at text groups items g k n (q ∷ qs) gb ga ib ia l h = rw (lt-ltb (g + 1) n (omega arith)) (group-at groups items (g + 1) k q qs gb ga ib ia l)
+
+module _ (text groups items : List ℕ) (n : ℕ) (key : List ℕ) where
+  -- the definition that a search for a line came to
+  abbrev given : ℕ → Option Def
+  given j = pick (ltb j n) (some (lineDefIn text groups n j)) none
+
+  lines-agree : (ps : List Placed) (g k acc : ℕ) (gb ga ib ia : List ℕ) → LieAt groups items g k ps gb ga ib ia → g + length ps ≡ n
+      → Each (λ (p : Placed). Closes (p .group)) ps
+      → lastLine text key g (given acc) (groupsOf ps) ≡ given (lastFrom (definesKeyIn text groups items key) (length ps) g acc)
+  unfolding lastLine lastFrom lineDefIn
+  lines-agree [] g k acc gb ga ib ia l e c = refl
+  lines-agree (p ∷ ps) g k acc gb ga ib ia l e c =
+      ap (λ (d : Option Def). lastLine text key (g + 1) d (groupsOf ps)) (go (definesKey text key (p .group)) _ (group-defines groups items g k p ps gb ga ib ia l text key (c .0)))
+      ∙ lines-agree ps (g + 1) (k + length (p .group .items)) _ _ ga _ ia next (omega arith) (c .1)
+    where
+      next : LieAt groups items (g + 1) (k + length (p .group .items)) ps (gb ++ groupRow k p) ga (ib ++ rowsOf (p .group)) ia
+      next = lie-next groups items g k p ps gb ga ib ia l
+
+      line : lineDefIn text groups n g ≡ lineDef text g (p .group .close) (nextOpen text (groupsOf ps))
+      line = rw (
+        group-close groups items g k p ps gb ga ib ia l (c .0),
+        next-at text groups items g _ n ps _ ga _ ia next (omega arith),
+      )
+
+      go : (t u : Bool) → u ≡ t
+          → pick t (some (lineDef text g (p .group .close) (nextOpen text (groupsOf ps)))) (given acc) ≡ given (pick u g acc)
+      go true u q = rw (q, lt-ltb g n (omega arith), line)
+      go false u q = rw q
+
+-- the definition of a key is that of the paper
+pub definition-placed : (text groups items : List ℕ) (ps : List Placed) (ga ia pool key : List ℕ) → LieAt groups items 0 0 ps [] ga [] ia
+    → Each (λ (p : Placed). Closes (p .group)) ps
+    → definitionIn text groups items (length ps) pool key ≡ defOf text (groupsOf ps) pool key
+unfolding definitionIn lineIn defOf last
+definition-placed text groups items ps ga ia pool key l c = go (ltb found n) refl ∙ ap (λ (d : Option Def). orDef d pooled) (sym lines)
+  where
+    n : ℕ
+    n = length ps
+
+    test : ℕ → Bool
+    test = definesKeyIn text groups items key
+
+    found : ℕ
+    found = last test n n
+
+    pooled : Option Def
+    pooled = firstEntry key 0 (entriesOf pool)
+
+    up : lastFrom test n 0 n ≡ found
+    up = let e : 0 + n ≡ n = omega arith in sym (last-from test n 0 n) ∙ ap (λ (k : ℕ). last test k n) e
+
+    lines : lastLine text key 0 none (groupsOf ps) ≡ given text groups items n key found
+    lines =
+        let z : ltb n n ≡ false = le-ltb n n (omega arith) in
+        ap (λ (b : Bool). lastLine text key 0 (pick b (some (lineDefIn text groups n n)) none) (groupsOf ps)) (sym z)
+        ∙ lines-agree text groups items n key ps 0 0 n [] ga [] ia l (omega arith) c
+        ∙ ap (given text groups items n key) up
+
+    go : (t : Bool) → ltb found n ≡ t
+        → pick t (some (lineDefIn text groups n found)) pooled ≡ orDef (pick (ltb found n) (some (lineDefIn text groups n found)) none) pooled
+    go true q = rw q
+    go false q = rw q
+
+-- the records that a sweep leaves ----------------------------------------------------------------------------------------------------
+
+pub swept-groups : (text : List ℕ) (before : Bool) (from : ℕ) (gs : List Group) → groupsOf (sweptFrom text before from gs) ≡ gs
+unfolding sweptFrom
+swept-groups text before from [] = refl
+swept-groups text before from (g ∷ gs) = ap (λ (hs : List Group). g ∷ hs) (swept-groups text (inLine text before from g) (groupEnd g) gs)
+
+pub swept-length : (text : List ℕ) (before : Bool) (from : ℕ) (gs : List Group) → length (sweptFrom text before from gs) ≡ length gs
+unfolding sweptFrom
+swept-length text before from [] = refl
+swept-length text before from (g ∷ gs) = ap suc (swept-length text (inLine text before from g) (groupEnd g) gs)
+
+swept-each : (P : Group → Type 0) (text : List ℕ) (before : Bool) (from : ℕ) (gs : List Group) → Each P gs
+    → Each (λ (p : Placed). P (p .group)) (sweptFrom text before from gs)
+unfolding sweptFrom
+swept-each P text before from [] h = tt
+swept-each P text before from (g ∷ gs) h = (h .0, swept-each P text (inLine text before from g) (groupEnd g) gs (h .1))
+
+pub lie-swept : (text : List ℕ) (all : List Group) (restG restI : List ℕ)
+    → LieAt (groupRows 0 (sweptFrom text false 0 all) ++ restG) (itemRows all ++ restI) 0 0 (sweptFrom text false 0 all) [] restG [] restI
+lie-swept text all restG restI = record {
+  gcount = refl;
+  icount = refl;
+  gis = refl;
+  iis = ap (λ (gs : List Group). itemRows gs ++ restI) (sym (swept-groups text false 0 all));
+}
+
+pub definition-swept : (text : List ℕ) (all : List Group) (restG restI pool key : List ℕ) → Each Closes all
+    → definitionIn text (groupRows 0 (sweptFrom text false 0 all) ++ restG) (itemRows all ++ restI) (length all) pool key ≡ defOf text all pool key
+definition-swept text all restG restI pool key h =
+    ap (λ (n : ℕ). definitionIn text (groupRows 0 (sweptFrom text false 0 all) ++ restG) (itemRows all ++ restI) n pool key)
+    (sym (swept-length text false 0 all))
+    ∙ definition-placed text _ _ (sweptFrom text false 0 all) restG restI pool key (lie-swept text all restG restI) (swept-each Closes text false 0 all h)
+    ∙ ap (λ (gs : List Group). defOf text gs pool key) (swept-groups text false 0 all)
+
+pub ruleset line-laws = (key-same, definition-same, key-at, suppressed-at, definition-placed, definition-swept)

@@ -1,0 +1,29 @@
+-- `numbering::define::line_in` meets its contract. Assumes nothing.
+use Prim.Native.Nat.{_≤_}
+use mathlib.Core.Path.{_≡_}
+use Rattle.base.specs.Last.{last}
+use Rattle.numbering.specs.Records.{definesKeyIn, lineIn}
+use borrow.Author.Needs.{needs}
+use Rattle.numbering.proofs.LineLaws.{line-laws}
+use Rattle.numbering.proofs.define.line_in.Statement.{statement}
+use Rattle.numbering.proofs.define.line_in.Tie as tie
+
+abbrev Inv-loop : tie.InvT-loop
+Inv-loop text groups items n key i₀ i = (i ≤ n) × (lineIn text groups items n key ≡ last (definesKeyIn text groups items key) i n)
+
+abbrev μ-loop : tie.MeasureT-loop
+μ-loop text groups items n key i₀ i = i
+
+pub line-in-spec : {M : Type 1} → statement M
+line-in-spec =
+    tie.close
+    (tie.spec
+    Inv-loop
+    μ-loop
+    (λ c. search (line-laws, needs))
+    (λ c. search (line-laws, needs))
+    (λ c κs. search (line-laws, needs))
+    (λ c. search (line-laws, needs))
+    (λ c. search (line-laws, needs))
+    (λ c. search (line-laws, needs))
+    (λ c. search (line-laws, needs)))

@@ -1,0 +1,28 @@
+-- `numbering::numbers::cite` meets its contract. Assumes nothing.
+use borrow.Author.Needs.{needs}
+use Rattle.numbering.proofs.CiteLaws.{cite-full, cite-over, cite-done}
+use Rattle.numbering.proofs.numbers.cite.Statement.{statement}
+use Rattle.numbering.proofs.numbers.cite.Tie as tie
+
+pub cite-spec : {M : Type 1} → statement M
+cite-spec =
+    tie.close
+    (tie.spec
+    (λ c. cite-full _ _ _ _ _ _ _ _ _ (search needs) (search needs))
+    (λ c κs. search needs)
+    (λ c. search needs)
+    (λ c κs. search needs)
+    (λ c. search needs)
+    (λ c. search needs)
+    (λ c. search needs)
+    (λ c κs. search needs)
+    (λ c. search needs)
+    (λ c. search needs)
+    (λ c. cite-over _ _ _ _ _ _ _ _ _ (search needs) (search needs) (c .before .before .before .before .before .before .count-in .ensures) (c .before .before .before .label-in .ensures .0) (c .before .before .before .label-in .ensures .1) (search needs))
+    (λ c. search needs)
+    (λ c. search needs)
+    (λ c κs. search needs)
+    (λ c. search needs)
+    (λ c. search needs)
+    (λ c. search needs)
+    (λ c. cite-done _ _ _ _ _ _ _ _ _ (search needs) (search needs) (c .before .before .before .before .before .before .before .before .before .before .count-in .ensures) (c .before .before .before .before .before .before .before .label-in .ensures .0) (c .before .before .before .before .before .before .before .label-in .ensures .1) (search needs) (c .before .before .set-last .ensures)))

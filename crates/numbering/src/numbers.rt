@@ -1,0 +1,225 @@
+// Numbers, uses and labels, written into the records and the label bytes, group by group.
+use crate::Defined;
+use crate::Numbering;
+use crate::records;
+use crate::uses;
+use definition::Author;
+use definition::Year;
+ghost use mathlib.Core.Path.{_≡_};
+ghost use mathlib.Core.Bool.{true};
+ghost use Prim.Native.Nat.{_+_, _<_, _≤_, min};
+ghost use lib.ListN.{length};
+ghost use Rattle.pool.specs.Layout.{wellFormed};
+ghost use Rattle.label.specs.Labels.{labelText};
+ghost use Rattle.label.specs.Areas.{fitted};
+ghost use Rattle.numbering.specs.Records.{keyIn, suppressedIn, definitionIn};
+ghost use Rattle.numbering.specs.Numbers.{citeIn, citeFrom, numberGroup};
+ghost use Rattle.numbering.specs.Progress.{keyDefined, keysDefined, roomOf, Advances};
+
+// Whether the key of item record `k` is defined.
+fn is_defined(text: &[u8], pool: &[u8], groups: &[u16], items: &[u16], n: usize, k: usize) -> bool
+    requires { ⌜ (n < 4294967296) × (wellFormed (now pool) ≡ true) × (k < 4294967296) ⌝ }
+    ensures { λ r. ⌜ r ≡ keyDefined (now (text .entry)) (now (pool .entry)) (now (groups .entry)) (now (items .entry)) n k ⌝ }
+{
+    let d = crate::find(
+        text,
+        pool,
+        groups,
+        items,
+        n,
+        records::key_in(text, items, k),
+    );
+    match d {
+        Defined::Line { group: _ } => true,
+        Defined::Entry { number: _ } => true,
+        Defined::Nothing => false,
+    }
+}
+
+// Whether the keys of the `count` item records from `first` on are.
+fn all_defined(
+    text: &[u8],
+    pool: &[u8],
+    groups: &[u16],
+    items: &[u16],
+    n: usize,
+    first: usize,
+    count: usize,
+) -> bool
+    requires { ⌜ (n < 4294967296) × (wellFormed (now pool) ≡ true) × (first < 65536) × (count < 65536) ⌝ }
+    ensures { λ r. ⌜ r ≡ keysDefined (now (text .entry)) (now (pool .entry)) (now (groups .entry)) (now (items .entry)) n count first ⌝ }
+{
+    let mut i: usize = 0;
+    while i < count {
+        if is_defined(text, pool, groups, items, n, first + i) {
+            i += 1;
+        } else {
+            return false;
+        }
+    }
+    true
+}
+
+// The label of item record `k` with the number `number` at the front of `out`, where it fits. Its length.
+fn label_in<'a>(
+    text: &'a [u8],
+    mode: u8,
+    pool: &'a [u8],
+    n: usize,
+    k: usize,
+    number: u16,
+    items: &[u16],
+    groups: &[u16],
+    out: &mut [u8],
+) -> usize
+    requires { ⌜ (n < 4294967296) × (wellFormed (now pool) ≡ true) × (k < 4294967296) ⌝ }
+    ensures { λ r. ⌜ (r ≡ length (labelText mode (suppressedIn (now (items .entry)) k) number (definitionIn (now (text .entry)) (now (groups .entry)) (now (items .entry)) n (now (pool .entry)) (keyIn (now (text .entry)) (now (items .entry)) k)))) × (now (out .exit) ≡ fitted (labelText mode (suppressedIn (now (items .entry)) k) number (definitionIn (now (text .entry)) (now (groups .entry)) (now (items .entry)) n (now (pool .entry)) (keyIn (now (text .entry)) (now (items .entry)) k))) (now (out .entry))) ⌝ }
+{
+    if mode == 0 {
+        return label::write_label(
+            text,
+            pool,
+            0,
+            false,
+            number,
+            Author::Missing,
+            Year::Missing,
+            out,
+        );
+    }
+    let d = crate::find(
+        text,
+        pool,
+        groups,
+        items,
+        n,
+        records::key_in(text, items, k),
+    );
+    let author = crate::author_in(text, pool, groups, n, d);
+    let year = crate::year_in(text, pool, groups, n, d);
+    let suppressed = records::suppressed_in(items, k);
+    label::write_label(text, pool, mode, suppressed, number, author, year, out)
+}
+
+fn least(a: usize, b: usize) -> usize
+    ensures { λ r. ⌜ r ≡ min a b ⌝ }
+{
+    if a <= b { a } else { b }
+}
+
+// Item record `k` with its number, its use and its label. Where the labels do not fit any more, the areas may hold anything.
+fn cite<'a>(
+    text: &'a [u8],
+    mode: u8,
+    pool: &'a [u8],
+    n: usize,
+    k: usize,
+    s: Numbering,
+    items: &mut [u16],
+    groups: &[u16],
+    labels: &mut [u8],
+) -> Numbering
+    requires { ⌜ (n < 4294967296) × (wellFormed (now pool) ≡ true) × (k < 4294967296) × (s .sources < 1099511627776) × (s .«label_bytes» ≤ roomOf (now labels)) ⌝ }
+    ensures { λ r. ⌜ Advances 1 (λ t. citeIn (now (text .entry)) mode (now (pool .entry)) n t k) s r (now (items .entry)) (now (groups .entry)) (now (labels .entry)) (now (items .exit)) (now (groups .entry)) (now (labels .exit)) ⌝ }
+{
+    let fits = s.fits;
+    if !fits {
+        return s;
+    }
+    let at = s.label_bytes;
+    let left = least(65535, labels.len()) - at;
+    let c = uses::count_in(text, items, 0 < pool.len(), s.sources, k);
+    let number = c.number;
+    let len = label_in(
+        text,
+        mode,
+        pool,
+        n,
+        k,
+        number,
+        items,
+        groups,
+        &mut labels[at..],
+    );
+    if left < len {
+        return Numbering {
+            fits: false,
+            sources: s.sources,
+            label_bytes: at,
+        };
+    }
+    uses::set_last(items, k, number, c.use_index, at as u16, len as u16);
+    Numbering {
+        fits: true,
+        sources: c.sources,
+        label_bytes: at + len,
+    }
+}
+
+// The `count` item records from `first` on, so.
+fn cite_from<'a>(
+    text: &'a [u8],
+    mode: u8,
+    pool: &'a [u8],
+    n: usize,
+    first: usize,
+    count: usize,
+    s: Numbering,
+    items: &mut [u16],
+    groups: &[u16],
+    labels: &mut [u8],
+) -> Numbering
+    requires { ⌜ (n < 4294967296) × (wellFormed (now pool) ≡ true) × (first < 65536) × (count < 65536) × (s .sources < 549755813888) × (s .«label_bytes» ≤ roomOf (now labels)) ⌝ }
+    ensures { λ r. ⌜ Advances count (λ t. citeFrom (now (text .entry)) mode (now (pool .entry)) n count t first) s r (now (items .entry)) (now (groups .entry)) (now (labels .entry)) (now (items .exit)) (now (groups .entry)) (now (labels .exit)) ⌝ }
+{
+    let mut so_far = s;
+    let mut i: usize = 0;
+    while i < count {
+        so_far = cite(
+            text,
+            mode,
+            pool,
+            n,
+            first + i,
+            so_far,
+            items,
+            groups,
+            labels,
+        );
+        i += 1;
+    }
+    so_far
+}
+
+// Group record `g`: one in a definition line, and one with a key that is not defined, gets no number, use or label.
+pub fn number_group<'a>(
+    text: &'a [u8],
+    mode: u8,
+    pool: &'a [u8],
+    n: usize,
+    g: usize,
+    s: Numbering,
+    items: &mut [u16],
+    groups: &mut [u16],
+    labels: &mut [u8],
+) -> Numbering
+    requires { ⌜ (n < 4294967296) × (wellFormed (now pool) ≡ true) × (g < 4294967296) × (s .sources < 549755813888) × (s .«label_bytes» ≤ roomOf (now labels)) ⌝ }
+    ensures { λ r. ⌜ Advances 65535 (λ t. numberGroup (now (text .entry)) mode (now (pool .entry)) n t g) s r (now (items .entry)) (now (groups .entry)) (now (labels .entry)) (now (items .exit)) (now (groups .exit)) (now (labels .exit)) ⌝ }
+{
+    let fits = s.fits;
+    if !fits {
+        return s;
+    }
+    let standing = records::group_field(groups, g, 4);
+    if standing == 0 {
+        return s;
+    }
+    let first = records::group_field(groups, g, 2);
+    let count = records::group_field(groups, g, 3);
+    if all_defined(text, pool, groups, items, n, first, count) {
+        records::put(groups, 5 * g + 4, 2);
+        cite_from(text, mode, pool, n, first, count, s, items, groups, labels)
+    } else {
+        s
+    }
+}

@@ -1,0 +1,328 @@
+-- The records of a sweep, over lists of groups that follow each other; and areas that are written from some place on.
+use Prim.Native.Nat.{ℕ, suc, _+_, _-_, _*_, _≤_}
+use native.Mathlib.Omega.{arith}
+use mathlib.Core.Path.{_≡_, refl, sym, _∙_, ap}
+use mathlib.Core.List.{List, [], _∷_, _++_, append-nil, append-assoc}
+use mathlib.Core.Bool.{Bool, true, false, _&&_, and-false}
+use lib.ListN.{length, take, drop, set, take-append-drop, length-append, length-drop, drop-of-length-le}
+use lib.Dec.{leb}
+use lib.Seq.{sets-eq, take-all, take-at, drop-at, drop-drop, length-take-le}
+use borrow.Author.Tests.{leb-true, le-leb}
+use Rattle.base.specs.Pick.{pick}
+use Rattle.base.specs.Lists.{written}
+use Rattle.item.proofs.Parts.{and-left, and-right}
+use Rattle.lookup.specs.Groups.{Group}
+use Rattle.lookup.specs.Rows.{rowsOf, rowsLength}
+use Rattle.lookup.proofs.RowLaws.{rows-length}
+use Rattle.definition.specs.Lines.{inLine, groupEnd}
+use Rattle.sweep.specs.declared.SweepState.{SweepState}
+use Rattle.sweep.specs.Sweep.{Lent, Swept, lentAfter, sweepRun}
+use Rattle.sweep.specs.Rows.{Placed, placed, groupRow, groupRows, itemCount, itemRows, sweptFrom, insideAfter, endAfter}
+use Rattle.sweep.specs.Stops.{stopFrom, writtenAt, recordsFit, startState, Counted, Recorded, SweptTo}
+use Rattle.sweep.specs.Facts.{goneOn}
+use Rattle.sweep.proofs.Sizes.{count-append}
+use Rattle.sweep.proofs.Stops.{sweep-in-two}
+
+-- areas ----------------------------------------------------------------------------------------------------------------------------
+
+module _ (n : ℕ) (area : List ℕ) where
+  -- nothing written
+  pub written-none : area ≡ writtenAt n [] area
+  unfolding writtenAt
+  written-none = let z : n + 0 ≡ n = omega arith in rw z (sym (take-append-drop n area))
+
+  module _ (out : List ℕ) (h : n + length out ≤ length area) where
+    -- an area stays as long as it was
+    pub written-length : length (writtenAt n out area) ≡ length area
+    unfolding writtenAt
+    written-length = simp (length-append, length-take-le n area (omega arith), length-drop) (omega arith)
+
+    -- `more` is written right after `out`
+    pub written-more : (more : List ℕ) (m : ℕ) → m ≡ n + length out → writtenAt m more (writtenAt n out area) ≡ writtenAt n (out ++ more) area
+    unfolding writtenAt
+    written-more more m e =
+        let joined : n + length out + length more ≡ n + length (out ++ more) = let a = length-append out more in omega arith in
+        let front : List ℕ = take n area ++ out in
+        let rest : List ℕ = drop (n + length out) area in
+        let l : length front ≡ m = simp (length-append, length-take-le n area (omega arith)) (omega arith) in
+        let w : take n area ++ (out ++ rest) ≡ front ++ rest = sym (append-assoc (take n area) out rest) in
+        let t : take m (take n area ++ (out ++ rest)) ≡ front = ap (take m) w ∙ take-at front rest m l in
+        let d : drop (m + length more) (take n area ++ (out ++ rest)) ≡ drop (n + length (out ++ more)) area
+        = sym (drop-drop (length more) m (take n area ++ (out ++ rest)))
+        ∙ ap (drop (length more)) (ap (drop m) w ∙ drop-at front rest m l)
+        ∙ drop-drop (length more) (n + length out) area
+        ∙ ap (λ (k : ℕ). drop k area) joined in
+        let after : List ℕ = drop (n + length (out ++ more)) area in
+        rw (t, d) (append-assoc (take n area) out (more ++ after) ∙ ap (λ (x : List ℕ). take n area ++ x) (sym (append-assoc out more after)))
+
+-- from the front on
+pub written-front : (out area : List ℕ) → writtenAt 0 out area ≡ written out area
+unfolding writtenAt written
+written-front out area = let z : 0 + length out ≡ length out = omega arith in rw z
+
+-- the part from `n` on was lent, and came back with `out` at its front
+pub written-part : (n : ℕ) (area out back : List ℕ) → n ≤ length area → back ≡ written out (take (length area - n) (drop n area))
+    → take n area ++ (back ++ drop (length area - n) (drop n area)) ≡ writtenAt n out area
+unfolding written writtenAt
+written-part n area out back h e =
+    let l : length (drop n area) ≤ length area - n = rw length-drop (omega arith) in
+    let f : take (length area - n) (drop n area) ≡ drop n area = take-all (length area - n) (drop n area) l in
+    let z : drop (length area - n) (drop n area) ≡ [] = drop-of-length-le (drop n area) {i = length area - n} l in
+    let d : drop (length out) (drop n area) ≡ drop (n + length out) area = drop-drop (length out) n area in
+    let b : back ≡ out ++ drop (n + length out) area = e ∙ rw (f, d) refl in
+    rw (z, b, append-nil) refl
+
+-- five numbers, one after the other
+pub five-written : (area : List ℕ) (k a b c d e : ℕ) → k + 5 ≤ length area
+    → set (set (set (set (set area k a) (k + 1) b) (k + 2) c) (k + 3) d) (k + 4) e ≡ writtenAt k (a ∷ b ∷ c ∷ d ∷ e ∷ []) area
+unfolding writtenAt
+five-written area k a b c d e h =
+    let one : k + 1 ≡ suc k = omega arith in
+    let two : k + 2 ≡ suc (suc k) = omega arith in
+    let three : k + 3 ≡ suc (suc (suc k)) = omega arith in
+    let four : k + 4 ≡ suc (suc (suc (suc k))) = omega arith in
+    rw (one, two, three, four) (sets-eq (a ∷ b ∷ c ∷ d ∷ e ∷ []) area k h ∙ append-assoc (take k area) (a ∷ b ∷ c ∷ d ∷ e ∷ []) (drop (k + 5) area))
+
+-- item records ---------------------------------------------------------------------------------------------------------------------
+
+pub item-rows-length : (gs : List Group) → length (itemRows gs) ≡ 16 * itemCount gs
+unfolding itemRows itemCount rowsLength
+item-rows-length [] = refl
+item-rows-length (g ∷ gs) =
+    let h = item-rows-length gs in
+    let r = rows-length g in
+    rw length-append (omega arith)
+
+pub item-rows-append : (gs hs : List Group) → itemRows (gs ++ hs) ≡ itemRows gs ++ itemRows hs
+unfolding itemRows
+item-rows-append [] hs = refl
+item-rows-append (g ∷ gs) hs = rw (item-rows-append gs hs) (sym (append-assoc (rowsOf g) (itemRows gs) (itemRows hs)))
+
+-- group records --------------------------------------------------------------------------------------------------------------------
+
+pub group-rows-length : (n : ℕ) (ps : List Placed) → length (groupRows n ps) ≡ 5 * length ps
+unfolding groupRows groupRow
+group-rows-length n [] = refl
+group-rows-length n (p ∷ ps) = let h = group-rows-length (n + length (p .group .items)) ps in omega arith
+
+module _ (text : List ℕ) where
+  pub swept-length : (before : Bool) (from : ℕ) (gs : List Group) → length (sweptFrom text before from gs) ≡ length gs
+  unfolding sweptFrom
+  swept-length before from [] = refl
+  swept-length before from (g ∷ gs) = ap suc (swept-length (inLine text before from g) (groupEnd g) gs)
+
+  -- the groups `hs` after the groups `gs`
+  pub inside-append : (before : Bool) (from : ℕ) (gs hs : List Group)
+      → insideAfter text before from (gs ++ hs) ≡ insideAfter text (insideAfter text before from gs) (endAfter from gs) hs
+  unfolding insideAfter endAfter
+  inside-append before from [] hs = refl
+  inside-append before from (g ∷ gs) hs = inside-append (inLine text before from g) (groupEnd g) gs hs
+
+  pub swept-append : (before : Bool) (from : ℕ) (gs hs : List Group)
+      → sweptFrom text before from (gs ++ hs)
+      ≡ sweptFrom text before from gs ++ sweptFrom text (insideAfter text before from gs) (endAfter from gs) hs
+  unfolding sweptFrom insideAfter endAfter
+  swept-append before from [] hs = refl
+  swept-append before from (g ∷ gs) hs =
+      ap (λ (ps : List Placed). placed g (pick (inLine text before from g) 0 1) ∷ ps) (swept-append (inLine text before from g) (groupEnd g) gs hs)
+
+  pub group-rows-append : (n : ℕ) (before : Bool) (from : ℕ) (gs hs : List Group)
+      → groupRows n (sweptFrom text before from (gs ++ hs))
+      ≡ groupRows n (sweptFrom text before from gs)
+      ++ groupRows (n + itemCount gs) (sweptFrom text (insideAfter text before from gs) (endAfter from gs) hs)
+  unfolding sweptFrom insideAfter endAfter groupRows itemCount
+  group-rows-append n before from [] hs = let z : n + 0 ≡ n = omega arith in rw z
+  group-rows-append n before from (g ∷ gs) hs =
+      let z : n + length (g .items) + itemCount gs ≡ n + (length (g .items) + itemCount gs) = omega arith in
+      let row : List ℕ = groupRow n (placed g (pick (inLine text before from g) 0 1)) in
+      rw (group-rows-append (n + length (g .items)) (inLine text before from g) (groupEnd g) gs hs, z)
+      (sym (append-assoc row _ _))
+
+pub end-append : (from : ℕ) (gs hs : List Group) → endAfter from (gs ++ hs) ≡ endAfter (endAfter from gs) hs
+unfolding endAfter
+end-append from [] hs = refl
+end-append from (g ∷ gs) hs = end-append (groupEnd g) gs hs
+
+-- one sweep after another ----------------------------------------------------------------------------------------------------------
+
+-- fewer records fit where more do
+module _ (n g m k items groups : ℕ) (h : n ≤ m) (i : g ≤ k) where
+  pub fit-less : recordsFit m k items groups ≡ true → recordsFit n g items groups ≡ true
+  fit-less e =
+      let a : 16 * m ≤ items = leb-true _ _ (and-left _ _ e) in
+      let b : 5 * k ≤ groups = leb-true _ _ (and-right (leb (16 * m) items) _ e) in
+      rw (le-leb (16 * n) items (omega arith), le-leb (5 * g) groups (omega arith))
+
+  pub fit-both : (x : Bool) → ((x && recordsFit n g items groups) && recordsFit m k items groups) ≡ (x && recordsFit m k items groups)
+  fit-both x = go (recordsFit m k items groups) refl
+    where
+      none : (x y : Bool) → ((x && y) && false) ≡ (x && false)
+      none true y = and-false y
+      none false y = refl
+
+      all : (x : Bool) → ((x && true) && true) ≡ (x && true)
+      all true = refl
+      all false = refl
+
+      go : (t : Bool) → recordsFit m k items groups ≡ t → ((x && recordsFit n g items groups) && t) ≡ (x && t)
+      go true e = rw (fit-less e) (all x)
+      go false e = none x (recordsFit n g items groups)
+
+-- no group
+pub recorded-none : (text : List ℕ) (s : SweepState) (items groups : List ℕ)
+    → (s .fits ≡ true → recordsFit (s .items) (s .groups) (length items) (length groups) ≡ true)
+    → Recorded text [] s items groups s items groups
+unfolding itemCount insideAfter endAfter itemRows sweptFrom groupRows
+recorded-none text s items groups room = record {
+  group-count = omega arith;
+  item-count = omega arith;
+  line = refl;
+  end = refl;
+  fitted = go (s .fits) room;
+  item-area = refl;
+  group-area = refl;
+  item-rows = λ h. written-none (16 * s .items) items;
+  group-rows = λ h. written-none (5 * s .groups) groups;
+}
+  where
+    go : (t : Bool) → (t ≡ true → recordsFit (s .items) (s .groups) (length items) (length groups) ≡ true)
+        → t ≡ (t && recordsFit (s .items) (s .groups) (length items) (length groups))
+    go true h = sym (h refl)
+    go false h = refl
+
+-- the groups `hs` after the groups `gs`
+module _ (text : List ℕ) (gs hs : List Group) (s r t : SweepState) (items groups items' groups' items'' groups'' : List ℕ)
+    (a : Recorded text gs s items groups r items' groups') (b : Recorded text hs r items' groups' t items'' groups'') where
+  counts-groups : t .groups ≡ s .groups + length (gs ++ hs)
+  counts-groups = let x = a .group-count in let y = b .group-count in rw length-append (omega arith)
+
+  counts-items : t .items ≡ s .items + itemCount (gs ++ hs)
+  counts-items = let x = a .item-count in let y = b .item-count in let z = count-append gs hs in omega arith
+
+  fit-first : (r .fits && recordsFit (t .items) (t .groups) (length items) (length groups))
+      ≡ (s .fits && recordsFit (t .items) (t .groups) (length items) (length groups))
+  fit-first =
+      let y = b .item-count in
+      let z = b .group-count in
+      rw (a .fitted)
+      (fit-both (r .items) (r .groups) (t .items) (t .groups) (length items) (length groups) (omega arith) (omega arith) (s .fits))
+
+  fits-then : t .fits ≡ (r .fits && recordsFit (t .items) (t .groups) (length items) (length groups))
+  fits-then = rw (a .item-area, a .group-area) at (b .fitted)
+
+  -- where all fit, those of the first did
+  fit-before : t .fits ≡ true → r .fits ≡ true
+  fit-before h = and-left (r .fits) _ (sym fits-then ∙ h)
+
+  room : t .fits ≡ true → recordsFit (r .items) (r .groups) (length items) (length groups) ≡ true
+  room h = and-right (s .fits) _ (sym (a .fitted) ∙ fit-before h)
+
+  item-room : t .fits ≡ true → 16 * s .items + length (itemRows gs) ≤ length items
+  item-room h =
+      let x = leb-true (16 * r .items) (length items) (and-left _ _ (room h)) in
+      let y = item-rows-length gs in
+      let z = a .item-count in
+      omega arith
+
+  group-room : t .fits ≡ true → 5 * s .groups + length (groupRows (s .items) (sweptFrom text (s .inside) (s .from) gs)) ≤ length groups
+  group-room h =
+      let x = leb-true (5 * r .groups) (length groups) (and-right (leb (16 * r .items) (length items)) _ (room h)) in
+      let y = group-rows-length (s .items) (sweptFrom text (s .inside) (s .from) gs) in
+      let w = swept-length text (s .inside) (s .from) gs in
+      let z = a .group-count in
+      omega arith
+
+  all-items : t .fits ≡ true → items'' ≡ writtenAt (16 * s .items) (itemRows (gs ++ hs)) items
+  all-items h =
+      let y = item-rows-length gs in
+      let z = a .item-count in
+      b .item-rows h
+      ∙ rw (a .item-rows (fit-before h), item-rows-append gs hs)
+      (written-more (16 * s .items) items (itemRows gs) (item-room h) (itemRows hs) (16 * r .items) (omega arith))
+
+  all-groups : t .fits ≡ true
+      → groups'' ≡ writtenAt (5 * s .groups) (groupRows (s .items) (sweptFrom text (s .inside) (s .from) (gs ++ hs))) groups
+  all-groups h =
+      let y = group-rows-length (s .items) (sweptFrom text (s .inside) (s .from) gs) in
+      let w = swept-length text (s .inside) (s .from) gs in
+      let z = a .group-count in
+      b .group-rows h
+      ∙ rw (a .group-rows (fit-before h), a .item-count, a .line, a .end, group-rows-append text (s .items) (s .inside) (s .from) gs hs)
+      (written-more (5 * s .groups) groups (groupRows (s .items) (sweptFrom text (s .inside) (s .from) gs)) (group-room h) _ (5 * r .groups) (omega arith))
+
+  pub recorded-both : Recorded text (gs ++ hs) s items groups t items'' groups''
+  recorded-both = record {
+    group-count = counts-groups;
+    item-count = counts-items;
+    line = b .line ∙ rw (a .line, a .end) (sym (inside-append text (s .inside) (s .from) gs hs));
+    end = b .end ∙ rw (a .end) (sym (end-append (s .from) gs hs));
+    fitted = fits-then ∙ fit-first;
+    item-area = b .item-area ∙ a .item-area;
+    group-area = b .group-area ∙ a .group-area;
+    item-rows = all-items;
+    group-rows = all-groups;
+  }
+
+-- from the first state on ------------------------------------------------------------------------------------------------------------
+
+-- what the first sweep asks of it
+pub start-counted : (text : List ℕ) (items groups : ℕ) → Counted text startState items groups
+start-counted text items groups =
+    record { at-by = omega arith; items-by = omega arith; groups-by = omega arith; room = λ h. rw (le-leb 0 items (omega arith), le-leb 0 groups (omega arith)) }
+
+module _ {text : List ℕ} {gs : List Group} {items groups : List ℕ} {r : SweepState} {items' groups' : List ℕ}
+    (a : Recorded text gs startState items groups r items' groups') where
+  pub all-groups-count : r .groups ≡ length gs
+  all-groups-count = let x = a .group-count in omega arith
+
+  pub all-items-count : r .items ≡ itemCount gs
+  all-items-count = let x = a .item-count in omega arith
+
+  -- all records fitted exactly where they fit
+  pub all-fitted : r .fits ≡ recordsFit (itemCount gs) (length gs) (length items) (length groups)
+  all-fitted = a .fitted ∙ rw (all-items-count, all-groups-count)
+
+  pub all-item-rows : r .fits ≡ true → items' ≡ written (itemRows gs) items
+  all-item-rows h = a .item-rows h ∙ written-front (itemRows gs) items
+
+  pub all-group-rows : r .fits ≡ true → groups' ≡ written (groupRows 0 (sweptFrom text false 0 gs)) groups
+  all-group-rows h = a .group-rows h ∙ written-front (groupRows 0 (sweptFrom text false 0 gs)) groups
+
+  -- 3 bytes an item
+  pub all-items-by : {n m : ℕ} → Counted text r n m → 3 * itemCount gs ≤ length text
+  all-items-by c =
+      let x = all-items-count in
+      let y = c .items-by in
+      let z = c .at-by in
+      omega arith
+
+  pub all-groups-by : {n m : ℕ} → Counted text r n m → length gs ≤ length text
+  all-groups-by c =
+      let x = all-groups-count in
+      let y = c .groups-by in
+      let z = c .at-by in
+      omega arith
+
+-- what a next sweep asks of the state that one left
+pub swept-counted : {text : List ℕ} {note : ℕ} {index : List ℕ} {s : SweepState} {items groups : List ℕ} {r : SweepState} {items' groups' : List ℕ}
+    → SweptTo text note index s items groups r items' groups' → Counted text r (length items') (length groups')
+swept-counted a = rw (a .records .item-area, a .records .group-area) (a .counted)
+
+-- Two sweeps: the first with the index and the note as they were lent, the second, from where it stopped, with those after the build, if
+-- one was wanted. They record the groups of the sweep as run.
+pub swept-whole : (text : List ℕ) (l : Lent) {items groups : List ℕ} {r : SweepState} {items' groups' : List ℕ} {t : SweepState} {items'' groups'' : List ℕ}
+    → SweptTo text (l .note) (l .index) startState items groups r items' groups'
+    → SweptTo text (lentAfter (r .wants) text l .note) (lentAfter (r .wants) text l .index) r items' groups' t items'' groups''
+    → Recorded text (sweepRun text l .groups) startState items groups t items'' groups''
+unfolding goneOn
+swept-whole text l {items} {groups} {r} {items'} {groups'} {t} {items''} {groups''} a b =
+    let s = stopFrom text (l .note) (l .index) 0 in
+    let u = stopFrom text (lentAfter (r .wants) text l .note) (lentAfter (r .wants) text l .index) (r .at) in
+    let e : sweepRun text l .groups ≡ s .groups ++ u .groups = ap (λ (x : Swept). x .groups) (sweep-in-two text l) ∙ rw (a .stands, a .builds) in
+    rw e (recorded-both text (s .groups) (u .groups) startState r t items groups items' groups' items'' groups'' (a .records) (b .records))
+
+-- and leave what the sweep as run leaves
+pub swept-lent : (text : List ℕ) (l : Lent) {items groups : List ℕ} {r : SweepState} {items' groups' : List ℕ}
+    → SweptTo text (l .note) (l .index) startState items groups r items' groups' → sweepRun text l .lent ≡ lentAfter (r .wants) text l
+unfolding goneOn
+swept-lent text l a = ap (λ (x : Swept). x .lent) (sweep-in-two text l) ∙ rw (a .builds)
