@@ -17,14 +17,11 @@ use Rattle.numbering.specs.declared.Numbering.{Numbering}
 use Rattle.numbering.specs.declared.uses.Count.{Count}
 use Rattle.numbering.specs.Records.{keyIn, suppressedIn, definitionIn}
 use Rattle.numbering.specs.Numbers.{setLast, Numbered, labelIn, citeAs, citeIn}
-use Rattle.numbering.specs.Progress.{Counts, roomOf, Agrees, Holds, Advances}
+use Rattle.numbering.specs.Progress.{Counts, roomOf, state, Agrees, Holds, Advances}
 
 -- two truths that cannot both be
 pub differ : true ≡ false → ⊥
 differ e = let z : _≡_ {A = ℕ} 0 1 = cc in omega arith
-
-abbrev pub state : Bool → ℕ → ℕ → Numbering
-state fits sources label-bytes = record { fits = fits; sources = sources; «label_bytes» = label-bytes }
 
 -- labels that do not fit still do not with more of them
 pub full-more : (t u : Numbered) (room : ℕ) {before before′ items groups labels items′ groups′ labels′ : List ℕ} {s r : Numbering}
@@ -123,10 +120,10 @@ module _ (text : List ℕ) (mode : ℕ) (pool : List ℕ) (n k : ℕ) where
       same-long : length (back labels (s .«label_bytes») p) ≡ length labels
       same-long = back-length labels p (labelOf items groups (c .number)) (s .«label_bytes») (omega arith) w
 
-      pub cite-over : roomOf labels - s .«label_bytes» < len
+      over : roomOf labels - s .«label_bytes» < len
           → Advances 1 (λ t. citeIn text mode pool n t k) s (state false (s .sources) (s .«label_bytes»))
           items groups labels items groups (back labels (s .«label_bytes») p)
-      cite-over l = record {
+      over l = record {
         holds = λ t before x.
             let y = longer t before (x .agrees (not-false (s .fits) o)) in
             record {
@@ -167,11 +164,11 @@ module _ (text : List ℕ) (mode : ℕ) (pool : List ℕ) (n k : ℕ) where
           rw (← label-is t before a)
           (written-after before labels (t .labels) (labelOf items groups (c .number)) p (s .«label_bytes») (a .label-area) (a .label-bytes) (room-there l t before a) u)
 
-      pub cite-done : {items′ : List ℕ} → len ≤ roomOf labels - s .«label_bytes»
+      done : {items′ : List ℕ} → len ≤ roomOf labels - s .«label_bytes»
           → items′ ≡ setLast items k (c .number) (c .use_index) (s .«label_bytes») len
           → Advances 1 (λ t. citeIn text mode pool n t k) s (state true (c .sources) (s .«label_bytes» + len))
           items groups labels items′ groups (back labels (s .«label_bytes») p)
-      cite-done l i = record {
+      done l i = record {
         holds = λ t before x.
             let a = x .agrees (not-false (s .fits) o) in
             let y = longer t before a in
@@ -191,4 +188,11 @@ module _ (text : List ℕ) (mode : ℕ) (pool : List ℕ) (n k : ℕ) where
         long = same-long;
       }
 
-pub ruleset cite-laws = (cite-full, cite-over, cite-done)
+      pub cite-over : {r : Numbering} → r ≡ state false (s .sources) (s .«label_bytes») → roomOf labels - s .«label_bytes» < len
+          → Advances 1 (λ t. citeIn text mode pool n t k) s r items groups labels items groups (back labels (s .«label_bytes») p)
+      cite-over v l = rw v (over l)
+
+      pub cite-done : {r : Numbering} {items′ : List ℕ} → r ≡ state true (c .sources) (s .«label_bytes» + len)
+          → len ≤ roomOf labels - s .«label_bytes» → items′ ≡ setLast items k (c .number) (c .use_index) (s .«label_bytes») len
+          → Advances 1 (λ t. citeIn text mode pool n t k) s r items groups labels items′ groups (back labels (s .«label_bytes») p)
+      cite-done v l i = rw v (done l i)

@@ -11,9 +11,9 @@ use Rattle.source.proofs.WriteLaws.{written-none}
 use Rattle.numbering.specs.declared.Numbering.{Numbering}
 use Rattle.numbering.specs.Records.{groupField}
 use Rattle.numbering.specs.Numbers.{Numbered, citeIn, citeFrom, standsNumbered, isNumbered, numberGroup, numberFrom, numberAll, definedFrom}
-use Rattle.numbering.specs.Progress.{keysDefined, roomOf, Holds, Advances}
+use Rattle.numbering.specs.Progress.{keysDefined, roomOf, state, Holds, Advances}
 use Rattle.numbering.proofs.GroupLaws.{keys-are}
-use Rattle.numbering.proofs.CiteLaws.{state, full-more, none-yet, then, as-step, cite-grows}
+use Rattle.numbering.proofs.CiteLaws.{full-more, none-yet, then, as-step, cite-grows}
 
 module _ (text : List ℕ) (mode : ℕ) (pool : List ℕ) (n : ℕ) where
   -- the items of a group ----------------------------------------------------------------------------------------------------------

@@ -33,6 +33,9 @@ keysDefined text pool groups items n (suc m) k =
 abbrev pub roomOf : List ℕ → ℕ
 roomOf labels = min 65535 (length labels)
 
+abbrev pub state : Bool → ℕ → ℕ → Numbering
+state fits sources label-bytes = record { fits = fits; sources = sources; «label_bytes» = label-bytes }
+
 -- The areas have what `t` says, its labels at the front of an area that held `before`.
 pub record Agrees (t : Numbered) (before : List ℕ) (s : Numbering) (items groups labels : List ℕ) : Type 0 where
   pub sources : s .sources ≡ t .sources

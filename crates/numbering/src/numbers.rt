@@ -14,7 +14,7 @@ ghost use Rattle.label.specs.Labels.{labelText};
 ghost use Rattle.label.specs.Areas.{fitted};
 ghost use Rattle.numbering.specs.Records.{keyIn, suppressedIn, definitionIn};
 ghost use Rattle.numbering.specs.Numbers.{citeIn, citeFrom, numberGroup};
-ghost use Rattle.numbering.specs.Progress.{keyDefined, keysDefined, roomOf, Advances};
+ghost use Rattle.numbering.specs.Progress.{keyDefined, keysDefined, roomOf, state, Advances};
 
 // Whether the key of item record `k` is defined.
 fn is_defined(text: &[u8], pool: &[u8], groups: &[u16], items: &[u16], n: usize, k: usize) -> bool
@@ -101,10 +101,22 @@ fn label_in<'a>(
     label::write_label(text, pool, mode, suppressed, number, author, year, out)
 }
 
+// The lesser of two numbers.
 fn least(a: usize, b: usize) -> usize
     ensures { λ r. ⌜ r ≡ min a b ⌝ }
 {
     if a <= b { a } else { b }
+}
+
+// A state of the numbering.
+fn reached(fits: bool, sources: usize, bytes: usize) -> Numbering
+    ensures { λ r. ⌜ r ≡ state fits sources bytes ⌝ }
+{
+    Numbering {
+        fits,
+        sources,
+        label_bytes: bytes,
+    }
 }
 
 // Item record `k` with its number, its use and its label. Where the labels do not fit any more, the areas may hold anything.
@@ -142,18 +154,10 @@ fn cite<'a>(
         &mut labels[at..],
     );
     if left < len {
-        return Numbering {
-            fits: false,
-            sources: s.sources,
-            label_bytes: at,
-        };
+        return reached(false, s.sources, at);
     }
     uses::set_last(items, k, number, c.use_index, at as u16, len as u16);
-    Numbering {
-        fits: true,
-        sources: c.sources,
-        label_bytes: at + len,
-    }
+    reached(true, c.sources, at + len)
 }
 
 // The `count` item records from `first` on, so.

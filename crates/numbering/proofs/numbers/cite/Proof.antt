@@ -1,4 +1,5 @@
 -- `numbering::numbers::cite` meets its contract. Assumes nothing.
+use native.Mathlib.Omega.{arith}
 use borrow.Author.Needs.{needs}
 use Rattle.numbering.proofs.CiteLaws.{cite-full, cite-over, cite-done}
 use Rattle.numbering.proofs.numbers.cite.Statement.{statement}
@@ -16,13 +17,25 @@ cite-spec =
     (λ c. search needs)
     (λ c. search needs)
     (λ c κs. search needs)
+    (λ c κs. search needs)
     (λ c. search needs)
     (λ c. search needs)
-    (λ c. cite-over _ _ _ _ _ _ _ _ _ (search needs) (search needs) (c .before .before .before .before .before .before .count-in .ensures) (c .before .before .before .label-in .ensures .0) (c .before .before .before .label-in .ensures .1) (search needs))
+    (λ c.
+    cite-over _ _ _ _ _ _ _ _ _ (search needs) (search needs)
+    (c .before .before .before .before .before .before .before .count-in .ensures)
+    (c .before .before .before .before .label-in .ensures .0)
+    (c .before .before .before .before .label-in .ensures .1)
+    (c .reached .ensures) (search needs))
     (λ c. search needs)
     (λ c. search needs)
     (λ c κs. search needs)
     (λ c. search needs)
+    (λ c κs. search needs)
     (λ c. search needs)
     (λ c. search needs)
-    (λ c. cite-done _ _ _ _ _ _ _ _ _ (search needs) (search needs) (c .before .before .before .before .before .before .before .before .before .before .count-in .ensures) (c .before .before .before .before .before .before .before .label-in .ensures .0) (c .before .before .before .before .before .before .before .label-in .ensures .1) (search needs) (c .before .before .set-last .ensures)))
+    (λ c.
+    cite-done _ _ _ _ _ _ _ _ _ (search needs) (c .before .before .before .before .before .before .before .before .before .before .before .before .before .before .before .before .before .before .before .before .pre .4)
+    (c .before .before .before .before .before .before .before .before .before .before .before .count-in .ensures)
+    (c .before .before .before .before .before .before .before .before .label-in .ensures .0)
+    (c .before .before .before .before .before .before .before .before .label-in .ensures .1)
+    (c .reached2 .ensures) (omega (arith, c .before .before .before .before .before .before .before .before .before .before .before .before .before .least .ensures, c .before .before .before .before .before .if2 .left)) (c .before .before .before .set-last .ensures)))
