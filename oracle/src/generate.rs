@@ -43,7 +43,12 @@ fn turn(random: &mut Random, kind: &str) -> Option<Vec<Request>> {
     Some(match kind {
         "lookup" => look_ups(random),
         "annotate" => {
-            let text = if random.below(3) == 0 { texts::text(random) } else { texts::prose(random) };
+            let text = match random.below(600) {
+                0 => texts::large(random),
+                1 => texts::labelled(random),
+                2..=200 => texts::text(random),
+                _ => texts::prose(random),
+            };
             annotations(random, text)
         }
         "large" => {
@@ -263,17 +268,22 @@ fn refused(random: &mut Random, text: String) -> Vec<u8> {
     bytes
 }
 
-// A text, perhaps a look-up that leaves an index, then the annotation over it and by the unlimited scan.
+// A text, perhaps with its index built beforehand, then annotations in either mode with and without a pool, each also by the unlimited scan.
 fn annotations(random: &mut Random, text: String) -> Vec<Request> {
-    let places = texts::brackets(&text);
-    let mut out = vec![Request::Text(text.into_bytes())];
-    if !places.is_empty() && random.below(2) == 0 {
-        out.push(Request::LookUp(random.of(&places)));
+    let bytes = match random.below(200) {
+        0 => refused(random, text),
+        _ => text.into_bytes(),
+    };
+    let built = random.below(3) == 0 && text_refusal(&bytes) == 0;
+    let mut out = vec![Request::Text(bytes)];
+    if built {
+        out.push(Request::Build);
     }
-    let mode = random.below(2);
-    let pool = if random.below(2) == 0 { Vec::new() } else { pools::pool(random) };
-    out.push(Request::Annotate(mode, pool.clone()));
-    out.push(Request::Plain(mode, pool));
+    for _ in 0..1 + random.below(3) {
+        let mode = if random.below(50) == 0 { random.of(&[2, 3, 255]) } else { random.below(2) };
+        let pool = if random.below(2) == 0 { Vec::new() } else { pools::pool(random) };
+        out.extend([Request::Annotate(mode, pool.clone()), Request::Plain(mode, pool)]);
+    }
     out
 }
 

@@ -1,11 +1,12 @@
 //! The stored list of requests with their answers. crates/replay reads it; docs/DIFFERENCES.md has the layout of each kind.
 
 use crate::answers::Session;
+use crate::citations::probe::{Annotated, Record};
 use crate::generate;
 use crate::protocol::Request;
 
 /// The kinds: number in the list, name, seed, how many turns.
-const KINDS: [(u8, &str, u64, usize); 11] = [
+const KINDS: [(u8, &str, u64, usize); 12] = [
     (1, "utf8", 1, 800),
     (2, "escaped", 2, 700),
     (3, "key", 3, 1000),
@@ -17,9 +18,10 @@ const KINDS: [(u8, &str, u64, usize); 11] = [
     (9, "pool", 9, 8),
     (10, "source", 10, 120),
     (11, "lookup", 11, 400),
+    (12, "annotate", 12, 130),
 ];
 /// A record lies within one block, and the rest of a block is filled with zeros.
-const BLOCK: usize = 262_144;
+const BLOCK: usize = 1_048_576;
 
 /// Hands each record to `take`, with other seeds and so many times as many turns where asked for: the number of its kind, its
 /// requests, its body.
@@ -126,20 +128,42 @@ fn text_body(turn: &[Request], session: &mut Session) -> Vec<u8> {
     out
 }
 
-// A look-up: place, number, close, item count, note, and twelve numbers a record, whose last four are 0.
+// A call on the text; none for a request that is no call.
 fn call(request: &Request, given: usize, session: &Session) -> Option<Vec<u8>> {
+    let note = |note| if note == 1 { 1 } else { given };
     let mut out = Vec::new();
-    if let Request::LookUp(at) = request {
-        let answer = session.look_up(*at, false);
-        let note = if answer.note == 1 { 1 } else { given };
-        put(&mut out, [(*at).min(65_535), answer.number, answer.close, answer.items.len(), note]);
-        for item in answer.items {
-            assert_eq!(item[12..], [0; 4]);
-            put(&mut out, item[..12].iter().copied());
+    match request {
+        Request::LookUp(at) => {
+            let answer = session.look_up(*at, false);
+            put(&mut out, [(*at).min(65_535), answer.number, answer.close, answer.items.len(), note(answer.note)]);
+            put_found(&mut out, &answer.items);
         }
-        return Some(out);
+        Request::Annotate(mode, pool) => {
+            let answer = session.annotate(*mode, pool, false);
+            put(&mut out, [*mode, pool.len(), answer.number]);
+            put_annotated(&mut out, &answer.answer, note(answer.note));
+            out.extend(pool);
+        }
+        _ => return None,
     }
-    None
+    Some(out)
+}
+
+// Twelve numbers a record, whose last four are 0.
+fn put_found(out: &mut Vec<u8>, items: &[Record]) {
+    for item in items {
+        assert_eq!(item[12..], [0; 4]);
+        put(out, item[..12].iter().copied());
+    }
+}
+
+// The counts of groups, items, sources and label bytes, the note, then those.
+fn put_annotated(out: &mut Vec<u8>, answer: &Annotated, note: usize) {
+    put(out, [answer.groups.len(), answer.items.len(), answer.references.len(), answer.labels.len(), note]);
+    put(out, answer.groups.concat());
+    put(out, answer.items.concat());
+    put(out, answer.references.iter().copied());
+    out.extend(&answer.labels);
 }
 
 // What the index area holds before the first call: the place of the text's last close, so that it looks like an entry.

@@ -1,1 +1,2 @@
 pub mod LongLocal
+pub mod Records

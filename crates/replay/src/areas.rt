@@ -19,6 +19,18 @@ pub fn fill(area: &mut [u16], n: usize, value: u16) {
     }
 }
 
+// The same for bytes.
+pub fn fill_bytes(area: &mut [u8], n: usize, value: u8) {
+    let mut i: usize = 0;
+    while i < area.len() {
+        if n <= i {
+            return;
+        }
+        area[i] = value;
+        i += 1;
+    }
+}
+
 // Whether `value` stands at every place from `at` on.
 pub fn is_filled(area: &[u16], at: usize, value: u16) -> bool {
     let mut i = at;

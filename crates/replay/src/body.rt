@@ -43,6 +43,21 @@ pub fn after(body: &[u8], n: usize) -> &[u8] {
     }
 }
 
+// The first `n` bytes, or all where there are fewer.
+pub fn before(body: &[u8], n: usize) -> &[u8] {
+    let start: usize = 0;
+    if n <= body.len() {
+        &body[start..n]
+    } else {
+        body
+    }
+}
+
+// The byte at `at`; 0 past the end.
+pub fn byte(body: &[u8], at: usize) -> u8 {
+    if at < body.len() { body[at] } else { 0 }
+}
+
 // 1 for true, 0 for false.
 pub fn flag(b: bool) -> usize {
     if b { 1 } else { 0 }

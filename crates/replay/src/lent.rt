@@ -1,8 +1,12 @@
 // The calls that are lent bracket records, with the records in a local array: whoever calls these needs no walk of its MIR.
+use annotation::Annotation;
 use index::Bracket;
 use lookup::LookUp;
 ghost use mathlib.Core.Path.{_≡_};
 ghost use lib.ListN.{replicate};
+ghost use Rattle.annotation.specs.Call.{annotateRun};
+ghost use Rattle.annotation.specs.Halves.{areas};
+ghost use Rattle.annotation.specs.Values.{annotationValues, annotationNumbers};
 ghost use Rattle.index.specs.Built.{blank};
 ghost use Rattle.lookup.specs.LookUps.{lookUpRun};
 ghost use Rattle.lookup.specs.Values.{lookUpValues, lookUpNumbers};
@@ -19,4 +23,40 @@ pub fn look_up(text: &[u8], at: usize, note: u8, index: &mut [u16], items: &mut 
     };
     let mut records = [b; 65535];
     calls::look_up(text, at, note, index, &mut records, items)
+}
+
+// The annotation call with as many bracket records as any text needs.
+pub fn annotate<'a>(
+    text: &'a [u8],
+    mode: u8,
+    pool: &'a [u8],
+    note: u8,
+    index: &mut [u16],
+    items: &mut [u16],
+    groups: &mut [u16],
+    references: &mut [u16],
+    labels: &mut [u8],
+) -> Annotation
+    ensures { λ r. let given = areas (now (items .entry)) (now (groups .entry)) (now (references .entry)) (now (labels .entry)) in
+        ⌜ annotationValues r ≡ annotationNumbers (annotateRun (now (text .entry)) mode (now (pool .entry)) note (now (index .entry)) (replicate 65535 blank) given) ⌝ }
+{
+    let b = Bracket {
+        place: 0,
+        seen: 0,
+        good: 0,
+        bad: 0,
+    };
+    let mut records = [b; 65535];
+    calls::annotate(
+        text,
+        mode,
+        pool,
+        note,
+        index,
+        &mut records,
+        items,
+        groups,
+        references,
+        labels,
+    )
 }

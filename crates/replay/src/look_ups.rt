@@ -3,6 +3,7 @@ use crate::areas::fill;
 use crate::areas::has_numbers;
 use crate::areas::is_filled;
 use crate::body::after;
+use crate::body::byte;
 use crate::body::length;
 use crate::body::number;
 use crate::lent;
@@ -34,10 +35,7 @@ pub fn text_of(body: &[u8]) -> &[u8] {
 
 // The note that the first call is given.
 pub fn first_note(body: &[u8]) -> u8 {
-    if body.len() < 4 {
-        return 0;
-    }
-    body[3]
+    byte(body, 3)
 }
 
 // What the index area holds before the first call.

@@ -1,5 +1,6 @@
 // Replays the Rust's stored answers, data/answers, against the proved functions, and says for each kind how many agree.
 // docs/DIFFERENCES.md says how the list was made and how it is laid out.
+mod annotations;
 mod areas;
 mod body;
 mod leaves;
@@ -86,6 +87,9 @@ fn agrees(kind: u8, body: &[u8]) -> bool {
     if kind == 11 {
         return look_ups::look_ups_agree(body);
     }
+    if kind == 12 {
+        return annotations::annotations_agree(body);
+    }
     false
 }
 
@@ -129,10 +133,10 @@ fn replay_block(t: Tally, kind: u8, block: &[u8]) -> Tally {
 }
 
 // Zeros for a block of the list.
-fn block() -> [u8; 262144]
-    ensures { λ r. ⌜ 262144 ≡ length r ⌝ }
+fn block() -> [u8; 1048576]
+    ensures { λ r. ⌜ 1048576 ≡ length r ⌝ }
 {
-    [0; 262144]
+    [0; 1048576]
 }
 
 // The tally with the next block of the list.
@@ -204,4 +208,5 @@ fn main() {
     replay(b"pool", 9);
     replay(b"source", 10);
     replay(b"lookup", 11);
+    replay(b"annotate", 12);
 }

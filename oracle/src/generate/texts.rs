@@ -114,13 +114,30 @@ fn nested(random: &mut Random) -> String {
     text
 }
 
+// Words of attributes between white space, mostly an author and a year.
+fn attributes(random: &mut Random) -> String {
+    const AUTHORS: [&str; 14] =
+        ["Ant", "\"Bee\"", "'C'", "", "\"Le Guin\"", "'\"d\"'", "\"'e'\"", "a=b", "\"", "Ant", "Zoë", "b", "\u{a0}", "ant\\"];
+    const OTHERS: [&str; 10] = ["word", "x=1", "=x", "=", "author", "year", "Author=N", "\"x=1", "author =", "[c]"];
+    let mut words = Vec::new();
+    for _ in 0..random.below(4) {
+        words.push(match random.below(5) {
+            0 | 1 => format!("author={}", random.of(&AUTHORS)),
+            2 | 3 => format!("year={}", random.of(&["1999", "", "\"7\"", "n.d.", "'2001a'", "-44"])),
+            _ => random.of(&OTHERS).to_string(),
+        });
+    }
+    let between = if random.below(4) == 0 { space(random) + " " } else { " ".to_string() };
+    format!("{}{}{}", space(random), words.join(&between), space(random))
+}
+
 fn definition(random: &mut Random) -> String {
-    let mut text =
-        format!("{}{}]{}", random.of(&["[@", "[@", "[+@", "[-@", "[ @"]), random.of(&KEYS), random.of(&[": ", ": ", ":   ", ":", ":\t"]));
+    let start = random.of(&["[@", "[@", "[@", "[@", "[+@", "[-@", "[ @", "[x @"]);
+    let after = random.of(&[": ", ": ", ": ", ":   ", ":", ":\t", " : ", ":\u{a0}"]);
+    let mut text = format!("{start}{}{}]{after}", random.of(&KEYS), random.of(&["", "", "", ",", ",x"]));
     if random.below(2) == 0 {
-        let author = random.of(&["author=Ant", "author=\"Bee\"", "author='C'", "author=", "author=\"Le Guin\"", "word"]);
-        let year = random.of(&["year=1999", "year=", "year=\u{2003}7", "x=1", ""]);
-        text.push_str(&format!("{{{author} {year}}}"));
+        let close = random.of(&["}", "}", "}", "}}", "", "\\}", " [@a]}"]);
+        text.push_str(&format!("{{{}{close}", attributes(random)));
     }
     text.push_str(random.of(&["", " Title.", " see [@a].", "x}"]));
     text
@@ -182,6 +199,12 @@ pub fn prose(random: &mut Random) -> String {
         lines.insert(random.below(lines.len() + 1), line);
     }
     lines.join("\n")
+}
+
+/// A text whose labels by author have 65,535 bytes, or a few less or more.
+pub fn labelled(random: &mut Random) -> String {
+    let (uses, length) = random.of(&[(255, 257), (257, 255), (256, 256), (254, 258), (51, 1285), (64, 1024), (65, 1008)]);
+    format!("[@a]: {{author={}}}\n{}", "x".repeat(length), "[@a] ".repeat(uses))
 }
 
 /// A text of up to 65,535 bytes.

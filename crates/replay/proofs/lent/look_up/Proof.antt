@@ -38,7 +38,6 @@ use denote.Triple.Statement.{Triple}
 use denote.Triple.Table.{entered, cited}
 use denote.Triple.Walked.{says, Stays, stay-none, stay-none-slice, gave-slice, walkOf, goes-none, goes-none-slice, goes-gave-slice, Walks, ends-at, walked, walk-meets}
 use denote.Exit.{yes}
-use Rattle.index.specs.declared.Bracket.{Bracket}
 use Rattle.index.specs.Built.{blank}
 use Rattle.index.proofs.Bracket as T
 use Rattle.index.proofs.Bracket.Laws as T′
@@ -55,6 +54,7 @@ use Rattle.calls.proofs.look_up.Symbol as called-def
 use Rattle.calls.proofs.look_up.Symbol.{name as #calls·look-up}
 use Rattle.calls.proofs.look_up.Met as called-thm
 use Rattle.replay.proofs.LongLocal.{lends-long, big-lit}
+use Rattle.replay.proofs.Records.{rows, bracket, is-blank}
 use Rattle.replay.proofs.lent.look_up.Key.{name as #lent·look-up}
 use Rattle.replay.proofs.lent.look_up as f
 use Rattle.replay.proofs.lent.look_up.Statement as stated
@@ -62,16 +62,6 @@ use Rattle.replay.proofs.lent.look_up.Code as code
 
 abbrev stayed : Stays (f.ended .signature .params) (f.ended .kept)
 stayed = (stay-none-slice (0 ∷ []) tt (plain (λ _. u8)) yes, (stay-none (λ _. usize) yes, (stay-none (λ _. u8) yes, (gave-slice (1 ∷ []) tt (plain (λ _. u16)), (gave-slice (2 ∷ []) tt (plain (λ _. u16)), tt)))))
-
--- the local array
-abbrev rows : List Bracket
-rows = replicate 65535 blank
-
-abbrev bracket : Bracket → Val
-bracket h = LL.val T.the-type T′.the-laws h
-
-is-blank : Is T.the-row blank (bracket blank ∷ [])
-is-blank = LL.owes T.the-type T′.the-laws blank ((refl, lit< tt), ((refl, lit< tt), ((refl, lit< tt), ((refl, lit< tt), tt))))
 
 module _ {M : Type 1} (𝓤 : URA M) (H : Heap 𝓤) (A : Atoms 𝓤) (W : Given 𝓤 H A) (mem : Memory → SProp 𝓤) (run : Routine → Fun 𝓤)
     (κ₀ κ₁ κ₂ : Lft) (q₀ q₁ q₂ : Share) (b₀ o₀ b₁ o₁ b₂ o₂ : ℕ) (γ₀ γ₁ γ₂ : GName) (ts is js : List ℕ) (at note : ℕ) where
