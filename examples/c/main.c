@@ -27,7 +27,7 @@ static size_t room; /* item records that the text can need */
 /* An area of n elements; never null, even for n = 0. */
 static void *area(size_t n, size_t element)
 {
-    void *p = calloc(n + 1, element);
+    void *p = calloc(n == 0 ? 1 : n, element);
     if (p == NULL) {
         fputs("no memory\n", stderr);
         exit(2);
