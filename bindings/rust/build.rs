@@ -1,0 +1,28 @@
+//! Finds libexports.a, the proved library: in the folder CITATIONS_LIB_DIR where that is set, else in the repository's target/staticlib.
+
+use std::env;
+use std::path::PathBuf;
+
+fn main() {
+    println!("cargo:rerun-if-env-changed=CITATIONS_LIB_DIR");
+    println!("cargo:rerun-if-changed=build.rs");
+    let folder = match env::var_os("CITATIONS_LIB_DIR") {
+        Some(folder) => PathBuf::from(folder),
+        None => PathBuf::from(env::var_os("CARGO_MANIFEST_DIR").unwrap()).join("../../target/staticlib"),
+    };
+    let archive = folder.join("libexports.a");
+    println!("cargo:rerun-if-changed={}", archive.display());
+    let Ok(folder) = folder.canonicalize() else { missing(&archive) };
+    if !archive.is_file() {
+        missing(&archive);
+    }
+    println!("cargo:rustc-link-search=native={}", folder.display());
+    println!("cargo:rustc-link-lib=static=exports");
+}
+
+fn missing(archive: &std::path::Path) -> ! {
+    eprintln!("citations: the proved library is missing: no file {}", archive.display());
+    eprintln!("citations: write it with `rt staticlib exports` in the repository's root,");
+    eprintln!("citations: or set CITATIONS_LIB_DIR to the folder (an absolute path) that holds libexports.a.");
+    std::process::exit(1)
+}

@@ -1,0 +1,140 @@
+//! The five calls over lent slices.
+
+use crate::ffi;
+use crate::{Bracket, Locator, Refusal, Refused};
+
+/// What an accepted look-up answers.
+#[derive(Clone, Copy, Debug, PartialEq, Eq)]
+pub struct LookedUp {
+    /// The place of the group's `]`.
+    pub close: usize,
+    /// How many items the group has; so many records stand at the front of `items`.
+    pub items: usize,
+    /// The note for the next call on the text.
+    pub note: u8,
+}
+
+/// What an accepted annotation answers.
+#[derive(Clone, Copy, Debug, PartialEq, Eq)]
+pub struct AnnotationCounts {
+    /// How many groups the text has; so many records stand at the front of `groups`.
+    pub groups: usize,
+    /// How many items they have; so many records stand at the front of `items`.
+    pub items: usize,
+    /// How many sources are numbered; so many numbers stand at the front of `references`, in reference order.
+    pub sources: usize,
+    /// How many bytes the labels have, at the front of `labels`.
+    pub label_bytes: usize,
+    /// The note for the next call on the text.
+    pub note: u8,
+}
+
+/// The group at the bracket at `at`: its close and its items, whose records stand at the front of `items`
+/// ([`item_records`](crate::item_records)).
+///
+/// Refusals, in this order: 1, 2, 3, 4, 9, 5, 10.
+///
+/// ```
+/// use citations::{item_records, look_up, Bracket, NOT_BUILT};
+///
+/// let text = b"[x -@a, p. 3]";
+/// let (mut index, mut records, mut items) = ([0; 13], [Bracket::default(); 13], [0; 32]);
+/// let found = look_up(text, 0, NOT_BUILT, &mut index, &mut records, &mut items)?;
+/// assert_eq!((found.close, found.items), (12, 1));
+/// let item = item_records(&items[..16]).next().unwrap();
+/// assert_eq!(item.key().of(text), b"a");
+/// # Ok::<(), citations::Refused>(())
+/// ```
+pub fn look_up(
+    text: &[u8],
+    at: usize,
+    note: u8,
+    index: &mut [u16],
+    records: &mut [Bracket],
+    items: &mut [u16],
+) -> Result<LookedUp, Refused> {
+    let [number, close, items, note] = ffi::look_up(text, at, note, index, records, items);
+    let note = note as u8;
+    match Refusal::of(number) {
+        None => Ok(LookedUp { close: close as usize, items: items as usize, note }),
+        Some(refusal) => Err(Refused { refusal, note }),
+    }
+}
+
+/// All groups of the text, with numbers, uses, labels and the order of the sources, at the front of the last four areas.
+///
+/// Mode 0 labels by number, mode 1 by author and year ([`Mode`](crate::Mode)). An empty pool is no pool.
+///
+/// Refusals, in this order: 1, 2, 6, 7, 9, 10; 10 fills the last four areas with zeros.
+#[allow(clippy::too_many_arguments)] // the library's own parameters, in its order
+pub fn annotate(
+    text: &[u8],
+    mode: u8,
+    pool: &[u8],
+    note: u8,
+    index: &mut [u16],
+    records: &mut [Bracket],
+    items: &mut [u16],
+    groups: &mut [u16],
+    references: &mut [u16],
+    labels: &mut [u8],
+) -> Result<AnnotationCounts, Refused> {
+    let [number, groups, items, sources, label_bytes, note] =
+        ffi::annotate(text, mode, pool, note, index, records, items, groups, references, labels);
+    let note = note as u8;
+    match Refusal::of(number) {
+        None => Ok(AnnotationCounts {
+            groups: groups as usize,
+            items: items as usize,
+            sources: sources as usize,
+            label_bytes: label_bytes as usize,
+            note,
+        }),
+        Some(refusal) => Err(Refused { refusal, note }),
+    }
+}
+
+/// How many item records any look-up or annotation of the text needs at most; no more groups and no more sources are there either.
+///
+/// Refusals, in this order: 1, 2.
+pub fn size(text: &[u8]) -> Result<usize, Refusal> {
+    let [number, records] = ffi::size(text);
+    match Refusal::of(number) {
+        None => Ok(records as usize),
+        Some(refusal) => Err(refusal),
+    }
+}
+
+/// The locator that the whole text is, as it would stand after a key and its comma.
+///
+/// Refusals, in this order: 1, 2.
+///
+/// ```
+/// use citations::{locator, LocatorLabel};
+///
+/// let text = b"PP. 3-5, see";
+/// let found = locator(text)?;
+/// assert_eq!(found.label(), Some(LocatorLabel::Page));
+/// assert_eq!(found.value().unwrap().of(text), b"3-5");
+/// assert_eq!(found.suffix().unwrap().of(text), b"see");
+/// # Ok::<(), citations::Refusal>(())
+/// ```
+pub fn locator(text: &[u8]) -> Result<Locator, Refusal> {
+    let [number, code, value, value_length, suffix, suffix_length] = ffi::locator(text);
+    match Refusal::of(number) {
+        // A text's offsets and lengths fit 16 bits.
+        None => Ok(Locator::of(code as u16, [value as u16, value_length as u16], [suffix as u16, suffix_length as u16])),
+        Some(refusal) => Err(refusal),
+    }
+}
+
+/// Writes the text of the pool's entry number `entry`, from 0, at the front of `area`, and answers how many bytes it has.
+///
+/// Refusals, in this order: 7, 8, 10.
+pub fn source_text(pool: &[u8], entry: usize, area: &mut [u8]) -> Result<usize, Refusal> {
+    let [number, bytes] = ffi::source_text(pool, entry, area);
+    match Refusal::of(number) {
+        None => Ok(bytes as usize),
+        Some(refusal) => Err(refusal),
+    }
+}
