@@ -1,12 +1,12 @@
--- `text::trim_start` meets its contract. The loop's invariant: the stretch from `i` begins, trimmed, where the whole does. The measure is what is
+-- `text::first_not_white` meets its contract. The loop's invariant: the stretch from `i` begins, trimmed, where the whole does. The measure is what is
 -- left of the stretch. Assumes nothing.
 use Prim.Native.Nat.{_-_}
 use mathlib.Core.Path.{_≡_}
 use borrow.Author.Needs.{needs}
 use Rattle.text.specs.White.{trimStart}
 use Rattle.text.proofs.Laws.{trim-laws}
-use Rattle.text.proofs.trim_start.Statement.{statement}
-use Rattle.text.proofs.trim_start.Tie as tie
+use Rattle.text.proofs.first_not_white.Statement.{statement}
+use Rattle.text.proofs.first_not_white.Tie as tie
 
 abbrev Inv-loop : tie.InvT-loop
 Inv-loop text a e i₀ i = trimStart text a e ≡ trimStart text i e
@@ -14,8 +14,8 @@ Inv-loop text a e i₀ i = trimStart text a e ≡ trimStart text i e
 abbrev μ-loop : tie.MeasureT-loop
 μ-loop text a e i₀ i = e - i
 
-pub trim-start-spec : {M : Type 1} → statement M
-trim-start-spec =
+pub first-not-white-spec : {M : Type 1} → statement M
+first-not-white-spec =
     tie.close
     (tie.spec
     Inv-loop
