@@ -1,23 +1,16 @@
 // A reader that keeps the text and a position: what stands there, and where the white space from there ends.
-// The borrow checker does not cover a struct that holds a reference: each function here only takes the struct apart, calls a covered function over
-// the slice and puts the struct together, and is proved by a walk of its MIR.
+// The borrow checker does not cover a struct that holds a reference, so each function here is one call of a covered function over the slice, and is
+// proved by a walk of its MIR. Callers use the functions of the crate's root, which take the text and a place.
 ghost use mathlib.Core.Path.{_≡_};
-ghost use Prim.Native.Nat.{_≤_};
+ghost use Prim.Native.Nat.{_≤_, _<_};
 ghost use lib.ListN.{length};
 ghost use Rattle.text.specs.Escape.{escapedAt};
-ghost use Rattle.text.specs.White.{trimStart, trimEnd};
+ghost use Rattle.text.specs.White.{isWhite, trimStart, trimEnd};
 
 // "Escape and white space are read by a reader that keeps the text and a position."
 pub struct Reader<'a> {
     pub text: &'a [u8],
     pub at: usize,
-}
-
-// The reader of `text` that stands at `at`.
-pub fn reader_at<'a>(text: &'a [u8], at: usize) -> Reader<'a>
-    ensures { λ r. ⌜ (r .text ≡ text .entry) × (r .at ≡ at) ⌝ }
-{
-    Reader { text, at }
 }
 
 // Whether the reader's place is escaped.
@@ -26,6 +19,14 @@ pub fn is_escaped<'a>(r: Reader<'a>) -> bool
     ensures { λ b. ⌜ b ≡ escapedAt (now (r .entry .text)) (r .entry .at) ⌝ }
 {
     crate::odd_slashes(r.text, r.at)
+}
+
+// Whether the byte at the reader's place is part of a White_Space character.
+pub fn is_white<'a>(r: Reader<'a>) -> bool
+    requires { ⌜ r .at < length (now (r .text)) ⌝ }
+    ensures { λ b. ⌜ b ≡ isWhite (now (r .entry .text)) (r .entry .at) ⌝ }
+{
+    crate::is_white_byte(r.text, r.at)
 }
 
 // The reader moved on to the first byte before `end` that is not white, or to `end`.

@@ -1,8 +1,9 @@
 -- What a `Reader` owns, as steps of the calculus of walks. A `&[u8]` is Copy, and so is the struct: what was there stays.
 --     held     of a reader: what its text owns
 --     made     of a text, at a number that fits: what the reader of both owns
+--     moved    of a reader, at such a number: what the reader of its text at that number owns
 -- Assumes `Given`.
-use mathlib.Core.Path.{_≡_, refl}
+use mathlib.Core.Path.{_≡_, refl, ap₂}
 use Prim.Native.Nat.{ℕ, _<_, _^_}
 use mathlib.Core.List.{List, [], _∷_}
 use lib.Dec.{T as Holds}
@@ -16,7 +17,7 @@ use ghost.Atoms.{Atoms}
 use contract.Lifetimes.{Lfts}
 use types.Kit.{Goal, Given, Item, ‵, _⊛_, given, Step, step, _$_, move, drop, use1, split, learn, fjoin}
 use denote.RattleType.{RattleType}
-use denote.Laws.{Is}
+use denote.Laws.{Is, Tells}
 use denote.Plain.{uint-makes}
 use denote.Builtin.{u8, usize}
 use denote.Ref.{RefT, NamedLft}
@@ -54,6 +55,17 @@ Text κ x = ShrSlice (named 0) κ u8 .own x (slice x ∷ [])
 abbrev pub Held : Lft → Reader → Fml
 Held κ d = B (κ, tt) .own d (mach d ∷ [])
 
+pub same-reader : {r : Reader} {x : RefT (List ℕ)} {n : ℕ} → (r .text ≡ x) × (r .at ≡ n) → r ≡ reader x n
+same-reader e = ap₂ reader (e .0) (e .1)
+
+-- the machine value of a reader is told
+pub reader-tells : (κ : Lft) → Tells (B (κ, tt)) (Is (B (κ, tt))) (λ d. mach d ∷ [])
+reader-tells κ = LL.tells (T.the-type (α κ)) (T′.the-laws (α κ))
+
+-- a local that holds a reader has its type at the lifetime `erased`
+pub typed : {M : Type 1} (𝓤 : URA M) (H : Heap 𝓤) (A : Atoms 𝓤) → Given 𝓤 H A → (κ : Lft) (d : Reader) → Is (B (κ, tt)) d (mach d ∷ []) → Holds (hasTy (T′.mir erased) (mach d)) × WT (mach d)
+typed 𝓤 H A W κ d is = LL.lawful (T.the-type (record { mir = erased; lft = κ })) (T′.the-laws (record { mir = erased; lft = κ })) 𝓤 H A W .typed d (mach d ∷ []) is .0
+
 module _ {M : Type 1} {𝓤 : URA M} {H : Heap 𝓤} {A : Atoms 𝓤} {K : Type 0} {W : Given 𝓤 H A} {Γ : List (Item 𝓤)} {G : Goal 𝓤 H} where
   pub held : K → (κ : Lft) (d : Reader) → Step K W (‵ (Text κ (d .text)) ∷ ‵ (Held κ d) ∷ Γ) G (‵ (Held κ d) ∷ Γ) G
   held t κ d = step (λ s.
@@ -67,3 +79,7 @@ module _ {M : Type 1} {𝓤 : URA M} {H : Heap 𝓤} {A : Atoms 𝓤} {K : Type 
       use1 W (‵ (Text κ x) ⊛ ‵ (Text κ x)) (shr-slice-copy 𝓤 H A W (named 0) κ u8 .twice x (slice x ∷ [])) $ split t $
       nothing t $ owned t usize (Is usize) (uint-makes 𝓤 H A W w64) n _ (refl, fits) $ fjoin t $ move t (1 ∷ 0 ∷ []) $ fjoin t $
       use1 W (‵ (Held κ (reader x n))) (own-shut 𝓤 H A W (T.the-type (α κ)) (T′.the-laws (α κ)) (x, (n, tt))) $ s)
+
+module _ {M : Type 1} {𝓤 : URA M} {H : Heap 𝓤} {A : Atoms 𝓤} {K : Type 0} {W : Given 𝓤 H A} {Γ : List (Item 𝓤)} {G : Goal 𝓤 H} where
+  pub moved : K → (κ : Lft) (d : Reader) (n : ℕ) → n < 2 ^ 64 → Step K W (‵ (Held κ (reader (d .text) n)) ∷ ‵ (Held κ d) ∷ Γ) G (‵ (Held κ d) ∷ Γ) G
+  moved t κ d n fits = step (λ s. held t κ d $ made t κ (d .text) n fits $ move t (1 ∷ []) $ drop t $ s)
