@@ -33,7 +33,7 @@ use Rattle.index.specs.Scan.{Both}
 use Rattle.index.proofs.Bracket as T
 use Rattle.pairs.specs.Turn.{Enough, built-when}
 use Rattle.pairs.proofs.Lent.{at-list, lent, back}
-use Rattle.pairs.proofs.Calling.{beside, calls-row, copied, last-list, no-last}
+use Rattle.base.proofs.Calling.{beside, calls-row, copied, last-list, no-last}
 use Rattle.pairs.proofs.count as count
 use Rattle.pairs.proofs.count.Symbol.{name as #pairs·count}
 use Rattle.pairs.proofs.build_when as when

@@ -1,5 +1,4 @@
 pub mod Lent
 pub mod Local
-pub mod Calling
 pub mod Turns
 pub mod Calls

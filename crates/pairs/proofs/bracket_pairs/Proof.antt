@@ -45,7 +45,7 @@ use Rattle.index.proofs.Scan as S
 use Rattle.index.proofs.Scan.Laws as S′
 use Rattle.pairs.specs.Turn.{Ready, Enough, built}
 use Rattle.pairs.proofs.Lent.{at-list, lent, back}
-use Rattle.pairs.proofs.Calling.{calls-row, calls-row-last, copied, last-list, no-last}
+use Rattle.base.proofs.Calling.{calls-row, calls-row-last, copied, last-list, no-last}
 use Rattle.pairs.proofs.Turns.{State, next, below, below-wf, Facts, at-start, ready, less, after, at-end}
 use Rattle.index.proofs.begin as begin
 use Rattle.index.proofs.begin.Symbol as begin-def

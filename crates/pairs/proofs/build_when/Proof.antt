@@ -42,7 +42,7 @@ use Rattle.index.specs.Scan.{Both}
 use Rattle.pairs.specs.Turn.{Enough, built, built-when}
 use Rattle.index.proofs.Bracket as T
 use Rattle.pairs.proofs.Lent.{at-list, lent, back}
-use Rattle.pairs.proofs.Calling.{calls-row-last, copied, last-list, no-last}
+use Rattle.base.proofs.Calling.{calls-row-last, copied, last-list, no-last}
 use Rattle.pairs.proofs.bracket_pairs as pairs
 use Rattle.pairs.proofs.bracket_pairs.Symbol as pairs-def
 use Rattle.pairs.proofs.bracket_pairs.Symbol.{name as #pairs·bracket-pairs}

@@ -48,7 +48,7 @@ use Rattle.index.proofs.Plan as P
 use Rattle.index.proofs.Plan.Laws as P′
 use Rattle.pairs.specs.Turn.{Ready}
 use Rattle.pairs.proofs.Lent.{at-list, lent, back}
-use Rattle.pairs.proofs.Calling.{calls-row, copied, last-list}
+use Rattle.base.proofs.Calling.{calls-row, copied, last-list}
 use Rattle.pairs.proofs.below as below
 use Rattle.pairs.proofs.below.Symbol as below-def
 use Rattle.pairs.proofs.below.Symbol.{name as #pairs·below}

@@ -43,7 +43,7 @@ use Rattle.index.proofs.Bracket as T
 use Rattle.index.proofs.Bracket.Laws as T′
 use Rattle.pairs.proofs.Lent.{at-list}
 use Rattle.pairs.proofs.Local.{local-back}
-use Rattle.pairs.proofs.Calling.{calls-fn, copied, last-list, no-last}
+use Rattle.base.proofs.Calling.{calls-fn, copied, last-list, no-last}
 use Rattle.annotation.specs.declared.Annotation.{Annotation}
 use Rattle.annotation.specs.Call.{AnnotateRan, annotateRun}
 use Rattle.annotation.specs.Halves.{areas}
