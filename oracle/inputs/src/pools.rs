@@ -1,7 +1,7 @@
 //! Made-up pools, whole and damaged.
 
-use super::random::Random;
-use super::texts::KEYS;
+use crate::random::Random;
+use crate::texts::KEYS;
 
 fn field(tag: u8, bytes: &[u8], out: &mut Vec<u8>) {
     out.push(tag);
