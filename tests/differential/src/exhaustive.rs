@@ -26,6 +26,7 @@ pub struct Exhaustive {
 }
 
 const BRACKETS: &[&[u8]] = &[b"[", b"]", b"@", b"a", b";", b",", b"\\", b"-", b"+", b" ", b"\n", b":"];
+const INNER: &[&[u8]] = &[b"@a", b"@", b"-", b"\\", b";", b",", b" ", b"\xC2\xA0", b"x", b"+", b"[", b"]"];
 const NESTING: &[&[u8]] = &[b"[", b"]", b"@a", b";", b",", b"\\"];
 const LOCATORS: &[&[u8]] =
     &[b"p.", b"v.", b"\xC2\xA7", b"\xC2\xB6", b"s", b".", b"3", b"i", b",", b"-", b" ", b"\t", b"\n", b"&", b"\xC2\xA0"];
@@ -52,6 +53,7 @@ impl Exhaustive {
     pub fn new() -> Exhaustive {
         let alphabets = vec![
             alphabet("texts of `[` `]` `@` `a` `;` `,` `\\` `-` `+` space LF `:`", BRACKETS, brackets),
+            alphabet("groups of `@a` `@` `-` `\\` `;` `,` space U+00A0 `x` `+` `[` `]`", INNER, inner),
             alphabet("texts of `[` `]` `@a` `;` `,` `\\` with a bracket behind that builds the index", NESTING, indexed),
             alphabet("locators of `p.` `v.` `§` `¶` `s` `.` `3` `i` `,` `-` space tab LF `&` U+00A0", LOCATORS, locator),
             alphabet("lines of groups, `:` `{` `}` `author=` `year=` and others", LINES, line),
@@ -59,6 +61,11 @@ impl Exhaustive {
             alphabet("pools of the bytes 00 01 02 03 05 06 08 FF", BYTES, pool),
         ];
         Exhaustive { alphabets, turn: AtomicU64::new(0) }
+    }
+
+    /// How many alphabets there are.
+    pub fn alphabets(&self) -> usize {
+        self.alphabets.len()
     }
 
     /// The next cases of the next alphabet.
@@ -143,6 +150,11 @@ fn brackets(text: Vec<u8>, random: &mut Random) -> Case {
     }
     whats.push(annotation(random));
     on_text(random, text, whats)
+}
+
+// The same between a bracket and a close.
+fn inner(row: Vec<u8>, random: &mut Random) -> Case {
+    brackets([b"[".as_slice(), &row, b"]"].concat(), random)
 }
 
 // A bracket behind the text with 64 bytes and no close builds the index; then every bracket is looked up by it.

@@ -69,10 +69,9 @@ fn against_rust(seed: u64, seconds: u64) -> bool {
         let mut turn = 0;
         move || {
             turn += 1;
-            if turn % 2 == 0 {
-                exhaustive.cases()
-            } else {
-                (0..BATCH).map(|_| draw::case(&mut random)).collect()
+            match turn % (1 + exhaustive.alphabets()) {
+                0 => (0..BATCH).map(|_| draw::case(&mut random)).collect(),
+                _ => exhaustive.cases(),
             }
         }
     };

@@ -1,6 +1,9 @@
 //! Makes a failing case smaller for as long as it still fails.
 
+use std::ops::Range;
 use std::time::{Duration, Instant};
+
+use inputs::pools;
 
 use crate::case::{Case, Room, Rooms, What};
 
@@ -21,6 +24,9 @@ pub fn smallest(case: Case, fails: &mut dyn FnMut(&Case) -> bool) -> Case {
         }
     }
 }
+
+/// Smaller pools, made as they are asked for.
+type Pools = Box<dyn Iterator<Item = Vec<u8>>>;
 
 struct Search<'a> {
     best: Case,
@@ -62,28 +68,48 @@ impl Search<'_> {
             }
             length /= 2;
         }
-        for at in 0..self.best.text.len() {
+        self.characters();
+    }
+
+    // Leaves out each character, or puts as many `x` in its place as it has bytes.
+    fn characters(&mut self) {
+        let mut at = 0;
+        while at < self.best.text.len() {
+            let length = width(&self.best.text[at..]);
+            let case = without(&self.best, at, length);
+            if self.offer(case) {
+                continue;
+            }
             let mut case = self.best.clone();
-            case.text[at] = b'x';
+            case.text[at..at + length].fill(b'x');
             self.offer(case);
+            at += length;
         }
     }
 
+    // Leaves out entries of the pools, then fields, then bytes.
     fn pools(&mut self) {
         for i in 0..self.best.calls.len() {
-            let mut length = self.best.calls[i].what.pool().len();
-            while length > 0 {
-                let mut from = 0;
-                while from + length <= self.best.calls[i].what.pool().len() {
-                    let mut case = self.best.clone();
-                    if let Some(pool) = case.calls[i].what.pool_mut() {
-                        pool.drain(from..from + length);
-                    }
-                    if !self.offer(case) {
-                        from += length;
-                    }
+            self.less_pool(i, entries_left_out);
+            self.less_pool(i, fields_left_out);
+            self.less_pool(i, bytes_left_out);
+        }
+    }
+
+    // Takes the first smaller pool of a call that fails too, for as long as there is one.
+    fn less_pool(&mut self, i: usize, smaller: fn(Vec<u8>) -> Pools) {
+        let mut again = true;
+        while again {
+            again = false;
+            for less in smaller(self.best.calls[i].what.pool().to_vec()) {
+                let mut case = self.best.clone();
+                if let Some(pool) = case.calls[i].what.pool_mut() {
+                    *pool = less;
                 }
-                length /= 2;
+                if self.offer(case) {
+                    again = true;
+                    break;
+                }
             }
         }
     }
@@ -120,4 +146,59 @@ fn without(case: &Case, from: usize, length: usize) -> Case {
         }
     }
     case
+}
+
+// How many bytes the first character has; 1 where it is none.
+fn width(bytes: &[u8]) -> usize {
+    let all = (2..=bytes.len().min(4)).find(|&n| std::str::from_utf8(&bytes[..n]).is_ok_and(|text| text.chars().count() == 1));
+    all.unwrap_or(1)
+}
+
+// The entries of a pool, by its pairs.
+fn entries(pool: &[u8]) -> Option<Vec<Vec<u8>>> {
+    let number = |at: usize| Some(usize::from(*pool.get(at)?) + 256 * usize::from(*pool.get(at + 1)?));
+    (0..number(0)?)
+        .map(|i| {
+            let (at, length) = (number(2 + 4 * i)?, number(4 + 4 * i)?);
+            Some(pool.get(at..at + length)?.to_vec())
+        })
+        .collect()
+}
+
+fn entries_left_out(pool: Vec<u8>) -> Pools {
+    let all = entries(&pool).unwrap_or_default();
+    Box::new((0..all.len()).map(move |i| {
+        let mut left = all.clone();
+        left.remove(i);
+        pools::pool_of(&left)
+    }))
+}
+
+fn fields_left_out(pool: Vec<u8>) -> Pools {
+    let all = entries(&pool).unwrap_or_default();
+    let places: Vec<_> = all.iter().enumerate().flat_map(|(i, entry)| fields(entry).map(move |field| (i, field))).collect();
+    Box::new(places.into_iter().map(move |(i, field)| {
+        let mut left = all.clone();
+        left[i].drain(field);
+        pools::pool_of(&left)
+    }))
+}
+
+// Where the fields of an entry stand.
+fn fields(entry: &[u8]) -> impl Iterator<Item = Range<usize>> + '_ {
+    let mut at = 0;
+    std::iter::from_fn(move || {
+        let length = usize::from(*entry.get(at + 1)?) + 256 * usize::from(*entry.get(at + 2)?);
+        let field = at..(at + 3 + length).min(entry.len());
+        at = field.end;
+        Some(field)
+    })
+}
+
+fn bytes_left_out(pool: Vec<u8>) -> Pools {
+    let lengths = std::iter::successors(Some(pool.len()), |length| Some(length / 2)).take_while(|length| *length > 0);
+    Box::new(lengths.flat_map(move |length| {
+        let pool = pool.clone();
+        (0..=pool.len() - length).step_by(length).map(move |from| [&pool[..from], &pool[from + length..]].concat())
+    }))
 }
