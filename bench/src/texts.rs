@@ -7,6 +7,16 @@ pub struct Text {
     pub builds_at: usize,
 }
 
+impl Text {
+    /// The text without the long group behind it; all of it where the text has such a bracket by itself.
+    pub fn plain(&self) -> &[u8] {
+        match self.builds_at {
+            0 => &self.bytes,
+            at => &self.bytes[..at],
+        }
+    }
+}
+
 /// What is behind a text that has no such bracket by itself.
 const LONG_GROUP: usize = 90;
 
@@ -89,7 +99,7 @@ pub fn worst(size: usize) -> Vec<Text> {
     let lines = size / 13;
     let sources = (size - LONG_GROUP) / 20;
     let line = |k: usize| format!("[@k{k:04}]: \n");
-    let cited = |k: usize| format!("[@k{k:04}]");
+    let cited = |k: usize| format!("[@k{k:04}] ");
     vec![
         by_itself("deep nesting", "[@a,".repeat(nested) + &"]".repeat(nested)),
         by_itself("only `[`", "[".repeat(size)),
@@ -105,7 +115,7 @@ pub fn worst(size: usize) -> Vec<Text> {
 
 // Every source cited once, in mixed order, and defined in a line of its own.
 fn sources_of(count: usize) -> String {
-    let mut text: String = (0..count).map(|k| format!("[@k{:04}]", (k * 7919) % count)).collect();
+    let mut text: String = (0..count).map(|k| format!("[@k{:04}] ", (k * 7919) % count)).collect();
     text.push('\n');
     text.extend((0..count).map(|k| format!("[@k{k:04}]: \n")));
     text

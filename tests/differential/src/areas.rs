@@ -148,21 +148,22 @@ impl Lengths {
     }
 }
 
-/// A change that the self-test makes after each call, as a faulty library would: an area and a place.
-#[derive(Clone, Copy)]
-pub struct Fault {
-    pub area: usize,
-    pub place: Place,
+/// A change that the self-test makes after each call, as a faulty library would: of the element before an area, of its last or of the one
+/// behind it; or of an index that is built.
+#[derive(Clone, Copy, Debug, PartialEq)]
+pub enum Fault {
+    Before(&'static str),
+    Last(&'static str),
+    Behind(&'static str),
+    /// The index has no entry.
+    NoEntries,
+    /// Every entry is the first one.
+    OneEntry,
+    /// The note is 1, and nothing is built.
+    NoteAlone,
 }
 
-#[derive(Clone, Copy, Debug)]
-pub enum Place {
-    Before,
-    Last,
-    After,
-}
-
-/// The names of the areas, in the order of `Fault::area`.
+/// The names of the areas.
 pub const AREAS: [&str; 9] = ["text", "pool", "index", "records", "items", "groups", "references", "labels", "answer"];
 
 /// All areas of a case.
@@ -278,23 +279,37 @@ impl Areas {
     }
 
     fn spoil(&mut self, fault: Fault, call: &Call, lengths: Lengths) {
-        let at = |length: usize| match fault.place {
-            Place::Before => -1,
-            Place::Last => length as isize - 1,
-            Place::After => length as isize,
-        };
+        let looks = call.what.kind() < 2;
+        let built = looks && self.answer.content().get(call.what.answer_length() - 1) == Some(&1);
+        match fault {
+            Fault::Before(area) => self.spoil_at(area, |_| -1, call, lengths),
+            Fault::Last(area) => self.spoil_at(area, |length| length as isize - 1, call, lengths),
+            Fault::Behind(area) => self.spoil_at(area, |length| length as isize, call, lengths),
+            Fault::NoEntries if built => self.index.lend(lengths.index).fill(0),
+            Fault::OneEntry if built => {
+                let first = self.index.content().iter().copied().find(|close| *close > 0).unwrap_or(0);
+                self.index.lend(lengths.index).iter_mut().filter(|close| **close > 0).for_each(|close| *close = first);
+            }
+            Fault::NoteAlone if looks && lengths.answer >= call.what.answer_length() => {
+                self.answer.lend(call.what.answer_length())[call.what.answer_length() - 1] = 1;
+            }
+            _ => {}
+        }
+    }
+
+    fn spoil_at(&mut self, area: &str, at: impl Fn(usize) -> isize, call: &Call, lengths: Lengths) {
         let annotates = matches!(call.what, What::Annotate { .. });
-        let looks = annotates || matches!(call.what, What::LookUp { .. });
-        match fault.area {
-            0 => self.text.spoil(at(self.text.content().len()), |x| x ^ 1),
-            1 => self.pool.spoil(at(self.pool.content().len()), |x| x ^ 1),
-            2 if looks => self.index.spoil(at(lengths.index), |x| x ^ 1),
-            3 if looks => self.records.spoil(at(lengths.records), |x| Bracket { bad: x.bad ^ 1, ..x }),
-            4 if looks => self.items.spoil(at(lengths.items), |x| x ^ 1),
-            5 if annotates => self.groups.spoil(at(lengths.groups), |x| x ^ 1),
-            6 if annotates => self.references.spoil(at(lengths.references), |x| x ^ 1),
-            7 if annotates => self.labels.spoil(at(lengths.labels), |x| x ^ 1),
-            8 => self.answer.spoil(at(lengths.answer), |x| x ^ 1),
+        let looks = call.what.kind() < 2;
+        match area {
+            "text" => self.text.spoil(at(self.text.content().len()), |x| x ^ 1),
+            "pool" => self.pool.spoil(at(self.pool.content().len()), |x| x ^ 1),
+            "index" if looks => self.index.spoil(at(lengths.index), |x| x ^ 1),
+            "records" if looks => self.records.spoil(at(lengths.records), |x| Bracket { bad: x.bad ^ 1, ..x }),
+            "items" if looks => self.items.spoil(at(lengths.items), |x| x ^ 1),
+            "groups" if annotates => self.groups.spoil(at(lengths.groups), |x| x ^ 1),
+            "references" if annotates => self.references.spoil(at(lengths.references), |x| x ^ 1),
+            "labels" if annotates => self.labels.spoil(at(lengths.labels), |x| x ^ 1),
+            "answer" => self.answer.spoil(at(lengths.answer), |x| x ^ 1),
             _ => {}
         }
     }

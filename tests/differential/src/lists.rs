@@ -44,27 +44,6 @@ impl Lists {
         }
     }
 
-    fn compare(&mut self, case: &Case, call: &Call, note: u8) -> Result<Done, Difference> {
-        let need = self.ample.need(&case.text, call);
-        let lengths = Lengths::of(call, case, need);
-        self.run_fresh(case, call, lengths);
-        accept(&mut self.fresh, lengths);
-        accept_answer(&mut self.fresh);
-        if let Some(wrong) = self.fresh.wrong(call) {
-            return Err(difference(&self.fresh, wrong));
-        }
-        self.shared.prepare(call, lengths);
-        self.shared.call(call, lengths, note);
-        accept(&mut self.shared, lengths);
-        let after = self.expect_fresh(call, lengths, note);
-        if let Some(wrong) = self.shared.wrong(call) {
-            return Err(difference(&self.shared, wrong));
-        }
-        let silent = lengths.answer < call.what.answer_length();
-        let number = if silent { 0 } else { self.shared.answer.content()[0] as usize };
-        Ok(Done { kind: call.what.kind(), number, built: after != note, silent, note: after })
-    }
-
     // The same call on an index area with other content and a note other than 1.
     fn run_fresh(&mut self, case: &Case, call: &Call, lengths: Lengths) {
         let note = [0, 2, 77, 255][(call.seed % 4) as usize];
@@ -98,22 +77,29 @@ impl Lists {
 impl Runner for Lists {
     const REFERENCE: &'static str = "a fresh call";
 
-    fn run(&mut self, case: &Case, done: &mut dyn FnMut(Done)) -> Option<Difference> {
+    fn start(&mut self, case: &Case) {
         self.shared.start(case);
-        let mut note = case.note;
-        for (i, call) in case.calls.iter().enumerate() {
-            match self.compare(case, call, note) {
-                Ok(one) => {
-                    note = one.note;
-                    done(one);
-                }
-                Err(mut difference) => {
-                    difference.call = i;
-                    return Some(difference);
-                }
-            }
+    }
+
+    fn compare(&mut self, case: &Case, call: &Call, note: u8) -> Result<Done, Box<Difference>> {
+        let need = self.ample.need(&case.text, call);
+        let lengths = Lengths::of(call, case, need);
+        self.run_fresh(case, call, lengths);
+        accept(&mut self.fresh, lengths);
+        accept_answer(&mut self.fresh);
+        if let Some(wrong) = self.fresh.wrong(call) {
+            return Err(Difference::of(wrong, &self.fresh));
         }
-        None
+        self.shared.prepare(call, lengths);
+        self.shared.call(call, lengths, note);
+        accept(&mut self.shared, lengths);
+        let after = self.expect_fresh(call, lengths, note);
+        if let Some(wrong) = self.shared.wrong(call) {
+            return Err(Difference::of(wrong, &self.shared));
+        }
+        let silent = lengths.answer < call.what.answer_length();
+        let number = if silent { 0 } else { self.shared.answer.content()[0] as usize };
+        Ok(Done { kind: call.what.kind(), number, built: after != note, silent, stray: false, note: after })
     }
 
     fn areas(&mut self) -> &mut Areas {
@@ -134,10 +120,6 @@ fn accept_answer(areas: &mut Areas) {
     areas.references.accept(areas.references.content().len());
     areas.labels.accept(areas.labels.content().len());
     areas.answer.accept(areas.answer.content().len());
-}
-
-fn difference(areas: &Areas, wrong: crate::areas::Wrong) -> Difference {
-    Difference { call: 0, wrong, expected: areas.answer.expected_content().to_vec(), held: areas.answer.content().to_vec() }
 }
 
 impl Ample {

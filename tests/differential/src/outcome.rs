@@ -1,15 +1,20 @@
 //! What comes of a call, and how many of each sort there were.
 
-use crate::areas::Wrong;
+use crate::areas::{Areas, Wrong};
 use crate::case::KINDS;
 
-/// A call that answered as it should: its kind, its number, whether it built the index, whether its answer area was too short for an
-/// answer, and the note after it.
+/// A call that answered as it should.
 pub struct Done {
     pub kind: usize,
+    /// 0 where it was accepted.
     pub number: usize,
+    /// It built the index.
     pub built: bool,
+    /// Its answer area was too short for an answer.
     pub silent: bool,
+    /// It was given the note 1 and an index that no call left.
+    pub stray: bool,
+    /// The note after it.
     pub note: u8,
 }
 
@@ -23,6 +28,11 @@ pub struct Difference {
 }
 
 impl Difference {
+    /// Of the call at hand, with these areas.
+    pub fn of(wrong: Wrong, areas: &Areas) -> Box<Difference> {
+        Box::new(Difference { call: 0, wrong, expected: areas.answer.expected_content().to_vec(), held: areas.answer.content().to_vec() })
+    }
+
     pub fn shown(&self, reference: &str) -> String {
         let Wrong { area, at, expected, held } = &self.wrong;
         format!(
@@ -43,11 +53,13 @@ pub struct Counts {
     numbers: [[u64; 11]; 5],
     built: [u64; 5],
     silent: [u64; 5],
+    stray: [u64; 5],
 }
 
 impl Counts {
     pub fn count(&mut self, done: &Done) {
         self.calls += 1;
+        self.stray[done.kind] += u64::from(done.stray);
         if done.silent {
             self.silent[done.kind] += 1;
             return;
@@ -65,6 +77,7 @@ impl Counts {
             }
             self.built[kind] += other.built[kind];
             self.silent[kind] += other.silent[kind];
+            self.stray[kind] += other.stray[kind];
         }
     }
 
@@ -81,11 +94,13 @@ impl Counts {
             for (number, count) in row.iter().enumerate().skip(1).filter(|(_, count)| **count > 0) {
                 out.push_str(&format!("; {number}: {}", grouped(*count)));
             }
-            if self.silent[kind] > 0 {
-                out.push_str(&format!("; answer area too short: {}", grouped(self.silent[kind])));
-            }
-            if self.built[kind] > 0 {
-                out.push_str(&format!("; built the index: {}", grouped(self.built[kind])));
+            let sorts = [
+                ("answer area too short", self.silent[kind]),
+                ("built the index", self.built[kind]),
+                ("note 1 with an index that no call left", self.stray[kind]),
+            ];
+            for (sort, count) in sorts.into_iter().filter(|sort| sort.1 > 0) {
+                out.push_str(&format!("; {sort}: {}", grouped(count)));
             }
             out.push('\n');
         }
@@ -95,13 +110,8 @@ impl Counts {
 
 /// A number with a comma before every three digits.
 pub fn grouped(number: u64) -> String {
-    let digits = number.to_string();
-    let mut out = String::new();
-    for (i, digit) in digits.chars().enumerate() {
-        if i > 0 && (digits.len() - i) % 3 == 0 {
-            out.push(',');
-        }
-        out.push(digit);
+    match number {
+        0..1000 => number.to_string(),
+        _ => format!("{},{:03}", grouped(number / 1000), number % 1000),
     }
-    out
 }

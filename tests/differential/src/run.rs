@@ -7,7 +7,7 @@ use std::thread;
 use std::time::{Duration, Instant};
 
 use crate::areas::{Areas, Wrong};
-use crate::case::Case;
+use crate::case::{Call, Case};
 use crate::outcome::{grouped, Counts, Difference, Done};
 use crate::shrink;
 
@@ -16,11 +16,33 @@ pub trait Runner {
     /// What the library is compared with.
     const REFERENCE: &'static str;
 
-    /// Runs a case to its end or to the first difference; hands each call that agrees to `done`.
-    fn run(&mut self, case: &Case, done: &mut dyn FnMut(Done)) -> Option<Difference>;
+    /// Takes a case's text and index area.
+    fn start(&mut self, case: &Case);
+
+    /// Runs one call of the case, with this note.
+    fn compare(&mut self, case: &Case, call: &Call, note: u8) -> Result<Done, Box<Difference>>;
 
     /// The areas that the library is lent.
     fn areas(&mut self) -> &mut Areas;
+
+    /// Runs a case to its end or to the first difference; hands each call that agrees to `done`.
+    fn run(&mut self, case: &Case, done: &mut dyn FnMut(Done)) -> Option<Box<Difference>> {
+        self.start(case);
+        let mut note = case.note;
+        for (i, call) in case.calls.iter().enumerate() {
+            match self.compare(case, call, note) {
+                Ok(one) => {
+                    note = one.note;
+                    done(one);
+                }
+                Err(mut difference) => {
+                    difference.call = i;
+                    return Some(difference);
+                }
+            }
+        }
+        None
+    }
 }
 
 /// How long a run goes on: a time, and a number of cases that it has at least.
@@ -81,13 +103,13 @@ fn run_batch<R: Runner>(runner: &mut R, cases: &[Case], counts: &Mutex<Counts>) 
 }
 
 /// Runs a case; where the reference stops instead of answering, that is a difference too.
-pub fn run_one<R: Runner>(runner: &mut R, case: &Case, done: &mut dyn FnMut(Done)) -> Option<Difference> {
+pub fn run_one<R: Runner>(runner: &mut R, case: &Case, done: &mut dyn FnMut(Done)) -> Option<Box<Difference>> {
     match panic::catch_unwind(AssertUnwindSafe(|| runner.run(case, done))) {
         Ok(difference) => difference,
         Err(why) => {
             let why = why.downcast_ref::<String>().cloned().or_else(|| why.downcast_ref::<&str>().map(|why| why.to_string()));
             let wrong = Wrong { area: "no answer", at: 0, expected: why.unwrap_or_default(), held: "not asked".to_string() };
-            Some(Difference { call: 0, wrong, expected: Vec::new(), held: Vec::new() })
+            Some(Box::new(Difference { call: 0, wrong, expected: Vec::new(), held: Vec::new() }))
         }
     }
 }

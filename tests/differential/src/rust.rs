@@ -34,31 +34,6 @@ impl Comparison {
         Comparison { areas: Areas::new(), session: Session::default() }
     }
 
-    fn compare(&mut self, case: &Case, call: &Call, note: u8) -> Result<Done, Difference> {
-        let before = Lengths::of(call, case, Need::default());
-        let silent = before.answer < call.what.answer_length();
-        let mut answer = if silent { Answer::default() } else { self.answer(case, call, before) };
-        let need = needed(&answer);
-        let lengths = Lengths::of(call, case, at_least(need, call));
-        if !silent {
-            refuse_short(&mut answer, &call.what, need, lengths);
-        }
-        let note_after = if answer.builds { 1 } else { note };
-        self.areas.prepare(call, lengths);
-        if !silent {
-            self.expect(case, call, &answer, note_after);
-        }
-        self.areas.call(call, lengths, note);
-        match self.areas.wrong(call) {
-            None => Ok(Done { kind: call.what.kind(), number: answer.number, built: answer.builds, silent, note: note_after }),
-            Some(wrong) => Err(self.difference(wrong)),
-        }
-    }
-
-    fn difference(&self, wrong: crate::areas::Wrong) -> Difference {
-        Difference { call: 0, wrong, expected: self.areas.answer.expected_content().to_vec(), held: self.areas.answer.content().to_vec() }
-    }
-
     // The call's answer, but for 10 by the lengths of its areas.
     fn answer(&self, case: &Case, call: &Call, lengths: Lengths) -> Answer {
         let short = lengths.index < case.text.len() || lengths.records < case.text.len();
@@ -152,26 +127,40 @@ impl Comparison {
 impl Runner for Comparison {
     const REFERENCE: &'static str = "the Rust";
 
-    fn run(&mut self, case: &Case, done: &mut dyn FnMut(Done)) -> Option<Difference> {
+    fn start(&mut self, case: &Case) {
         self.areas.start(case);
         self.session.set_text(&case.text);
         if case.note == 1 {
             self.session.set_index(&self.areas.index.content()[..case.text.len()]);
         }
-        let mut note = case.note;
-        for (i, call) in case.calls.iter().enumerate() {
-            match self.compare(case, call, note) {
-                Ok(one) => {
-                    note = one.note;
-                    done(one);
-                }
-                Err(mut difference) => {
-                    difference.call = i;
-                    return Some(difference);
-                }
-            }
+    }
+
+    fn compare(&mut self, case: &Case, call: &Call, note: u8) -> Result<Done, Box<Difference>> {
+        let before = Lengths::of(call, case, Need::default());
+        let silent = before.answer < call.what.answer_length();
+        let mut answer = if silent { Answer::default() } else { self.answer(case, call, before) };
+        let need = needed(&answer);
+        let lengths = Lengths::of(call, case, at_least(need, call));
+        if !silent {
+            refuse_short(&mut answer, &call.what, need, lengths);
         }
-        None
+        let note_after = if answer.builds { 1 } else { note };
+        self.areas.prepare(call, lengths);
+        if !silent {
+            self.expect(case, call, &answer, note_after);
+        }
+        self.areas.call(call, lengths, note);
+        match self.areas.wrong(call) {
+            None => Ok(Done {
+                kind: call.what.kind(),
+                number: answer.number,
+                built: answer.builds,
+                silent,
+                stray: case.note == 1 && call.what.kind() < 2,
+                note: note_after,
+            }),
+            Some(wrong) => Err(Difference::of(wrong, &self.areas)),
+        }
     }
 
     fn areas(&mut self) -> &mut Areas {

@@ -1,8 +1,8 @@
-//! That a faulty library would be seen: after each call an element before, at the end of, or behind an area is changed.
+//! That a faulty library would be seen: after each call an element before, at the end of, or behind an area is changed, or the index.
 
 use inputs::random::Random;
 
-use crate::areas::{Fault, Place, AREAS};
+use crate::areas::{Fault, AREAS};
 use crate::draw;
 use crate::lists::Lists;
 use crate::run::{run_one, Runner};
@@ -21,23 +21,16 @@ pub fn all(seed: u64) -> bool {
 }
 
 fn faults<R: Runner>(seed: u64, new: fn() -> R) -> usize {
-    let mut unseen = 0;
-    let mut count = 0;
-    for area in 0..AREAS.len() {
-        for place in [Place::Before, Place::Last, Place::After] {
-            // what a call leaves in the index and in the bracket records is not compared with a fresh call
-            if R::REFERENCE == Lists::REFERENCE && (area == 2 || area == 3) && matches!(place, Place::Last) {
-                continue;
-            }
-            count += 1;
-            if !seen(seed, new(), Fault { area, place }) {
-                println!("differ: self-test: a fault is not seen: {}, {place:?}", AREAS[area]);
-                unseen += 1;
-            }
-        }
+    let mut all: Vec<Fault> = AREAS.iter().flat_map(|area| [Fault::Before(area), Fault::Last(area), Fault::Behind(area)]).collect();
+    all.extend([Fault::NoEntries, Fault::OneEntry, Fault::NoteAlone]);
+    // bracket records are not compared with a fresh call's; an index that is wrong is seen by what later calls answer
+    all.retain(|fault| R::REFERENCE != Lists::REFERENCE || ![Fault::Last("records"), Fault::Last("index")].contains(fault));
+    let unseen: Vec<&Fault> = all.iter().filter(|fault| !seen(seed, new(), **fault)).collect();
+    for fault in &unseen {
+        println!("differ: self-test: a fault is not seen: {fault:?}");
     }
-    println!("differ: self-test: {} of {count} faults are seen in the comparison with {}", count - unseen, R::REFERENCE);
-    unseen
+    println!("differ: self-test: {} of {} faults are seen in the comparison with {}", all.len() - unseen.len(), all.len(), R::REFERENCE);
+    unseen.len()
 }
 
 fn seen<R: Runner>(seed: u64, mut runner: R, fault: Fault) -> bool {
