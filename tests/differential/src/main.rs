@@ -4,6 +4,9 @@
 //!     differential lists SEED SECONDS    lists of calls on one index, each call against the same one on a fresh index
 //!     differential self-test SEED        areas altered behind the library's back: each alteration must be seen
 
+// Without the Rust only the lists are built, which use a part of the rest.
+#![cfg_attr(not(feature = "rust"), allow(dead_code, unused_mut))]
+
 mod areas;
 mod case;
 mod draw;
