@@ -5,7 +5,7 @@ use std::cell::OnceCell;
 use std::collections::HashMap;
 
 use crate::citations::probe::{self, Annotated, Record};
-use crate::citations::CitationMode;
+use crate::citations::{CitationMode, CslEntry};
 use crate::extension::{MatcherContext, Options};
 use crate::pool;
 
@@ -113,6 +113,15 @@ impl Session {
         self.note()
     }
 
+    /// Takes an index as a caller may lend it, one number a byte, as built. A stored place that is not after its bracket, outside the
+    /// text or not at `]` counts as none: so document 01 has it.
+    pub fn set_index(&mut self, entries: &[u16]) {
+        let bytes = self.text.as_bytes();
+        let places = entries.iter().map(|&close| usize::from(close)).enumerate();
+        let stored = places.filter(|&(open, close)| open < close && bytes.get(open) == Some(&b'[') && bytes.get(close) == Some(&b']'));
+        self.index = OnceCell::from(stored.collect::<HashMap<_, _>>());
+    }
+
     /// `bracket_pairs` of the text, one number a byte.
     pub fn index(&self) -> Vec<usize> {
         let entries = probe::index(&self.text);
@@ -137,15 +146,23 @@ impl Session {
         LookUp { number, close, items, note: self.note() }
     }
 
-    fn looked_up(&self, at: usize, unlimited: bool) -> (usize, usize, Vec<Record>) {
+    /// 1 to 4 where a look-up at `at` is refused by one of them, else 0.
+    pub fn look_up_refusal(&self, at: usize) -> usize {
         if self.refusal != 0 {
-            return (self.refusal, 0, Vec::new());
+            self.refusal
+        } else if self.text.as_bytes().get(at) != Some(&b'[') {
+            3
+        } else if probe::escaped(&self.text, at) {
+            4
+        } else {
+            0
         }
-        if self.text.as_bytes().get(at) != Some(&b'[') {
-            return (3, 0, Vec::new());
-        }
-        if probe::escaped(&self.text, at) {
-            return (4, 0, Vec::new());
+    }
+
+    fn looked_up(&self, at: usize, unlimited: bool) -> (usize, usize, Vec<Record>) {
+        let refusal = self.look_up_refusal(at);
+        if refusal != 0 {
+            return (refusal, 0, Vec::new());
         }
         match probe::group(&self.text, at, &self.context(unlimited)) {
             None => (5, 0, Vec::new()),
@@ -164,21 +181,31 @@ impl Session {
         Annotation { number, answer, note: self.note() }
     }
 
-    fn annotated(&self, mode: usize, bytes: &[u8], unlimited: bool) -> (usize, Annotated) {
+    /// 1, 2, 6 or 7 where an annotation is refused by one of them, else 0.
+    pub fn annotate_refusal(&self, mode: usize, bytes: &[u8]) -> usize {
+        self.arguments(mode, bytes).err().unwrap_or(0)
+    }
+
+    // The mode and the pool's entries as the Rust has them, or the refusal.
+    fn arguments(&self, mode: usize, bytes: &[u8]) -> Result<(CitationMode, Option<Vec<CslEntry>>), usize> {
         if self.refusal != 0 {
-            return (self.refusal, Annotated::default());
+            return Err(self.refusal);
         }
         let mode = match mode {
             0 => CitationMode::Numbered,
             1 => CitationMode::AuthorDate,
-            _ => return (6, Annotated::default()),
+            _ => return Err(6),
         };
-        let pool = match bytes {
-            [] => None,
-            _ => match pool::entries(bytes) {
-                None => return (7, Annotated::default()),
-                Some(entries) => Some(entries),
-            },
+        match bytes {
+            [] => Ok((mode, None)),
+            _ => pool::entries(bytes).map(|entries| (mode, Some(entries))).ok_or(7),
+        }
+    }
+
+    fn annotated(&self, mode: usize, bytes: &[u8], unlimited: bool) -> (usize, Annotated) {
+        let (mode, pool) = match self.arguments(mode, bytes) {
+            Ok(arguments) => arguments,
+            Err(refusal) => return (refusal, Annotated::default()),
         };
         let answer = probe::annotate(&self.text, &self.context(unlimited), &self.options, mode, pool);
         if answer.labels.len() > 65_535 {

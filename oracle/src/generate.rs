@@ -1,20 +1,13 @@
 //! Made-up requests, by seed and kind.
 
-mod pools;
-mod random;
-mod texts;
+use inputs::random::{character, Random, BROKEN, NEAR, WIDE};
+use inputs::{pools, texts};
 
 use crate::answers::text_refusal;
 use crate::protocol::Request;
-use random::{character, Random, NEAR, WIDE};
 
-pub use random::WHITE;
+pub use inputs::random::WHITE;
 
-/// Bytes that are no UTF-8 in some place.
-const BROKEN: [&[u8]; 16] = [
-    b"\x80", b"\xBF", b"\xC0\xAF", b"\xC1\xBF", b"\xC2", b"\xC2\x20", b"\xE0\x80\xAF", b"\xE0\x9F\xBF", b"\xE2\x82", b"\xED\xA0\x80",
-    b"\xED\xBF\xBF", b"\xF0\x8F\xBF\xBF", b"\xF0\x9F\x98", b"\xF4\x90\x80\x80", b"\xF5\x80\x80\x80", b"\xFF",
-];
 /// Hands `n` requests of a kind to `take` (turns of several for some kinds), those that are the same for every seed first; false where
 /// there is no such kind.
 pub fn requests(seed: u64, n: usize, kind: &str, take: &mut dyn FnMut(Request)) -> bool {

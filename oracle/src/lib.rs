@@ -28,6 +28,7 @@ extern crate self as memchr;
 pub use memchr_stub::memchr3;
 
 pub mod answers;
+pub mod bare;
 pub mod generate;
 pub mod pool;
 pub mod protocol;

@@ -270,10 +270,9 @@ fn take_group(found: Found, answer: &mut Annotated) -> InlineNode {
     InlineNode::CitationGroup(node)
 }
 
-// `after_parse` on the paragraph; what is left of it without its definition lines.
-fn define(citations: &Citations, nodes: Vec<InlineNode>) -> Vec<InlineNode> {
-    let groups = count_groups(&nodes);
-    let mut doc = citations.after_parse(Document {
+// The document of one paragraph.
+fn document(nodes: Vec<InlineNode>) -> Document {
+    Document {
         frontmatter: BTreeMap::new(),
         frontmatter_raw: None,
         footnote_defs: BTreeMap::new(),
@@ -281,7 +280,13 @@ fn define(citations: &Citations, nodes: Vec<InlineNode>) -> Vec<InlineNode> {
         children: vec![BlockNode::Paragraph(Paragraph { children: nodes, ..Paragraph::default() })],
         source_len: 0,
         ingest_payload_len: 0,
-    });
+    }
+}
+
+// `after_parse` on the paragraph; what is left of it without its definition lines.
+fn define(citations: &Citations, nodes: Vec<InlineNode>) -> Vec<InlineNode> {
+    let groups = count_groups(&nodes);
+    let mut doc = citations.after_parse(document(nodes));
     let mut left = Vec::new();
     let mut defining = 0;
     for block in std::mem::take(&mut doc.children) {
@@ -338,4 +343,64 @@ fn reference_order(page: &str, order: &[String]) -> Vec<usize> {
 /// `csl_to_def`: the source text.
 pub fn source_text(entry: &CslEntry) -> String {
     csl_to_def(entry).csl_text.expect("csl_to_def sets it")
+}
+
+/// `match_citation` at `at`, and nothing else.
+pub fn bare_group(text: &str, at: usize, ctx: &MatcherContext<'_>) -> Option<InlineMatch> {
+    match_citation(text, at, ctx)
+}
+
+/// The extension with a pool, or without.
+pub fn extension(mode: CitationMode, pool: Option<Vec<CslEntry>>) -> Citations {
+    let mut citations = Citations::with_mode(mode);
+    citations.bibliography = pool;
+    citations
+}
+
+/// The annotation, and nothing else: the sweep by `match_citation`, `after_parse`, `annotate_citations_inline` and the sort of
+/// `render_refs_list`. The paragraph as annotated, and the sources in reference order.
+pub fn bare_annotation(text: &str, ctx: &MatcherContext<'_>, citations: &Citations) -> (Document, Vec<String>) {
+    let mut doc = citations.after_parse(document(bare_sweep(text, ctx)));
+    let (mut seen, mut order, mut uses) = (BTreeSet::new(), Vec::new(), BTreeMap::new());
+    let defs = citations.defs.borrow();
+    for block in &mut doc.children {
+        if let BlockNode::Paragraph(p) = block {
+            annotate_citations_inline(&mut p.children, &defs, citations.mode, citations.has_bib(), &mut seen, &mut order, &mut uses);
+        }
+    }
+    // the first lines of `render_refs_list`
+    let mut keys = order.to_vec();
+    if citations.mode == CitationMode::AuthorDate {
+        keys.sort_by(|a, b| {
+            let left = defs.get(a).and_then(|d| d.author.as_deref()).unwrap_or(a);
+            let right = defs.get(b).and_then(|d| d.author.as_deref()).unwrap_or(b);
+            left.cmp(right)
+        });
+    }
+    (doc, keys)
+}
+
+// The stand-in paragraph of `sweep`, without records.
+fn bare_sweep(text: &str, ctx: &MatcherContext<'_>) -> Vec<InlineNode> {
+    let bytes = text.as_bytes();
+    let mut nodes = Vec::new();
+    let (mut at, mut run) = (0, 0);
+    while at < bytes.len() {
+        if bytes[at] == b'[' && !is_escaped_at(text, at) {
+            if let Some(found) = match_citation(text, at, ctx) {
+                plain_run(text, run, at, &mut nodes);
+                nodes.push(found.node);
+                at = found.end;
+                run = at;
+                continue;
+            }
+        } else if bytes[at] == b'\n' {
+            plain_run(text, run, at, &mut nodes);
+            nodes.push(InlineNode::soft_break());
+            run = at + 1;
+        }
+        at += 1;
+    }
+    plain_run(text, run, at, &mut nodes);
+    nodes
 }

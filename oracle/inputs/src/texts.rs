@@ -1,6 +1,6 @@
 //! Made-up texts: locators, items, groups, definition lines, and whole texts of them.
 
-use super::random::{character, Random, NEAR, WHITE};
+use crate::random::{character, Random, NEAR, WHITE};
 
 /// Pieces of texts with citations.
 const PIECES: [&str; 48] = [

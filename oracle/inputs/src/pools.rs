@@ -1,15 +1,17 @@
 //! Made-up pools, whole and damaged.
 
-use super::random::Random;
-use super::texts::KEYS;
+use crate::random::Random;
+use crate::texts::KEYS;
 
-fn field(tag: u8, bytes: &[u8], out: &mut Vec<u8>) {
+/// Adds a field.
+pub fn field(tag: u8, bytes: &[u8], out: &mut Vec<u8>) {
     out.push(tag);
     out.extend((bytes.len() as u16).to_le_bytes());
     out.extend(bytes);
 }
 
-fn entry(random: &mut Random) -> Vec<u8> {
+/// An entry, with names, years and titles or without.
+pub fn entry(random: &mut Random) -> Vec<u8> {
     const WORDS: [&str; 8] = ["", "Ant", "Bee", "Le Guin", "é", " ", "A; B", "𝄞\u{2003}"];
     let mut out = Vec::new();
     field(1, if random.below(8) == 0 { b"" } else { random.of(&KEYS).as_bytes() }, &mut out);
@@ -41,8 +43,22 @@ fn year(random: &mut Random) -> i64 {
     }
 }
 
-// The pool of these entries.
-fn pool_of(entries: &[Vec<u8>]) -> Vec<u8> {
+/// An entry of exactly so many bytes, at least 7: an id, then perhaps a long name, and a title.
+pub fn long_entry(random: &mut Random, size: usize) -> Vec<u8> {
+    let mut out = Vec::new();
+    field(1, &random.of(&KEYS).as_bytes()[..1], &mut out);
+    if size > out.len() + 3 + 3 + 3 && random.below(2) == 0 {
+        field(2, b"", &mut out);
+        let most = size - out.len() - 3 - 3;
+        field(random.of(&[3, 5]), &vec![b'x'; random.of(&[0, most / 2, most])], &mut out);
+    }
+    let title = size - out.len() - 3;
+    field(8, &vec![b't'; title], &mut out);
+    out
+}
+
+/// The pool of these entries.
+pub fn pool_of(entries: &[Vec<u8>]) -> Vec<u8> {
     let mut out = (entries.len() as u16).to_le_bytes().to_vec();
     let mut at = 2 + 4 * entries.len();
     for e in entries {

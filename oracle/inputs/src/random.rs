@@ -14,6 +14,12 @@ pub const NEAR: [u32; 32] = [
 pub const WIDE: [u32; 18] =
     [0x00, 0x41, 0x7F, 0x80, 0xA7, 0xB6, 0xE9, 0x7FF, 0x800, 0x20AC, 0xD7FF, 0xE000, 0xFFFD, 0xFFFF, 0x10000, 0x1D11E, 0x1F600, 0x10FFFF];
 
+/// Bytes that are no UTF-8 in some place.
+pub const BROKEN: [&[u8]; 16] = [
+    b"\x80", b"\xBF", b"\xC0\xAF", b"\xC1\xBF", b"\xC2", b"\xC2\x20", b"\xE0\x80\xAF", b"\xE0\x9F\xBF", b"\xE2\x82", b"\xED\xA0\x80",
+    b"\xED\xBF\xBF", b"\xF0\x8F\xBF\xBF", b"\xF0\x9F\x98", b"\xF4\x90\x80\x80", b"\xF5\x80\x80\x80", b"\xFF",
+];
+
 /// A row of numbers from a seed (splitmix64).
 pub struct Random(u64);
 

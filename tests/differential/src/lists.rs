@@ -1,0 +1,158 @@
+//! Lists of calls that share an index and a note: what each answers, the note apart, and the final bytes of its answer areas must be
+//! those of the same call on a fresh index.
+
+use library::{Bracket, Lent};
+
+use crate::areas::{Areas, Lengths, Need};
+use crate::case::{Call, Case, What};
+use crate::outcome::{Difference, Done};
+use crate::run::Runner;
+
+/// More than any text needs.
+const BYTES: usize = 66_000;
+const RECORDS: usize = BYTES / 3;
+
+pub struct Lists {
+    shared: Areas,
+    fresh: Areas,
+    ample: Ample,
+}
+
+// Areas that are long enough for every answer, to see how long it is.
+struct Ample {
+    index: Vec<u16>,
+    records: Vec<Bracket>,
+    items: Vec<u16>,
+    groups: Vec<u16>,
+    references: Vec<u16>,
+    labels: Vec<u8>,
+}
+
+impl Lists {
+    pub fn new() -> Lists {
+        Lists {
+            shared: Areas::new(),
+            fresh: Areas::new(),
+            ample: Ample {
+                index: vec![0; BYTES],
+                records: vec![Bracket::default(); BYTES],
+                items: vec![0; 16 * RECORDS],
+                groups: vec![0; 5 * RECORDS],
+                references: vec![0; RECORDS],
+                labels: vec![0; BYTES],
+            },
+        }
+    }
+
+    // The same call on an index area with other content and a note other than 1.
+    fn run_fresh(&mut self, case: &Case, call: &Call, lengths: Lengths) {
+        let note = [0, 2, 77, 255][(call.seed % 4) as usize];
+        let alone = Case { text: case.text.clone(), note, beyond: case.beyond, seed: case.seed ^ call.seed, calls: Vec::new() };
+        self.fresh.start(&alone);
+        self.fresh.prepare(call, lengths);
+        self.fresh.call(call, lengths, note);
+    }
+
+    // The answer areas should hold what the fresh call left there, but for the note, which is answered.
+    fn expect_fresh(&mut self, call: &Call, lengths: Lengths, note: u8) -> u8 {
+        let (shared, fresh) = (&mut self.shared, &self.fresh);
+        shared.items.expect(fresh.items.content());
+        shared.groups.expect(fresh.groups.content());
+        shared.references.expect(fresh.references.content());
+        shared.labels.expect(fresh.labels.content());
+        let mut answer = fresh.answer.content().to_vec();
+        let mut after = note;
+        let has_note = matches!(call.what, What::LookUp { .. } | What::Annotate { .. });
+        let length = call.what.answer_length();
+        if has_note && length <= lengths.answer {
+            // 1 where a call has built the index, else as it was given
+            after = if shared.answer.content()[length - 1] == 1 { 1 } else { note };
+            answer[length - 1] = u32::from(after);
+        }
+        shared.answer.expect(&answer);
+        after
+    }
+}
+
+impl Runner for Lists {
+    const REFERENCE: &'static str = "a fresh call";
+
+    fn start(&mut self, case: &Case) {
+        self.shared.start(case);
+    }
+
+    fn compare(&mut self, case: &Case, call: &Call, note: u8) -> Result<Done, Box<Difference>> {
+        let need = self.ample.need(&case.text, call);
+        let lengths = Lengths::of(call, case, need);
+        self.run_fresh(case, call, lengths);
+        accept(&mut self.fresh, lengths);
+        accept_answer(&mut self.fresh);
+        if let Some(wrong) = self.fresh.wrong(call) {
+            return Err(Difference::of(wrong, &self.fresh));
+        }
+        self.shared.prepare(call, lengths);
+        self.shared.call(call, lengths, note);
+        accept(&mut self.shared, lengths);
+        let after = self.expect_fresh(call, lengths, note);
+        if let Some(wrong) = self.shared.wrong(call) {
+            return Err(Difference::of(wrong, &self.shared));
+        }
+        let silent = lengths.answer < call.what.answer_length();
+        let number = if silent { 0 } else { self.shared.answer.content()[0] as usize };
+        Ok(Done { kind: call.what.kind(), number, built: after != note, silent, stray: false, note: after })
+    }
+
+    fn areas(&mut self) -> &mut Areas {
+        &mut self.shared
+    }
+}
+
+// Index and bracket records are not compared; what is around them is.
+fn accept(areas: &mut Areas, lengths: Lengths) {
+    areas.index.accept(lengths.index);
+    areas.records.accept(areas.records.content().len());
+}
+
+// Whatever a fresh call answers is right.
+fn accept_answer(areas: &mut Areas) {
+    areas.items.accept(areas.items.content().len());
+    areas.groups.accept(areas.groups.content().len());
+    areas.references.accept(areas.references.content().len());
+    areas.labels.accept(areas.labels.content().len());
+    areas.answer.accept(areas.answer.content().len());
+}
+
+impl Ample {
+    // What the call needs; some where it is refused.
+    fn need(&mut self, text: &[u8], call: &Call) -> Need {
+        let bytes = text.len().min(BYTES);
+        let mut answer = [0; 6];
+        let mut lent = Lent {
+            index: &mut self.index[..bytes],
+            records: &mut self.records[..bytes],
+            items: &mut self.items,
+            groups: &mut self.groups,
+            references: &mut self.references,
+            labels: &mut self.labels,
+        };
+        let usual = (call.seed % 40) as usize;
+        let mut need = Need { items: usual, groups: usual, references: usual, labels: usual };
+        match &call.what {
+            What::LookUp { at } => {
+                library::look_up(text, *at, 0, &mut lent, &mut answer);
+                if answer[0] == 0 {
+                    need.items = 16 * answer[2] as usize;
+                }
+            }
+            What::Annotate { mode, pool } => {
+                library::annotate(text, *mode, pool, 0, &mut lent, &mut answer);
+                if answer[0] == 0 {
+                    let [_, groups, items, references, labels, _] = answer.map(|n| n as usize);
+                    need = Need { items: 16 * items, groups: 5 * groups, references, labels };
+                }
+            }
+            _ => {}
+        }
+        need
+    }
+}

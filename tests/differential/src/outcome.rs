@@ -1,0 +1,117 @@
+//! What comes of a call, and how many of each sort there were.
+
+use crate::areas::{Areas, Wrong};
+use crate::case::KINDS;
+
+/// A call that answered as it should.
+pub struct Done {
+    pub kind: usize,
+    /// 0 where it was accepted.
+    pub number: usize,
+    /// It built the index.
+    pub built: bool,
+    /// Its answer area was too short for an answer.
+    pub silent: bool,
+    /// It was given the note 1 and an index that no call left.
+    pub stray: bool,
+    /// The note after it.
+    pub note: u8,
+}
+
+/// A call of a case that did not: the first element that is wrong, and the answer as it should be and as it is.
+#[derive(Clone)]
+pub struct Difference {
+    pub call: usize,
+    pub wrong: Wrong,
+    pub expected: Vec<u32>,
+    pub held: Vec<u32>,
+}
+
+impl Difference {
+    /// Of the call at hand, with these areas.
+    pub fn of(wrong: Wrong, areas: &Areas) -> Box<Difference> {
+        Box::new(Difference { call: 0, wrong, expected: areas.answer.expected_content().to_vec(), held: areas.answer.content().to_vec() })
+    }
+
+    pub fn shown(&self, reference: &str) -> String {
+        let Wrong { area, at, expected, held } = &self.wrong;
+        format!(
+            "call {} differs: {area}, place {at}: {expected} by {reference}, {held} by the library\n  \
+             answer by {reference}: {:?}\n  answer by the library: {:?}\n",
+            self.call + 1,
+            self.expected,
+            self.held
+        )
+    }
+}
+
+/// Calls by kind and number, and cases.
+#[derive(Clone, Default)]
+pub struct Counts {
+    pub cases: u64,
+    pub calls: u64,
+    numbers: [[u64; 11]; 5],
+    built: [u64; 5],
+    silent: [u64; 5],
+    stray: [u64; 5],
+}
+
+impl Counts {
+    pub fn count(&mut self, done: &Done) {
+        self.calls += 1;
+        self.stray[done.kind] += u64::from(done.stray);
+        if done.silent {
+            self.silent[done.kind] += 1;
+            return;
+        }
+        self.numbers[done.kind][done.number] += 1;
+        self.built[done.kind] += u64::from(done.built);
+    }
+
+    pub fn add(&mut self, other: &Counts) {
+        self.cases += other.cases;
+        self.calls += other.calls;
+        for kind in 0..KINDS.len() {
+            for number in 0..11 {
+                self.numbers[kind][number] += other.numbers[kind][number];
+            }
+            self.built[kind] += other.built[kind];
+            self.silent[kind] += other.silent[kind];
+            self.stray[kind] += other.stray[kind];
+        }
+    }
+
+    /// A line for each kind: its calls, and how many had each answer.
+    pub fn table(&self) -> String {
+        let mut out = String::new();
+        for (kind, name) in KINDS.iter().enumerate() {
+            let row = &self.numbers[kind];
+            let all = row.iter().sum::<u64>() + self.silent[kind];
+            if all == 0 {
+                continue;
+            }
+            out.push_str(&format!("  {name:12}{:>13}: accepted {}", grouped(all), grouped(row[0])));
+            for (number, count) in row.iter().enumerate().skip(1).filter(|(_, count)| **count > 0) {
+                out.push_str(&format!("; {number}: {}", grouped(*count)));
+            }
+            let sorts = [
+                ("answer area too short", self.silent[kind]),
+                ("built the index", self.built[kind]),
+                ("note 1 with an index that no call left", self.stray[kind]),
+            ];
+            for (sort, count) in sorts.into_iter().filter(|sort| sort.1 > 0) {
+                out.push_str(&format!("; {sort}: {}", grouped(count)));
+            }
+            out.push('\n');
+        }
+        out
+    }
+}
+
+/// A number with a comma before every three digits.
+pub fn grouped(number: u64) -> String {
+    match number {
+        0..1000 => number.to_string(),
+        _ => format!("{},{:03}", grouped(number / 1000), number % 1000),
+    }
+}
