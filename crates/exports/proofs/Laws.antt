@@ -1,10 +1,12 @@
 -- Numbers put at the front of `answer`: what the functions here leave, in the shape of their contracts.
-use Prim.Native.Nat.{ℕ, _≤_, _%_}
+use Prim.Native.Nat.{ℕ, _<_, _≤_}
 use mathlib.Core.Path.{_≡_, refl, sym, _∙_, ap}
 use mathlib.Core.List.{List, [], _∷_}
 use mathlib.Core.Bool.{Bool, true, false}
 use lib.ListN.{length, set}
 use lib.Dec.{leb}
+use mir.Syntax.{w32}
+use mir.Val.{Fits}
 use borrow.Author.Tests.{leb-true}
 use Rattle.base.specs.Lists.{written}
 use Rattle.base.specs.Pick.{pick}
@@ -32,72 +34,138 @@ use Rattle.annotation.specs.Content.{Areas}
 use Rattle.annotation.specs.Call.{AnnotateRan, annotateRun}
 use Rattle.annotation.specs.Values.{annotationValues, annotationNumbers}
 use Rattle.index.specs.declared.Bracket.{Bracket}
-use Rattle.exports.specs.Leaves.{words, lookUpAreas, lookUpRanIn, lookUpLeaves, annotateAreas, annotateRanIn, annotateLeaves, sizeLeaves, locatorLeaves, sourceAreas, sourceRanIn, sourceTextLeaves}
+use Rattle.exports.specs.Words.{Words}
+use Rattle.exports.proofs.Words.{size-words, locator-words, look-up-words, annotation-words}
+use Rattle.exports.proofs.SourceWords.{source-words}
+use Rattle.exports.specs.Leaves.{lookUpAreas, lookUpRanIn, lookUpLeaves, annotateAreas, annotateRanIn, annotateLeaves, sizeLeaves, locatorLeaves, sourceAreas, sourceRanIn, sourceTextLeaves}
 
-module _ (s : List ℕ) (a b : ℕ) {a′ b′ : ℕ} (ea : a′ ≡ a % 4294967296) (eb : b′ ≡ b % 4294967296) where
-  pub two-put : 2 ≤ length s → set (set s 0 a′) 1 b′ ≡ written (words (a ∷ b ∷ [])) s
-  unfolding words putAt
-  two-put h = rw (ea, eb) (put-written (a % 4294967296 ∷ b % 4294967296 ∷ []) s h)
+-- what is put
+module _ (s : List ℕ) (a b : ℕ) where
+  pub two-put : 2 ≤ length s → set (set s 0 a) 1 b ≡ written (a ∷ b ∷ []) s
+  unfolding putAt
+  two-put h = put-written (a ∷ b ∷ []) s h
 
-  module _ (c d : ℕ) {c′ d′ : ℕ} (ec : c′ ≡ c % 4294967296) (ed : d′ ≡ d % 4294967296) where
-    pub four-put : 4 ≤ length s → set (set (set (set s 0 a′) 1 b′) 2 c′) 3 d′ ≡ written (words (a ∷ b ∷ c ∷ d ∷ [])) s
-    unfolding words putAt
-    four-put h = rw (ea, eb, ec, ed) (put-written (a % 4294967296 ∷ b % 4294967296 ∷ c % 4294967296 ∷ d % 4294967296 ∷ []) s h)
+  module _ (c d : ℕ) where
+    pub four-put : 4 ≤ length s → set (set (set (set s 0 a) 1 b) 2 c) 3 d ≡ written (a ∷ b ∷ c ∷ d ∷ []) s
+    unfolding putAt
+    four-put h = put-written (a ∷ b ∷ c ∷ d ∷ []) s h
 
-    module _ (e f : ℕ) {e′ f′ : ℕ} (ee : e′ ≡ e % 4294967296) (ef : f′ ≡ f % 4294967296) where
-      pub six-put : 6 ≤ length s → set (set (set (set (set (set s 0 a′) 1 b′) 2 c′) 3 d′) 4 e′) 5 f′ ≡ written (words (a ∷ b ∷ c ∷ d ∷ e ∷ f ∷ [])) s
-      unfolding words putAt
-      six-put h = rw (ea, eb, ec, ed, ee, ef) (put-written (a % 4294967296 ∷ b % 4294967296 ∷ c % 4294967296 ∷ d % 4294967296 ∷ e % 4294967296 ∷ f % 4294967296 ∷ []) s h)
+    pub six-put : (e f : ℕ) → 6 ≤ length s → set (set (set (set (set (set s 0 a) 1 b) 2 c) 3 d) 4 e) 5 f ≡ written (a ∷ b ∷ c ∷ d ∷ e ∷ f ∷ []) s
+    unfolding putAt
+    six-put e f h = put-written (a ∷ b ∷ c ∷ d ∷ e ∷ f ∷ []) s h
 
-module _ (s : List ℕ) {out : List ℕ} where
-  pub look-up-accepted : {a : LookUp} (x y z : ℕ) → a ≡ Accepted x y z → out ≡ written (words (0 ∷ x ∷ y ∷ z ∷ [])) s → out ≡ written (words (lookUpValues a)) s
-  unfolding lookUpValues
-  look-up-accepted x y z e h = rw e h
+-- each number fits
+module _ (a : ℕ) where
+  pub first-fits : (ns : List ℕ) → Words (a ∷ ns) → Fits w32 a
+  unfolding Words
+  first-fits ns h = record { fits = h .0 }
 
-  pub look-up-refused : {a : LookUp} (n z : ℕ) → a ≡ Refused n z → out ≡ written (words (n ∷ 0 ∷ 0 ∷ z ∷ [])) s → out ≡ written (words (lookUpValues a)) s
-  unfolding lookUpValues
-  look-up-refused n z e h = rw e h
+  module _ (b : ℕ) where
+    pub second-fits : (ns : List ℕ) → Words (a ∷ b ∷ ns) → Fits w32 b
+    unfolding Words
+    second-fits ns h = record { fits = h .1 .0 }
 
-  pub annotation-accepted : {a : Annotation} (g i k l z : ℕ) → a ≡ Annotates g i k l z → out ≡ written (words (0 ∷ g ∷ i ∷ k ∷ l ∷ z ∷ [])) s → out ≡ written (words (annotationValues a)) s
-  unfolding annotationValues
-  annotation-accepted g i k l z e h = rw e h
+    module _ (c : ℕ) where
+      pub third-fits : (ns : List ℕ) → Words (a ∷ b ∷ c ∷ ns) → Fits w32 c
+      unfolding Words
+      third-fits ns h = record { fits = h .1 .1 .0 }
 
-  pub annotation-refused : {a : Annotation} (n z : ℕ) → a ≡ NoAnnotation n z → out ≡ written (words (n ∷ 0 ∷ 0 ∷ 0 ∷ 0 ∷ z ∷ [])) s → out ≡ written (words (annotationValues a)) s
-  unfolding annotationValues
-  annotation-refused n z e h = rw e h
+      module _ (d : ℕ) where
+        pub fourth-fits : (ns : List ℕ) → Words (a ∷ b ∷ c ∷ d ∷ ns) → Fits w32 d
+        unfolding Words
+        fourth-fits ns h = record { fits = h .1 .1 .1 .0 }
 
-  pub size-accepted : {a : Size} (n : ℕ) → a ≡ SizeIs n → out ≡ written (words (0 ∷ n ∷ [])) s → out ≡ written (words (sizeValues a)) s
-  unfolding sizeValues
-  size-accepted n e h = rw e h
+        pub fifth-fits : (e : ℕ) (ns : List ℕ) → Words (a ∷ b ∷ c ∷ d ∷ e ∷ ns) → Fits w32 e
+        unfolding Words
+        fifth-fits e ns h = record { fits = h .1 .1 .1 .1 .0 }
 
-  pub size-refused : {a : Size} (n : ℕ) → a ≡ NoSize n → out ≡ written (words (n ∷ 0 ∷ [])) s → out ≡ written (words (sizeValues a)) s
-  unfolding sizeValues
-  size-refused n e h = rw e h
+        pub sixth-fits : (e f : ℕ) (ns : List ℕ) → Words (a ∷ b ∷ c ∷ d ∷ e ∷ f ∷ ns) → Fits w32 f
+        unfolding Words
+        sixth-fits e f ns h = record { fits = h .1 .1 .1 .1 .1 .0 }
 
-  pub locator-accepted : {a : LocatorAnswer} (l : Locator) {c : ℕ} {v x : Span} → a ≡ LocatorIs l → c ≡ codeOf l → v ≡ valueOf l → x ≡ suffixOf l
-      → out ≡ written (words (0 ∷ c ∷ v .at ∷ v .len ∷ x .at ∷ x .len ∷ [])) s → out ≡ written (words (locatorValues a)) s
-  unfolding locatorValues
-  locator-accepted l e ec ev ex h = rw (e, ← ec, ← ev, ← ex) h
+pub ruleset put-laws = (two-put, four-put, six-put, first-fits, second-fits, third-fits, fourth-fits, fifth-fits, sixth-fits)
 
-  pub locator-refused : {a : LocatorAnswer} (n : ℕ) → a ≡ NoLocator n → out ≡ written (words (n ∷ 0 ∷ 0 ∷ 0 ∷ 0 ∷ 0 ∷ [])) s → out ≡ written (words (locatorValues a)) s
-  unfolding locatorValues
-  locator-refused n e h = rw e h
+-- the numbers of each case
+pub look-up-accepted : {a : LookUp} {x y z : ℕ} → a ≡ Accepted x y z → lookUpValues a ≡ 0 ∷ x ∷ y ∷ z ∷ []
+unfolding lookUpValues
+look-up-accepted e = rw e
 
-  pub source-accepted : {a : SourceText} (n : ℕ) → a ≡ SourceIs n → out ≡ written (words (0 ∷ n ∷ [])) s → out ≡ written (words (sourceTextValues a)) s
-  unfolding sourceTextValues
-  source-accepted n e h = rw e h
+pub look-up-refused : {a : LookUp} {n z : ℕ} → a ≡ Refused n z → lookUpValues a ≡ n ∷ 0 ∷ 0 ∷ z ∷ []
+unfolding lookUpValues
+look-up-refused e = rw e
 
-  pub source-refused : {a : SourceText} (n : ℕ) → a ≡ NoSource n → out ≡ written (words (n ∷ 0 ∷ [])) s → out ≡ written (words (sourceTextValues a)) s
-  unfolding sourceTextValues
-  source-refused n e h = rw e h
+pub annotation-accepted : {a : Annotation} {g i k l z : ℕ} → a ≡ Annotates g i k l z → annotationValues a ≡ 0 ∷ g ∷ i ∷ k ∷ l ∷ z ∷ []
+unfolding annotationValues
+annotation-accepted e = rw e
+
+pub annotation-refused : {a : Annotation} {n z : ℕ} → a ≡ NoAnnotation n z → annotationValues a ≡ n ∷ 0 ∷ 0 ∷ 0 ∷ 0 ∷ z ∷ []
+unfolding annotationValues
+annotation-refused e = rw e
+
+pub size-accepted : {a : Size} {n : ℕ} → a ≡ SizeIs n → sizeValues a ≡ 0 ∷ n ∷ []
+unfolding sizeValues
+size-accepted e = rw e
+
+pub size-refused : {a : Size} {n : ℕ} → a ≡ NoSize n → sizeValues a ≡ n ∷ 0 ∷ []
+unfolding sizeValues
+size-refused e = rw e
+
+pub locator-accepted : {a : LocatorAnswer} {l : Locator} {c : ℕ} {v x : Span} → a ≡ LocatorIs l → c ≡ codeOf l → v ≡ valueOf l → x ≡ suffixOf l
+    → locatorValues a ≡ 0 ∷ c ∷ v .at ∷ v .len ∷ x .at ∷ x .len ∷ []
+unfolding locatorValues
+locator-accepted e ec ev ex = rw (e, ← ec, ← ev, ← ex)
+
+pub locator-refused : {a : LocatorAnswer} {n : ℕ} → a ≡ NoLocator n → locatorValues a ≡ n ∷ 0 ∷ 0 ∷ 0 ∷ 0 ∷ 0 ∷ []
+unfolding locatorValues
+locator-refused e = rw e
+
+pub source-accepted : {a : SourceText} {n : ℕ} → a ≡ SourceIs n → sourceTextValues a ≡ 0 ∷ n ∷ []
+unfolding sourceTextValues
+source-accepted e = rw e
+
+pub source-refused : {a : SourceText} {n : ℕ} → a ≡ NoSource n → sourceTextValues a ≡ n ∷ 0 ∷ []
+unfolding sourceTextValues
+source-refused e = rw e
+
+pub values-put : {values ns out : List ℕ} (s : List ℕ) → values ≡ ns → out ≡ written ns s → out ≡ written values s
+values-put s e h = rw e h
+
+pub values-words : (values : List ℕ) {ns : List ℕ} → values ≡ ns → Words values → Words ns
+values-words values e h = rw e at h
+
+pub ruleset write-laws = (
+  values-put,
+  values-words,
+  look-up-accepted,
+  look-up-refused,
+  annotation-accepted,
+  annotation-refused,
+  size-accepted,
+  size-refused,
+  locator-accepted,
+  locator-refused,
+  source-accepted,
+  source-refused,
+)
 
 -- `has_room` was asked of `s`, and left it as s′
 module _ (n : ℕ) {b : Bool} (s : List ℕ) {s′ : List ℕ} (r : b ≡ leb n (length s)) (kept : s′ ≡ s) where
   pub has-room : b ≡ true → n ≤ length s′
   has-room t = rw kept (leb-true n (length s) (sym r ∙ t))
 
+-- the numbers of an answer fit
+pub size-fit : (text : List ℕ) (a : Size) → sizeValues a ≡ sizeNumbers (sizeCall text) → Words (sizeValues a)
+size-fit text a v = rw v (size-words text)
+
+pub locator-fit : (text : List ℕ) (a : LocatorAnswer) → locatorValues a ≡ locatorNumbers (locatorCall text) → Words (locatorValues a)
+locator-fit text a v = rw v (locator-words text)
+
+pub source-fit : (pool : List ℕ) (entry : ℕ) (area : List ℕ) (a : SourceText) → sourceTextValues a ≡ sourceTextNumbers (sourceTextCall pool entry area)
+    → Words (sourceTextValues a)
+source-fit pool entry area a v = rw v (source-words pool entry area)
+
 module _ (text : List ℕ) {b : Bool} {s s′ : List ℕ} (kept : s′ ≡ s) where
-  pub size-left : {out : List ℕ} (a : Size) → b ≡ leb 2 (length s) → b ≡ true → sizeValues a ≡ sizeNumbers (sizeCall text) → out ≡ written (words (sizeValues a)) s′ → out ≡ sizeLeaves text s
+  pub size-left : {out : List ℕ} (a : Size) → b ≡ leb 2 (length s) → b ≡ true → sizeValues a ≡ sizeNumbers (sizeCall text) → out ≡ written (sizeValues a) s′ → out ≡ sizeLeaves text s
   unfolding sizeLeaves
   size-left a r t v h = rw (← r, t, ← v, ← kept) h
 
@@ -105,7 +173,7 @@ module _ (text : List ℕ) {b : Bool} {s s′ : List ℕ} (kept : s′ ≡ s) wh
   unfolding sizeLeaves
   size-kept r t = rw (← r, t) kept
 
-  pub locator-left : {out : List ℕ} (a : LocatorAnswer) → b ≡ leb 6 (length s) → b ≡ true → locatorValues a ≡ locatorNumbers (locatorCall text) → out ≡ written (words (locatorValues a)) s′ → out ≡ locatorLeaves text s
+  pub locator-left : {out : List ℕ} (a : LocatorAnswer) → b ≡ leb 6 (length s) → b ≡ true → locatorValues a ≡ locatorNumbers (locatorCall text) → out ≡ written (locatorValues a) s′ → out ≡ locatorLeaves text s
   unfolding locatorLeaves
   locator-left a r t v h = rw (← r, t, ← v, ← kept) h
 
@@ -118,7 +186,7 @@ module _ (pool : List ℕ) (entry : ℕ) (area : List ℕ) {b : Bool} {s s′ : 
   unfolding sourceTextLeaves sourceRanIn
   source-area-left t h = rw (← r, t) h
 
-  pub source-left : {out : List ℕ} (a : SourceText) → b ≡ true → sourceTextValues a ≡ sourceTextNumbers (sourceTextCall pool entry area) → out ≡ written (words (sourceTextValues a)) s′
+  pub source-left : {out : List ℕ} (a : SourceText) → b ≡ true → sourceTextValues a ≡ sourceTextNumbers (sourceTextCall pool entry area) → out ≡ written (sourceTextValues a) s′
       → out ≡ sourceTextLeaves pool entry (sourceAreas area s) .answer
   unfolding sourceTextLeaves sourceRanIn
   source-left a t v h = rw (← r, t, ← v, ← kept) h
@@ -135,8 +203,11 @@ module _ (text : List ℕ) (at note : ℕ) (index : List ℕ) (records : List Br
   abbrev looked : LookUpRan
   looked = lookUpRun text at note index records items
 
+  pub look-up-fit : note < 256 → (r : LookUp) → lookUpValues r ≡ lookUpNumbers looked → Words (lookUpValues r)
+  look-up-fit h r v = rw v (look-up-words text at note index records items h)
+
   pub look-up-left : leb 4 (length answer) ≡ true → (r : LookUp) → lookUpValues r ≡ lookUpNumbers looked
-      → lookUpAreas (looked .index) (looked .records) (looked .answer .items) (written (words (lookUpValues r)) answer) ≡ lookUpLeaves text at note (lookUpAreas index records items answer)
+      → lookUpAreas (looked .index) (looked .records) (looked .answer .items) (written (lookUpValues r) answer) ≡ lookUpLeaves text at note (lookUpAreas index records items answer)
   unfolding lookUpLeaves lookUpRanIn
   look-up-left t r v = rw (t, v)
 
@@ -148,8 +219,11 @@ module _ (text : List ℕ) (mode : ℕ) (pool : List ℕ) (note : ℕ) (index : 
   abbrev annotated : AnnotateRan
   annotated = annotateRun text mode pool note index records areas
 
+  pub annotate-fit : note < 256 → (r : Annotation) → annotationValues r ≡ annotationNumbers annotated → Words (annotationValues r)
+  annotate-fit h r v = rw v (annotation-words text mode pool note index records areas h)
+
   pub annotate-left : leb 6 (length answer) ≡ true → (r : Annotation) → annotationValues r ≡ annotationNumbers annotated
-      → annotateAreas (annotated .index) (annotated .records) (annotated .answer .areas) (written (words (annotationValues r)) answer) ≡ annotateLeaves text mode pool note (annotateAreas index records areas answer)
+      → annotateAreas (annotated .index) (annotated .records) (annotated .answer .areas) (written (annotationValues r) answer) ≡ annotateLeaves text mode pool note (annotateAreas index records areas answer)
   unfolding annotateLeaves annotateRanIn
   annotate-left t r v = rw (t, v)
 
@@ -157,19 +231,4 @@ module _ (text : List ℕ) (mode : ℕ) (pool : List ℕ) (note : ℕ) (index : 
   unfolding annotateLeaves
   annotate-kept t = rw t
 
-pub ruleset put-laws = (two-put, four-put, six-put)
-
-pub ruleset write-laws = (
-  look-up-accepted,
-  look-up-refused,
-  annotation-accepted,
-  annotation-refused,
-  size-accepted,
-  size-refused,
-  locator-accepted,
-  locator-refused,
-  source-accepted,
-  source-refused,
-)
-
-pub ruleset call-laws = (has-room, size-left, size-kept, locator-left, locator-kept, source-area-left, source-left, source-area-kept, source-kept)
+pub ruleset call-laws = (has-room, size-fit, locator-fit, source-fit, size-left, size-kept, locator-left, locator-kept, source-area-left, source-left, source-area-kept, source-kept)

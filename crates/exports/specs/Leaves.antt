@@ -1,7 +1,7 @@
 -- What each exported call leaves in the areas that it is lent. `answer` gets the number (0 accepted), then the values in the paper's order.
 -- Where it is shorter than that, the call does nothing.
-use Prim.Native.Nat.{ℕ, _%_}
-use mathlib.Core.List.{List, map}
+use Prim.Native.Nat.{ℕ}
+use mathlib.Core.List.{List}
 use mathlib.Core.Bool.{Bool}
 use lib.ListN.{length}
 use lib.Dec.{leb}
@@ -16,10 +16,6 @@ use Rattle.source.specs.Values.{sourceTextNumbers}
 use Rattle.annotation.specs.Content.{Areas}
 use Rattle.annotation.specs.Call.{AnnotateRan, annotateRun}
 use Rattle.annotation.specs.Values.{annotationNumbers}
-
--- the low 32 bits of some numbers
-unfoldable pub words : List ℕ → List ℕ
-words ns = map (λ (n : ℕ). n % 4294967296) ns
 
 -- `answer` has room for `n` numbers
 abbrev pub roomy : ℕ → List ℕ → Bool
@@ -36,7 +32,7 @@ abbrev pub lookUpAreas : List ℕ → List Bracket → List ℕ → List ℕ →
 lookUpAreas index records items answer = record { index = index; records = records; items = items; answer = answer }
 
 unfoldable pub lookUpRanIn : LookUpRan → List ℕ → LookUpAreas
-lookUpRanIn ran answer = lookUpAreas (ran .index) (ran .records) (ran .answer .items) (written (words (lookUpNumbers ran)) answer)
+lookUpRanIn ran answer = lookUpAreas (ran .index) (ran .records) (ran .answer .items) (written (lookUpNumbers ran) answer)
 
 unfoldable pub lookUpLeaves : List ℕ → ℕ → ℕ → LookUpAreas → LookUpAreas
 lookUpLeaves text at note given =
@@ -53,17 +49,17 @@ abbrev pub annotateAreas : List ℕ → List Bracket → Areas → List ℕ → 
 annotateAreas index records areas answer = record { index = index; records = records; areas = areas; answer = answer }
 
 unfoldable pub annotateRanIn : AnnotateRan → List ℕ → AnnotateAreas
-annotateRanIn ran answer = annotateAreas (ran .index) (ran .records) (ran .answer .areas) (written (words (annotationNumbers ran)) answer)
+annotateRanIn ran answer = annotateAreas (ran .index) (ran .records) (ran .answer .areas) (written (annotationNumbers ran) answer)
 
 unfoldable pub annotateLeaves : List ℕ → ℕ → List ℕ → ℕ → AnnotateAreas → AnnotateAreas
 annotateLeaves text mode pool note given =
     pick (roomy 6 (given .answer)) (annotateRanIn (annotateRun text mode pool note (given .index) (given .records) (given .areas)) (given .answer)) given
 
 unfoldable pub sizeLeaves : List ℕ → List ℕ → List ℕ
-sizeLeaves text answer = pick (roomy 2 answer) (written (words (sizeNumbers (sizeCall text))) answer) answer
+sizeLeaves text answer = pick (roomy 2 answer) (written (sizeNumbers (sizeCall text)) answer) answer
 
 unfoldable pub locatorLeaves : List ℕ → List ℕ → List ℕ
-locatorLeaves text answer = pick (roomy 6 answer) (written (words (locatorNumbers (locatorCall text))) answer) answer
+locatorLeaves text answer = pick (roomy 6 answer) (written (locatorNumbers (locatorCall text)) answer) answer
 
 -- the areas of a source text call
 pub record SourceAreas : Type 0 where
@@ -74,7 +70,7 @@ abbrev pub sourceAreas : List ℕ → List ℕ → SourceAreas
 sourceAreas area answer = record { area = area; answer = answer }
 
 unfoldable pub sourceRanIn : SourceAnswer → List ℕ → SourceAreas
-sourceRanIn ran answer = sourceAreas (ran .area) (written (words (sourceTextNumbers ran)) answer)
+sourceRanIn ran answer = sourceAreas (ran .area) (written (sourceTextNumbers ran) answer)
 
 unfoldable pub sourceTextLeaves : List ℕ → ℕ → SourceAreas → SourceAreas
 sourceTextLeaves pool entry given = pick (roomy 2 (given .answer)) (sourceRanIn (sourceTextCall pool entry (given .area)) (given .answer)) given

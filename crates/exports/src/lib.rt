@@ -8,7 +8,7 @@ use lookup::Size;
 use source::SourceText;
 ghost use mathlib.Core.List.{[], _∷_};
 ghost use mathlib.Core.Path.{_≡_};
-ghost use Prim.Native.Nat.{_%_, _≤_};
+ghost use Prim.Native.Nat.{_≤_};
 ghost use lib.Dec.{leb};
 ghost use lib.ListN.{length};
 ghost use Rattle.annotation.specs.Halves.{areas};
@@ -16,8 +16,8 @@ ghost use Rattle.annotation.specs.Values.{annotationValues};
 ghost use Rattle.base.specs.Lists.{written};
 ghost use Rattle.lookup.specs.Values.{lookUpValues, locatorValues, sizeValues};
 ghost use Rattle.source.specs.Values.{sourceTextValues};
+ghost use Rattle.exports.specs.Words.{Words};
 ghost use Rattle.exports.specs.Leaves.{
-  words,
   lookUpAreas,
   lookUpLeaves,
   annotateAreas,
@@ -35,50 +35,43 @@ fn has_room(answer: &mut [u32], n: usize) -> bool
     n <= answer.len()
 }
 
-// The low 32 bits of `n`.
-fn word(n: usize) -> u32
-    ensures { λ r. ⌜ r ≡ n % 4294967296 ⌝ }
-{
-    (n & 0xffffffff) as u32
-}
-
 // Two numbers, at the front of `answer`.
 fn put_two(answer: &mut [u32], a: usize, b: usize)
-    requires { ⌜ 2 ≤ length (now answer) ⌝ }
-    ensures { λ _. ⌜ now (answer .exit) ≡ written (words (a ∷ b ∷ [])) (now (answer .entry)) ⌝ }
+    requires { ⌜ (2 ≤ length (now answer)) × Words (a ∷ b ∷ []) ⌝ }
+    ensures { λ _. ⌜ now (answer .exit) ≡ written (a ∷ b ∷ []) (now (answer .entry)) ⌝ }
 {
-    answer[0] = word(a);
-    answer[1] = word(b);
+    answer[0] = a as u32;
+    answer[1] = b as u32;
 }
 
 // Four numbers, at the front of `answer`.
 fn put_four(answer: &mut [u32], a: usize, b: usize, c: usize, d: usize)
-    requires { ⌜ 4 ≤ length (now answer) ⌝ }
-    ensures { λ _. ⌜ now (answer .exit) ≡ written (words (a ∷ b ∷ c ∷ d ∷ [])) (now (answer .entry)) ⌝ }
+    requires { ⌜ (4 ≤ length (now answer)) × Words (a ∷ b ∷ c ∷ d ∷ []) ⌝ }
+    ensures { λ _. ⌜ now (answer .exit) ≡ written (a ∷ b ∷ c ∷ d ∷ []) (now (answer .entry)) ⌝ }
 {
-    answer[0] = word(a);
-    answer[1] = word(b);
-    answer[2] = word(c);
-    answer[3] = word(d);
+    answer[0] = a as u32;
+    answer[1] = b as u32;
+    answer[2] = c as u32;
+    answer[3] = d as u32;
 }
 
 // Six numbers, at the front of `answer`.
 fn put_six(answer: &mut [u32], a: usize, b: usize, c: usize, d: usize, e: usize, f: usize)
-    requires { ⌜ 6 ≤ length (now answer) ⌝ }
-    ensures { λ _. ⌜ now (answer .exit) ≡ written (words (a ∷ b ∷ c ∷ d ∷ e ∷ f ∷ [])) (now (answer .entry)) ⌝ }
+    requires { ⌜ (6 ≤ length (now answer)) × Words (a ∷ b ∷ c ∷ d ∷ e ∷ f ∷ []) ⌝ }
+    ensures { λ _. ⌜ now (answer .exit) ≡ written (a ∷ b ∷ c ∷ d ∷ e ∷ f ∷ []) (now (answer .entry)) ⌝ }
 {
-    answer[0] = word(a);
-    answer[1] = word(b);
-    answer[2] = word(c);
-    answer[3] = word(d);
-    answer[4] = word(e);
-    answer[5] = word(f);
+    answer[0] = a as u32;
+    answer[1] = b as u32;
+    answer[2] = c as u32;
+    answer[3] = d as u32;
+    answer[4] = e as u32;
+    answer[5] = f as u32;
 }
 
 // Number, close, item count, note.
 fn write_look_up(a: LookUp, answer: &mut [u32])
-    requires { ⌜ 4 ≤ length (now answer) ⌝ }
-    ensures { λ _. ⌜ now (answer .exit) ≡ written (words (lookUpValues a)) (now (answer .entry)) ⌝ }
+    requires { ⌜ (4 ≤ length (now answer)) × Words (lookUpValues a) ⌝ }
+    ensures { λ _. ⌜ now (answer .exit) ≡ written (lookUpValues a) (now (answer .entry)) ⌝ }
 {
     match a {
         LookUp::Accepted { close, count, note } => put_four(answer, 0, close, count, note as usize),
@@ -88,8 +81,8 @@ fn write_look_up(a: LookUp, answer: &mut [u32])
 
 // Number, groups, items, sources, label bytes, note.
 fn write_annotation(a: Annotation, answer: &mut [u32])
-    requires { ⌜ 6 ≤ length (now answer) ⌝ }
-    ensures { λ _. ⌜ now (answer .exit) ≡ written (words (annotationValues a)) (now (answer .entry)) ⌝ }
+    requires { ⌜ (6 ≤ length (now answer)) × Words (annotationValues a) ⌝ }
+    ensures { λ _. ⌜ now (answer .exit) ≡ written (annotationValues a) (now (answer .entry)) ⌝ }
 {
     match a {
         Annotation::Accepted {
@@ -113,8 +106,8 @@ fn write_annotation(a: Annotation, answer: &mut [u32])
 
 // Number, records.
 fn write_size(a: Size, answer: &mut [u32])
-    requires { ⌜ 2 ≤ length (now answer) ⌝ }
-    ensures { λ _. ⌜ now (answer .exit) ≡ written (words (sizeValues a)) (now (answer .entry)) ⌝ }
+    requires { ⌜ (2 ≤ length (now answer)) × Words (sizeValues a) ⌝ }
+    ensures { λ _. ⌜ now (answer .exit) ≡ written (sizeValues a) (now (answer .entry)) ⌝ }
 {
     match a {
         Size::Accepted { records } => put_two(answer, 0, records),
@@ -124,8 +117,8 @@ fn write_size(a: Size, answer: &mut [u32])
 
 // Number, label code, value pair, suffix pair.
 fn write_locator(a: LocatorAnswer, answer: &mut [u32])
-    requires { ⌜ 6 ≤ length (now answer) ⌝ }
-    ensures { λ _. ⌜ now (answer .exit) ≡ written (words (locatorValues a)) (now (answer .entry)) ⌝ }
+    requires { ⌜ (6 ≤ length (now answer)) × Words (locatorValues a) ⌝ }
+    ensures { λ _. ⌜ now (answer .exit) ≡ written (locatorValues a) (now (answer .entry)) ⌝ }
 {
     match a {
         LocatorAnswer::Accepted { locator } => {
@@ -148,8 +141,8 @@ fn write_locator(a: LocatorAnswer, answer: &mut [u32])
 
 // Number, bytes.
 fn write_source_text(a: SourceText, answer: &mut [u32])
-    requires { ⌜ 2 ≤ length (now answer) ⌝ }
-    ensures { λ _. ⌜ now (answer .exit) ≡ written (words (sourceTextValues a)) (now (answer .entry)) ⌝ }
+    requires { ⌜ (2 ≤ length (now answer)) × Words (sourceTextValues a) ⌝ }
+    ensures { λ _. ⌜ now (answer .exit) ≡ written (sourceTextValues a) (now (answer .entry)) ⌝ }
 {
     match a {
         SourceText::Accepted { bytes } => put_two(answer, 0, bytes),

@@ -53,8 +53,9 @@ use Rattle.calls.proofs.annotate as called
 use Rattle.calls.proofs.annotate.Symbol as called-def
 use Rattle.calls.proofs.annotate.Symbol.{name as #calls·annotate}
 use Rattle.calls.proofs.annotate.Met as called-thm
-use Rattle.exports.specs.Leaves.{words, AnnotateAreas, annotateAreas, annotateLeaves}
-use Rattle.exports.proofs.Laws.{annotate-left, annotate-kept}
+use Rattle.exports.specs.Words.{Words}
+use Rattle.exports.specs.Leaves.{AnnotateAreas, annotateAreas, annotateLeaves}
+use Rattle.exports.proofs.Laws.{annotate-fit, annotate-left, annotate-kept}
 use Rattle.exports.proofs.Calls.{HasRoom, asks, holds, fails}
 use Rattle.exports.proofs.has_room.Symbol as room-def
 use Rattle.exports.proofs.has_room.Symbol.{name as #exports·has-room}
@@ -225,14 +226,14 @@ module _ {M : Type 1} (𝓤 : URA M) (H : Heap 𝓤) (A : Atoms 𝓤) (W : Given
           assigns ! (addr ! (from ! {i = 11} (fld ! refl (hop ! (look-in ! 56 (sub ! 0 refl (whole !))) (stop !))))) (from ! {i = 29} (stop !)) (init ! 20 refl (tt, tt)) $ assigns ! (agg ! (and-then ! (load ! (from ! {i = 29} (stop !)) (look ! 20 refl)) (and-then ! (load ! (from ! {i = 11} (fld ! refl (stop !))) (look-in ! 56 (sub ! 1 refl (whole !)))) (no-more !)))) (from ! {i = 30} (stop !)) (init ! 18 refl (tt, (tt, (record { fits = room₈ .0 }, tt)))) $ 
           move ! (16 ∷ 17 ∷ []) $ lent ! tt u32 b₈ o₈ (named 7) (named 0) xs (λ ν₇ δ₇. nothing ! $ nothing ! $ move ! (2 ∷ 1 ∷ 5 ∷ 3 ∷ 0 ∷ []) $ 
           calls-row-last W ! writes.ended (writes.clauses 𝓤 H A mem run) ((ν₇ ∷ [], tt), (fullShare, tt), tt, (r, (at-list b₈ o₈ δ₇ xs, tt)), (u ∷ [], (sv₈ ∷ [], tt))) tt
-          (λ _ zs. zs .1 .0 ≡ written (words (annotationValues r)) xs)
+          (λ _ zs. zs .1 .0 ≡ written (annotationValues r) xs)
           (‵ (flft (ν₇ ∷ []) fullShare) ∷ ‵ ftrue ∷ [])
           (‵ (R.the-row .own r (u ∷ [])) ∷ ‵ (MutSlice (named 0) (ν₇ ∷ []) u32 .own (at-list b₈ o₈ δ₇ xs) (sv₈ ∷ [])) ∷ ‵ ftrue ∷ [])
-          (record { tokens = refl; owned = refl; required = factI 𝓤 (6 ≤ length xs) (emp 𝓤) (leb-true 6 (length xs) (holds _ yes)); ensured = λ r zs. id⊢ 𝓤 _ }) fm (known .2) (and-then ! (load ! (from ! {i = 12} (stop !)) (look ! 52 refl)) (and-then ! (load ! (from ! {i = 30} (stop !)) (look ! 16 refl)) (no-more !)))
-          (λ _. vunit) nothing-tells tt (λ r zs e. refl) (λ _ zs′ e′. move ! (2 ∷ []) $ no-last ! $ last-list ! u32 δ₇ (zs′ .1 .0) (written (words (annotationValues r)) xs) e′ (λ e₇. drop ! $ move ! (2 ∷ []) $ drop ! $ move ! (1 ∷ 0 ∷ 2 ∷ []) $ back ! tt u32 b₈ o₈ (named 7) xs (written (words (annotationValues r)) xs) room₈ e₇ $
+          (record { tokens = refl; owned = refl; required = factI 𝓤 ((6 ≤ length xs) × Words (annotationValues r)) (emp 𝓤) (leb-true 6 (length xs) (holds _ yes), annotate-fit ts mode ps note is ys (areas js gs rs ls) xs note-fits r (e .0)); ensured = λ r zs. id⊢ 𝓤 _ }) fm (known .2) (and-then ! (load ! (from ! {i = 12} (stop !)) (look ! 52 refl)) (and-then ! (load ! (from ! {i = 30} (stop !)) (look ! 16 refl)) (no-more !)))
+          (λ _. vunit) nothing-tells tt (λ r zs e. refl) (λ _ zs′ e′. move ! (2 ∷ []) $ no-last ! $ last-list ! u32 δ₇ (zs′ .1 .0) (written (annotationValues r) xs) e′ (λ e₇. drop ! $ move ! (2 ∷ []) $ drop ! $ move ! (1 ∷ 0 ∷ 2 ∷ []) $ back ! tt u32 b₈ o₈ (named 7) xs (written (annotationValues r) xs) room₈ e₇ $
           land-last ! (from ! {i = 28} (stop !)) (init ! 21 refl (tt, tt)) $ exec ! C Λ En code.Mir.t-5 (atRet En Post) $
           forget ! 17 refl $ forget ! 19 refl $ forget ! 21 refl $ forget ! 23 refl $ forget ! 25 refl $ forget ! 27 refl $ forget ! 29 refl $ forget ! 31 refl $ forget ! 33 refl $ forget ! 35 refl $ forget ! 37 refl $ forget ! 39 refl $ forget ! 41 refl $ forget ! 43 refl $ forget ! 45 refl $ forget ! 53 refl $ 
-          move ! (14 ∷ 12 ∷ 10 ∷ 8 ∷ 6 ∷ 4 ∷ 2 ∷ 0 ∷ 16 ∷ 15 ∷ 13 ∷ 11 ∷ 9 ∷ 7 ∷ 5 ∷ 3 ∷ 1 ∷ []) $ leaves (annotateAreas (ran .index) (ran .records) (ran .answer .areas) (written (words (annotationValues r)) xs)) (annotate-left ts mode ps note is ys (areas js gs rs ls) xs (holds _ yes) r (e .0)) (e₁, e₂, e₃, e₄, e₅, e₆, e₇)))))))))))))))))))
+          move ! (14 ∷ 12 ∷ 10 ∷ 8 ∷ 6 ∷ 4 ∷ 2 ∷ 0 ∷ 16 ∷ 15 ∷ 13 ∷ 11 ∷ 9 ∷ 7 ∷ 5 ∷ 3 ∷ 1 ∷ []) $ leaves (annotateAreas (ran .index) (ran .records) (ran .answer .areas) (written (annotationValues r) xs)) (annotate-left ts mode ps note is ys (areas js gs rs ls) xs (holds _ yes) r (e .0)) (e₁, e₂, e₃, e₄, e₅, e₆, e₇)))))))))))))))))))
           (λ no. skips ! $ exec ! C Λ En code.Mir.t-5 (atRet En Post) $ leaves (annotateAreas is ys (areas js gs rs ls) xs) (annotate-kept ts mode ps note is ys (areas js gs rs ls) xs (fails _ no)) (refl, refl, refl, refl, refl, refl, refl))
 
     walk : ent 𝓤 (onEntry 𝓤 H A f.signature (κ₀, (κ₁, (κ₂, (κ₃, (κ₄, (κ₅, (κ₆, (κ₇, tt)))))))) (q₀, (q₁, (q₂, (q₃, (q₄, (q₅, (q₆, (q₇, tt)))))))) a vals) (WpFn 𝓤 H C Λ code.function (sv₀ ∷ vint w8 mode ∷ sv₁ ∷ vint w8 note ∷ sv₂ ∷ sv₃ ∷ sv₄ ∷ sv₅ ∷ sv₆ ∷ sv₇ ∷ sv₈ ∷ []) Post)

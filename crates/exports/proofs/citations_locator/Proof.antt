@@ -15,7 +15,7 @@ locator-requires : tie.Need-locator-requires
 locator-requires c κs = search needs
 
 write-locator-requires : tie.Need-write-locator-requires
-write-locator-requires c κs = search (call-laws, needs)
+write-locator-requires c κs = (search (call-laws, needs), search (call-laws, needs))
 
 same-length : tie.Need-same-length
 same-length c = search needs

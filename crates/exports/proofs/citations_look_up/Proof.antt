@@ -52,8 +52,9 @@ use Rattle.calls.proofs.look_up as called
 use Rattle.calls.proofs.look_up.Symbol as called-def
 use Rattle.calls.proofs.look_up.Symbol.{name as #calls·look-up}
 use Rattle.calls.proofs.look_up.Met as called-thm
-use Rattle.exports.specs.Leaves.{words, LookUpAreas, lookUpAreas, lookUpLeaves}
-use Rattle.exports.proofs.Laws.{look-up-left, look-up-kept}
+use Rattle.exports.specs.Words.{Words}
+use Rattle.exports.specs.Leaves.{LookUpAreas, lookUpAreas, lookUpLeaves}
+use Rattle.exports.proofs.Laws.{look-up-fit, look-up-left, look-up-kept}
 use Rattle.exports.proofs.Calls.{HasRoom, asks, holds, fails}
 use Rattle.exports.proofs.has_room.Symbol as room-def
 use Rattle.exports.proofs.has_room.Symbol.{name as #exports·has-room}
@@ -194,14 +195,14 @@ module _ {M : Type 1} (𝓤 : URA M) (H : Heap 𝓤) (A : Atoms 𝓤) (W : Given
           assigns ! (addr ! (from ! {i = 7} (fld ! refl (hop ! (look-in ! 37 (sub ! 0 refl (whole !))) (stop !))))) (from ! {i = 19} (stop !)) (init ! 13 refl (tt, tt)) $ assigns ! (agg ! (and-then ! (load ! (from ! {i = 19} (stop !)) (look ! 13 refl)) (and-then ! (load ! (from ! {i = 7} (fld ! refl (stop !))) (look-in ! 37 (sub ! 1 refl (whole !)))) (no-more !)))) (from ! {i = 20} (stop !)) (init ! 11 refl (tt, (tt, (record { fits = room₄ .0 }, tt)))) $ 
           move ! (9 ∷ 10 ∷ []) $ lent ! tt u32 b₄ o₄ (named 4) (named 0) xs (λ ν₄ δ₄. nothing ! $ nothing ! $ move ! (2 ∷ 1 ∷ 5 ∷ 3 ∷ 0 ∷ []) $ 
           calls-row-last W ! writes.ended (writes.clauses 𝓤 H A mem run) ((ν₄ ∷ [], tt), (fullShare, tt), tt, (r, (at-list b₄ o₄ δ₄ xs, tt)), (u ∷ [], (sv₄ ∷ [], tt))) tt
-          (λ _ zs. zs .1 .0 ≡ written (words (lookUpValues r)) xs)
+          (λ _ zs. zs .1 .0 ≡ written (lookUpValues r) xs)
           (‵ (flft (ν₄ ∷ []) fullShare) ∷ ‵ ftrue ∷ [])
           (‵ (R.the-row .own r (u ∷ [])) ∷ ‵ (MutSlice (named 0) (ν₄ ∷ []) u32 .own (at-list b₄ o₄ δ₄ xs) (sv₄ ∷ [])) ∷ ‵ ftrue ∷ [])
-          (record { tokens = refl; owned = refl; required = factI 𝓤 (4 ≤ length xs) (emp 𝓤) (leb-true 4 (length xs) (holds _ yes)); ensured = λ r zs. id⊢ 𝓤 _ }) fm (known .2) (and-then ! (load ! (from ! {i = 8} (stop !)) (look ! 33 refl)) (and-then ! (load ! (from ! {i = 20} (stop !)) (look ! 9 refl)) (no-more !)))
-          (λ _. vunit) nothing-tells tt (λ r zs e. refl) (λ _ zs′ e′. move ! (2 ∷ []) $ no-last ! $ last-list ! u32 δ₄ (zs′ .1 .0) (written (words (lookUpValues r)) xs) e′ (λ e₄. drop ! $ move ! (2 ∷ []) $ drop ! $ move ! (1 ∷ 0 ∷ 2 ∷ []) $ back ! tt u32 b₄ o₄ (named 4) xs (written (words (lookUpValues r)) xs) room₄ e₄ $
+          (record { tokens = refl; owned = refl; required = factI 𝓤 ((4 ≤ length xs) × Words (lookUpValues r)) (emp 𝓤) (leb-true 4 (length xs) (holds _ yes), look-up-fit ts at note is ys js xs note-fits r (e .0)); ensured = λ r zs. id⊢ 𝓤 _ }) fm (known .2) (and-then ! (load ! (from ! {i = 8} (stop !)) (look ! 33 refl)) (and-then ! (load ! (from ! {i = 20} (stop !)) (look ! 9 refl)) (no-more !)))
+          (λ _. vunit) nothing-tells tt (λ r zs e. refl) (λ _ zs′ e′. move ! (2 ∷ []) $ no-last ! $ last-list ! u32 δ₄ (zs′ .1 .0) (written (lookUpValues r) xs) e′ (λ e₄. drop ! $ move ! (2 ∷ []) $ drop ! $ move ! (1 ∷ 0 ∷ 2 ∷ []) $ back ! tt u32 b₄ o₄ (named 4) xs (written (lookUpValues r) xs) room₄ e₄ $
           land-last ! (from ! {i = 18} (stop !)) (init ! 14 refl (tt, tt)) $ exec ! C Λ En code.Mir.t-5 (atRet En Post) $
           forget ! 10 refl $ forget ! 12 refl $ forget ! 14 refl $ forget ! 16 refl $ forget ! 18 refl $ forget ! 20 refl $ forget ! 22 refl $ forget ! 24 refl $ forget ! 26 refl $ forget ! 34 refl $ 
-          move ! (8 ∷ 6 ∷ 4 ∷ 2 ∷ 0 ∷ 9 ∷ 7 ∷ 5 ∷ 3 ∷ 1 ∷ []) $ leaves (lookUpAreas (ran .index) (ran .records) (ran .answer .items) (written (words (lookUpValues r)) xs)) (look-up-left ts at note is ys js xs (holds _ yes) r (e .0)) (e₁, e₂, e₃, e₄)))))))))))))
+          move ! (8 ∷ 6 ∷ 4 ∷ 2 ∷ 0 ∷ 9 ∷ 7 ∷ 5 ∷ 3 ∷ 1 ∷ []) $ leaves (lookUpAreas (ran .index) (ran .records) (ran .answer .items) (written (lookUpValues r) xs)) (look-up-left ts at note is ys js xs (holds _ yes) r (e .0)) (e₁, e₂, e₃, e₄)))))))))))))
           (λ no. skips ! $ exec ! C Λ En code.Mir.t-5 (atRet En Post) $ leaves (lookUpAreas is ys js xs) (look-up-kept ts at note is ys js xs (fails _ no)) (refl, refl, refl, refl))
 
     walk : ent 𝓤 (onEntry 𝓤 H A f.signature (κ₀, (κ₁, (κ₂, (κ₃, (κ₄, tt))))) (q₀, (q₁, (q₂, (q₃, (q₄, tt))))) a vals) (WpFn 𝓤 H C Λ code.function (sv₀ ∷ vint w64 at ∷ vint w8 note ∷ sv₁ ∷ sv₂ ∷ sv₃ ∷ sv₄ ∷ []) Post)

@@ -15,7 +15,7 @@ size-requires : tie.Need-size-requires
 size-requires c κs = search needs
 
 write-size-requires : tie.Need-write-size-requires
-write-size-requires c κs = search (call-laws, needs)
+write-size-requires c κs = (search (call-laws, needs), search (call-laws, needs))
 
 same-length : tie.Need-same-length
 same-length c = search needs

@@ -15,7 +15,7 @@ source-text-requires : tie.Need-source-text-requires
 source-text-requires c κs = search needs
 
 write-source-text-requires : tie.Need-write-source-text-requires
-write-source-text-requires c κs = search (call-laws, needs)
+write-source-text-requires c κs = (search (call-laws, needs), search (call-laws, needs))
 
 same-length : tie.Need-same-length
 same-length c = search needs

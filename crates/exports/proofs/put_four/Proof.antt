@@ -6,28 +6,27 @@ use Rattle.exports.proofs.put_four.Statement.{statement}
 use Rattle.exports.proofs.put_four.Tie as tie
 use Rattle.exports.proofs.put_four.Reads as reads
 use Rattle.exports.proofs.put_four.Lts as lts
-use Rattle.exports.proofs.word.Reads as word-reads
 
-word-requires : tie.Need-word-requires
-word-requires c κs = search needs
+cast-answer : tie.Need-cast-answer
+cast-answer c = search (put-laws, needs)
 
 slice-write-answer : tie.Need-slice-write-answer
 slice-write-answer c = search needs
 
-word-requires-2 : tie.Need-word-requires-2
-word-requires-2 c κs = search needs
+cast-answer-2 : tie.Need-cast-answer-2
+cast-answer-2 c = search (put-laws, needs)
 
 slice-write-answer-2 : tie.Need-slice-write-answer-2
 slice-write-answer-2 c = simp length-set (omega arith)
 
-word-requires-3 : tie.Need-word-requires-3
-word-requires-3 c κs = search needs
+cast-answer-3 : tie.Need-cast-answer-3
+cast-answer-3 c = search (put-laws, needs)
 
 slice-write-answer-3 : tie.Need-slice-write-answer-3
 slice-write-answer-3 c = simp length-set (omega arith)
 
-word-requires-4 : tie.Need-word-requires-4
-word-requires-4 c κs = search needs
+cast-answer-4 : tie.Need-cast-answer-4
+cast-answer-4 c = search (put-laws, needs)
 
 slice-write-answer-4 : tie.Need-slice-write-answer-4
 slice-write-answer-4 c = simp length-set (omega arith)
@@ -42,13 +41,13 @@ pub put-four-spec : {M : Type 1} → statement M
 put-four-spec =
     tie.close
     (tie.spec
-    word-requires
+    cast-answer
     slice-write-answer
-    word-requires-2
+    cast-answer-2
     slice-write-answer-2
-    word-requires-3
+    cast-answer-3
     slice-write-answer-3
-    word-requires-4
+    cast-answer-4
     slice-write-answer-4
     same-length
     returns)

@@ -13,7 +13,7 @@ cast-put-six : tie.Need-cast-put-six
 cast-put-six c = search needs
 
 put-six-requires : tie.Need-put-six-requires
-put-six-requires c κs = search needs
+put-six-requires c κs = (search needs, search (write-laws, needs))
 
 enum-known-a-2 : tie.Need-enum-known-a-2
 enum-known-a-2 c = search needs
@@ -25,7 +25,7 @@ cast-put-six-3 : tie.Need-cast-put-six-3
 cast-put-six-3 c = search needs
 
 put-six-requires-2 : tie.Need-put-six-requires-2
-put-six-requires-2 c κs = search needs
+put-six-requires-2 c κs = (search needs, search (write-laws, needs))
 
 same-length : tie.Need-same-length
 same-length c = search needs

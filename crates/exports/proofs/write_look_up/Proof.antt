@@ -13,7 +13,7 @@ cast-put-four : tie.Need-cast-put-four
 cast-put-four c = search needs
 
 put-four-requires : tie.Need-put-four-requires
-put-four-requires c κs = search needs
+put-four-requires c κs = (search needs, search (write-laws, needs))
 
 enum-known-a-2 : tie.Need-enum-known-a-2
 enum-known-a-2 c = search needs
@@ -25,7 +25,7 @@ cast-put-four-3 : tie.Need-cast-put-four-3
 cast-put-four-3 c = search needs
 
 put-four-requires-2 : tie.Need-put-four-requires-2
-put-four-requires-2 c κs = search needs
+put-four-requires-2 c κs = (search needs, search (write-laws, needs))
 
 same-length : tie.Need-same-length
 same-length c = search needs
