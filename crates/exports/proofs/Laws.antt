@@ -1,0 +1,234 @@
+-- Numbers put at the front of `answer`: what the functions here leave, in the shape of their contracts.
+use Prim.Native.Nat.{ℕ, _<_, _≤_}
+use mathlib.Core.Path.{_≡_, refl, sym, _∙_, ap}
+use mathlib.Core.List.{List, [], _∷_}
+use mathlib.Core.Bool.{Bool, true, false}
+use lib.ListN.{length, set}
+use lib.Dec.{leb}
+use mir.Syntax.{w32}
+use mir.Val.{Fits}
+use borrow.Author.Tests.{leb-true}
+use Rattle.base.specs.Lists.{written}
+use Rattle.base.specs.Pick.{pick}
+use Rattle.lookup.specs.Rows.{putAt}
+use Rattle.lookup.proofs.Areas.{put-written}
+use Rattle.locator.specs.declared.Locator.{Locator}
+use Rattle.locator.specs.Answers.{codeOf, valueOf, suffixOf}
+use Rattle.base.specs.declared.Span.{Span}
+use Rattle.lookup.specs.declared.LookUp.{LookUp}
+use Rattle.lookup.specs.declared.LookUp.the-variants.{Accepted, Refused}
+use Rattle.lookup.specs.declared.LocatorAnswer.{LocatorAnswer}
+use Rattle.lookup.specs.declared.LocatorAnswer.the-variants.{Accepted as LocatorIs, Refused as NoLocator}
+use Rattle.lookup.specs.declared.Size.{Size}
+use Rattle.lookup.specs.declared.Size.the-variants.{Accepted as SizeIs, Refused as NoSize}
+use Rattle.lookup.specs.Others.{locatorCall, sizeCall}
+use Rattle.lookup.specs.LookUps.{LookUpRan, lookUpRun}
+use Rattle.lookup.specs.Values.{lookUpValues, lookUpNumbers, locatorValues, locatorNumbers, sizeValues, sizeNumbers}
+use Rattle.source.specs.declared.SourceText.{SourceText}
+use Rattle.source.specs.declared.SourceText.the-variants.{Accepted as SourceIs, Refused as NoSource}
+use Rattle.source.specs.Call.{sourceTextCall}
+use Rattle.source.specs.Values.{sourceTextValues, sourceTextNumbers}
+use Rattle.annotation.specs.declared.Annotation.{Annotation}
+use Rattle.annotation.specs.declared.Annotation.the-variants.{Accepted as Annotates, Refused as NoAnnotation}
+use Rattle.annotation.specs.Content.{Areas}
+use Rattle.annotation.specs.Call.{AnnotateRan, annotateRun}
+use Rattle.annotation.specs.Values.{annotationValues, annotationNumbers}
+use Rattle.index.specs.declared.Bracket.{Bracket}
+use Rattle.exports.specs.Words.{Words}
+use Rattle.exports.proofs.Words.{size-words, locator-words, look-up-words, annotation-words}
+use Rattle.exports.proofs.SourceWords.{source-words}
+use Rattle.exports.specs.Leaves.{lookUpAreas, lookUpRanIn, lookUpLeaves, annotateAreas, annotateRanIn, annotateLeaves, sizeLeaves, locatorLeaves, sourceAreas, sourceRanIn, sourceTextLeaves}
+
+-- what is put
+module _ (s : List ℕ) (a b : ℕ) where
+  pub two-put : 2 ≤ length s → set (set s 0 a) 1 b ≡ written (a ∷ b ∷ []) s
+  unfolding putAt
+  two-put h = put-written (a ∷ b ∷ []) s h
+
+  module _ (c d : ℕ) where
+    pub four-put : 4 ≤ length s → set (set (set (set s 0 a) 1 b) 2 c) 3 d ≡ written (a ∷ b ∷ c ∷ d ∷ []) s
+    unfolding putAt
+    four-put h = put-written (a ∷ b ∷ c ∷ d ∷ []) s h
+
+    pub six-put : (e f : ℕ) → 6 ≤ length s → set (set (set (set (set (set s 0 a) 1 b) 2 c) 3 d) 4 e) 5 f ≡ written (a ∷ b ∷ c ∷ d ∷ e ∷ f ∷ []) s
+    unfolding putAt
+    six-put e f h = put-written (a ∷ b ∷ c ∷ d ∷ e ∷ f ∷ []) s h
+
+-- each number fits
+module _ (a : ℕ) where
+  pub first-fits : (ns : List ℕ) → Words (a ∷ ns) → Fits w32 a
+  unfolding Words
+  first-fits ns h = record { fits = h .0 }
+
+  module _ (b : ℕ) where
+    pub second-fits : (ns : List ℕ) → Words (a ∷ b ∷ ns) → Fits w32 b
+    unfolding Words
+    second-fits ns h = record { fits = h .1 .0 }
+
+    module _ (c : ℕ) where
+      pub third-fits : (ns : List ℕ) → Words (a ∷ b ∷ c ∷ ns) → Fits w32 c
+      unfolding Words
+      third-fits ns h = record { fits = h .1 .1 .0 }
+
+      module _ (d : ℕ) where
+        pub fourth-fits : (ns : List ℕ) → Words (a ∷ b ∷ c ∷ d ∷ ns) → Fits w32 d
+        unfolding Words
+        fourth-fits ns h = record { fits = h .1 .1 .1 .0 }
+
+        pub fifth-fits : (e : ℕ) (ns : List ℕ) → Words (a ∷ b ∷ c ∷ d ∷ e ∷ ns) → Fits w32 e
+        unfolding Words
+        fifth-fits e ns h = record { fits = h .1 .1 .1 .1 .0 }
+
+        pub sixth-fits : (e f : ℕ) (ns : List ℕ) → Words (a ∷ b ∷ c ∷ d ∷ e ∷ f ∷ ns) → Fits w32 f
+        unfolding Words
+        sixth-fits e f ns h = record { fits = h .1 .1 .1 .1 .1 .0 }
+
+pub ruleset put-laws = (two-put, four-put, six-put, first-fits, second-fits, third-fits, fourth-fits, fifth-fits, sixth-fits)
+
+-- the numbers of each case
+pub look-up-accepted : {a : LookUp} {x y z : ℕ} → a ≡ Accepted x y z → lookUpValues a ≡ 0 ∷ x ∷ y ∷ z ∷ []
+unfolding lookUpValues
+look-up-accepted e = rw e
+
+pub look-up-refused : {a : LookUp} {n z : ℕ} → a ≡ Refused n z → lookUpValues a ≡ n ∷ 0 ∷ 0 ∷ z ∷ []
+unfolding lookUpValues
+look-up-refused e = rw e
+
+pub annotation-accepted : {a : Annotation} {g i k l z : ℕ} → a ≡ Annotates g i k l z → annotationValues a ≡ 0 ∷ g ∷ i ∷ k ∷ l ∷ z ∷ []
+unfolding annotationValues
+annotation-accepted e = rw e
+
+pub annotation-refused : {a : Annotation} {n z : ℕ} → a ≡ NoAnnotation n z → annotationValues a ≡ n ∷ 0 ∷ 0 ∷ 0 ∷ 0 ∷ z ∷ []
+unfolding annotationValues
+annotation-refused e = rw e
+
+pub size-accepted : {a : Size} {n : ℕ} → a ≡ SizeIs n → sizeValues a ≡ 0 ∷ n ∷ []
+unfolding sizeValues
+size-accepted e = rw e
+
+pub size-refused : {a : Size} {n : ℕ} → a ≡ NoSize n → sizeValues a ≡ n ∷ 0 ∷ []
+unfolding sizeValues
+size-refused e = rw e
+
+pub locator-accepted : {a : LocatorAnswer} {l : Locator} {c : ℕ} {v x : Span} → a ≡ LocatorIs l → c ≡ codeOf l → v ≡ valueOf l → x ≡ suffixOf l
+    → locatorValues a ≡ 0 ∷ c ∷ v .at ∷ v .len ∷ x .at ∷ x .len ∷ []
+unfolding locatorValues
+locator-accepted e ec ev ex = rw (e, ← ec, ← ev, ← ex)
+
+pub locator-refused : {a : LocatorAnswer} {n : ℕ} → a ≡ NoLocator n → locatorValues a ≡ n ∷ 0 ∷ 0 ∷ 0 ∷ 0 ∷ 0 ∷ []
+unfolding locatorValues
+locator-refused e = rw e
+
+pub source-accepted : {a : SourceText} {n : ℕ} → a ≡ SourceIs n → sourceTextValues a ≡ 0 ∷ n ∷ []
+unfolding sourceTextValues
+source-accepted e = rw e
+
+pub source-refused : {a : SourceText} {n : ℕ} → a ≡ NoSource n → sourceTextValues a ≡ n ∷ 0 ∷ []
+unfolding sourceTextValues
+source-refused e = rw e
+
+pub values-put : {values ns out : List ℕ} (s : List ℕ) → values ≡ ns → out ≡ written ns s → out ≡ written values s
+values-put s e h = rw e h
+
+pub values-words : (values : List ℕ) {ns : List ℕ} → values ≡ ns → Words values → Words ns
+values-words values e h = rw e at h
+
+pub ruleset write-laws = (
+  values-put,
+  values-words,
+  look-up-accepted,
+  look-up-refused,
+  annotation-accepted,
+  annotation-refused,
+  size-accepted,
+  size-refused,
+  locator-accepted,
+  locator-refused,
+  source-accepted,
+  source-refused,
+)
+
+-- `has_room` was asked of `s`, and left it as s′
+module _ (n : ℕ) {b : Bool} (s : List ℕ) {s′ : List ℕ} (r : b ≡ leb n (length s)) (kept : s′ ≡ s) where
+  pub has-room : b ≡ true → n ≤ length s′
+  has-room t = rw kept (leb-true n (length s) (sym r ∙ t))
+
+-- the numbers of an answer fit
+pub size-fit : (text : List ℕ) (a : Size) → sizeValues a ≡ sizeNumbers (sizeCall text) → Words (sizeValues a)
+size-fit text a v = rw v (size-words text)
+
+pub locator-fit : (text : List ℕ) (a : LocatorAnswer) → locatorValues a ≡ locatorNumbers (locatorCall text) → Words (locatorValues a)
+locator-fit text a v = rw v (locator-words text)
+
+pub source-fit : (pool : List ℕ) (entry : ℕ) (area : List ℕ) (a : SourceText) → sourceTextValues a ≡ sourceTextNumbers (sourceTextCall pool entry area)
+    → Words (sourceTextValues a)
+source-fit pool entry area a v = rw v (source-words pool entry area)
+
+module _ (text : List ℕ) {b : Bool} {s s′ : List ℕ} (kept : s′ ≡ s) where
+  pub size-left : {out : List ℕ} (a : Size) → b ≡ leb 2 (length s) → b ≡ true → sizeValues a ≡ sizeNumbers (sizeCall text) → out ≡ written (sizeValues a) s′ → out ≡ sizeLeaves text s
+  unfolding sizeLeaves
+  size-left a r t v h = rw (← r, t, ← v, ← kept) h
+
+  pub size-kept : b ≡ leb 2 (length s) → b ≡ false → s′ ≡ sizeLeaves text s
+  unfolding sizeLeaves
+  size-kept r t = rw (← r, t) kept
+
+  pub locator-left : {out : List ℕ} (a : LocatorAnswer) → b ≡ leb 6 (length s) → b ≡ true → locatorValues a ≡ locatorNumbers (locatorCall text) → out ≡ written (locatorValues a) s′ → out ≡ locatorLeaves text s
+  unfolding locatorLeaves
+  locator-left a r t v h = rw (← r, t, ← v, ← kept) h
+
+  pub locator-kept : b ≡ leb 6 (length s) → b ≡ false → s′ ≡ locatorLeaves text s
+  unfolding locatorLeaves
+  locator-kept r t = rw (← r, t) kept
+
+module _ (pool : List ℕ) (entry : ℕ) (area : List ℕ) {b : Bool} {s s′ : List ℕ} (kept : s′ ≡ s) (r : b ≡ leb 2 (length s)) where
+  pub source-area-left : {area′ : List ℕ} → b ≡ true → area′ ≡ sourceTextCall pool entry area .area → area′ ≡ sourceTextLeaves pool entry (sourceAreas area s) .area
+  unfolding sourceTextLeaves sourceRanIn
+  source-area-left t h = rw (← r, t) h
+
+  pub source-left : {out : List ℕ} (a : SourceText) → b ≡ true → sourceTextValues a ≡ sourceTextNumbers (sourceTextCall pool entry area) → out ≡ written (sourceTextValues a) s′
+      → out ≡ sourceTextLeaves pool entry (sourceAreas area s) .answer
+  unfolding sourceTextLeaves sourceRanIn
+  source-left a t v h = rw (← r, t, ← v, ← kept) h
+
+  pub source-area-kept : b ≡ false → area ≡ sourceTextLeaves pool entry (sourceAreas area s) .area
+  unfolding sourceTextLeaves
+  source-area-kept t = rw (← r, t)
+
+  pub source-kept : b ≡ false → s′ ≡ sourceTextLeaves pool entry (sourceAreas area s) .answer
+  unfolding sourceTextLeaves
+  source-kept t = rw (← r, t) kept
+
+module _ (text : List ℕ) (at note : ℕ) (index : List ℕ) (records : List Bracket) (items answer : List ℕ) where
+  abbrev looked : LookUpRan
+  looked = lookUpRun text at note index records items
+
+  pub look-up-fit : note < 256 → (r : LookUp) → lookUpValues r ≡ lookUpNumbers looked → Words (lookUpValues r)
+  look-up-fit h r v = rw v (look-up-words text at note index records items h)
+
+  pub look-up-left : leb 4 (length answer) ≡ true → (r : LookUp) → lookUpValues r ≡ lookUpNumbers looked
+      → lookUpAreas (looked .index) (looked .records) (looked .answer .items) (written (lookUpValues r) answer) ≡ lookUpLeaves text at note (lookUpAreas index records items answer)
+  unfolding lookUpLeaves lookUpRanIn
+  look-up-left t r v = rw (t, v)
+
+  pub look-up-kept : leb 4 (length answer) ≡ false → lookUpAreas index records items answer ≡ lookUpLeaves text at note (lookUpAreas index records items answer)
+  unfolding lookUpLeaves
+  look-up-kept t = rw t
+
+module _ (text : List ℕ) (mode : ℕ) (pool : List ℕ) (note : ℕ) (index : List ℕ) (records : List Bracket) (areas : Areas) (answer : List ℕ) where
+  abbrev annotated : AnnotateRan
+  annotated = annotateRun text mode pool note index records areas
+
+  pub annotate-fit : note < 256 → (r : Annotation) → annotationValues r ≡ annotationNumbers annotated → Words (annotationValues r)
+  annotate-fit h r v = rw v (annotation-words text mode pool note index records areas h)
+
+  pub annotate-left : leb 6 (length answer) ≡ true → (r : Annotation) → annotationValues r ≡ annotationNumbers annotated
+      → annotateAreas (annotated .index) (annotated .records) (annotated .answer .areas) (written (annotationValues r) answer) ≡ annotateLeaves text mode pool note (annotateAreas index records areas answer)
+  unfolding annotateLeaves annotateRanIn
+  annotate-left t r v = rw (t, v)
+
+  pub annotate-kept : leb 6 (length answer) ≡ false → annotateAreas index records areas answer ≡ annotateLeaves text mode pool note (annotateAreas index records areas answer)
+  unfolding annotateLeaves
+  annotate-kept t = rw t
+
+pub ruleset call-laws = (has-room, size-fit, locator-fit, source-fit, size-left, size-kept, locator-left, locator-kept, source-area-left, source-left, source-area-kept, source-kept)

@@ -1,0 +1,4 @@
+mod Words
+mod SourceWords
+mod Laws
+mod Calls

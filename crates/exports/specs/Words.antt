@@ -1,0 +1,8 @@
+-- Numbers that `answer` can hold.
+use Prim.Native.Nat.{ℕ, _<_}
+use mathlib.Core.List.{List}
+use Rattle.base.specs.Sorted.{Each}
+
+-- each fits a `u32`
+unfoldable pub Words : List ℕ → Type 0
+Words ns = Each (λ (n : ℕ). n < 4294967296) ns

@@ -1,0 +1,240 @@
+// The five calls for C and Rust, under the names of include/citations.h. A slice is a pointer and a length in elements.
+// `answer` gets the number (0 accepted), then the values in the paper's order; a call with a shorter one does nothing.
+use annotation::Annotation;
+use index::Bracket;
+use lookup::LocatorAnswer;
+use lookup::LookUp;
+use lookup::Size;
+use source::SourceText;
+ghost use mathlib.Core.List.{[], _∷_};
+ghost use mathlib.Core.Path.{_≡_};
+ghost use Prim.Native.Nat.{_≤_};
+ghost use lib.Dec.{leb};
+ghost use lib.ListN.{length};
+ghost use Rattle.annotation.specs.Halves.{areas};
+ghost use Rattle.annotation.specs.Values.{annotationValues};
+ghost use Rattle.base.specs.Lists.{written};
+ghost use Rattle.lookup.specs.Values.{lookUpValues, locatorValues, sizeValues};
+ghost use Rattle.source.specs.Values.{sourceTextValues};
+ghost use Rattle.exports.specs.Words.{Words};
+ghost use Rattle.exports.specs.Leaves.{
+  lookUpAreas,
+  lookUpLeaves,
+  annotateAreas,
+  annotateLeaves,
+  sizeLeaves,
+  locatorLeaves,
+  sourceAreas,
+  sourceTextLeaves,
+};
+
+// Whether `answer` has room for `n` numbers.
+fn has_room(answer: &mut [u32], n: usize) -> bool
+    ensures { λ r. ⌜ (r ≡ leb n (length (now (answer .entry)))) × (now (answer .exit) ≡ now (answer .entry)) ⌝ }
+{
+    n <= answer.len()
+}
+
+// Two numbers, at the front of `answer`.
+fn put_two(answer: &mut [u32], a: usize, b: usize)
+    requires { ⌜ (2 ≤ length (now answer)) × Words (a ∷ b ∷ []) ⌝ }
+    ensures { λ _. ⌜ now (answer .exit) ≡ written (a ∷ b ∷ []) (now (answer .entry)) ⌝ }
+{
+    answer[0] = a as u32;
+    answer[1] = b as u32;
+}
+
+// Four numbers, at the front of `answer`.
+fn put_four(answer: &mut [u32], a: usize, b: usize, c: usize, d: usize)
+    requires { ⌜ (4 ≤ length (now answer)) × Words (a ∷ b ∷ c ∷ d ∷ []) ⌝ }
+    ensures { λ _. ⌜ now (answer .exit) ≡ written (a ∷ b ∷ c ∷ d ∷ []) (now (answer .entry)) ⌝ }
+{
+    answer[0] = a as u32;
+    answer[1] = b as u32;
+    answer[2] = c as u32;
+    answer[3] = d as u32;
+}
+
+// Six numbers, at the front of `answer`.
+fn put_six(answer: &mut [u32], a: usize, b: usize, c: usize, d: usize, e: usize, f: usize)
+    requires { ⌜ (6 ≤ length (now answer)) × Words (a ∷ b ∷ c ∷ d ∷ e ∷ f ∷ []) ⌝ }
+    ensures { λ _. ⌜ now (answer .exit) ≡ written (a ∷ b ∷ c ∷ d ∷ e ∷ f ∷ []) (now (answer .entry)) ⌝ }
+{
+    answer[0] = a as u32;
+    answer[1] = b as u32;
+    answer[2] = c as u32;
+    answer[3] = d as u32;
+    answer[4] = e as u32;
+    answer[5] = f as u32;
+}
+
+// Number, close, item count, note.
+fn write_look_up(a: LookUp, answer: &mut [u32])
+    requires { ⌜ (4 ≤ length (now answer)) × Words (lookUpValues a) ⌝ }
+    ensures { λ _. ⌜ now (answer .exit) ≡ written (lookUpValues a) (now (answer .entry)) ⌝ }
+{
+    match a {
+        LookUp::Accepted { close, count, note } => put_four(answer, 0, close, count, note as usize),
+        LookUp::Refused { number, note } => put_four(answer, number as usize, 0, 0, note as usize),
+    }
+}
+
+// Number, groups, items, sources, label bytes, note.
+fn write_annotation(a: Annotation, answer: &mut [u32])
+    requires { ⌜ (6 ≤ length (now answer)) × Words (annotationValues a) ⌝ }
+    ensures { λ _. ⌜ now (answer .exit) ≡ written (annotationValues a) (now (answer .entry)) ⌝ }
+{
+    match a {
+        Annotation::Accepted {
+            groups,
+            items,
+            sources,
+            label_bytes,
+            note,
+        } => put_six(
+            answer,
+            0,
+            groups,
+            items,
+            sources,
+            label_bytes,
+            note as usize,
+        ),
+        Annotation::Refused { number, note } => put_six(answer, number as usize, 0, 0, 0, 0, note as usize),
+    }
+}
+
+// Number, records.
+fn write_size(a: Size, answer: &mut [u32])
+    requires { ⌜ (2 ≤ length (now answer)) × Words (sizeValues a) ⌝ }
+    ensures { λ _. ⌜ now (answer .exit) ≡ written (sizeValues a) (now (answer .entry)) ⌝ }
+{
+    match a {
+        Size::Accepted { records } => put_two(answer, 0, records),
+        Size::Refused { number } => put_two(answer, number as usize, 0),
+    }
+}
+
+// Number, label code, value pair, suffix pair.
+fn write_locator(a: LocatorAnswer, answer: &mut [u32])
+    requires { ⌜ (6 ≤ length (now answer)) × Words (locatorValues a) ⌝ }
+    ensures { λ _. ⌜ now (answer .exit) ≡ written (locatorValues a) (now (answer .entry)) ⌝ }
+{
+    match a {
+        LocatorAnswer::Accepted { locator } => {
+            let code = locator::code_of(locator);
+            let value = locator::value_of(locator);
+            let suffix = locator::suffix_of(locator);
+            put_six(
+                answer,
+                0,
+                code as usize,
+                value.at,
+                value.len,
+                suffix.at,
+                suffix.len,
+            )
+        }
+        LocatorAnswer::Refused { number } => put_six(answer, number as usize, 0, 0, 0, 0, 0),
+    }
+}
+
+// Number, bytes.
+fn write_source_text(a: SourceText, answer: &mut [u32])
+    requires { ⌜ (2 ≤ length (now answer)) × Words (sourceTextValues a) ⌝ }
+    ensures { λ _. ⌜ now (answer .exit) ≡ written (sourceTextValues a) (now (answer .entry)) ⌝ }
+{
+    match a {
+        SourceText::Accepted { bytes } => put_two(answer, 0, bytes),
+        SourceText::Refused { number } => put_two(answer, number as usize, 0),
+    }
+}
+
+// calls::look_up; answer: number, close, item count, note.
+#[no_mangle]
+pub extern "C" fn citations_look_up(
+    text: &[u8],
+    at: usize,
+    note: u8,
+    index: &mut [u16],
+    records: &mut [Bracket],
+    items: &mut [u16],
+    answer: &mut [u32],
+)
+    ensures { λ _. let left = lookUpLeaves (now (text .entry)) at note
+        (lookUpAreas (now (index .entry)) (now (records .entry)) (now (items .entry)) (now (answer .entry))) in
+        ⌜ (now (index .exit) ≡ left .index)
+        × (now (records .exit) ≡ left .records)
+        × (now (items .exit) ≡ left .items)
+        × (now (answer .exit) ≡ left .answer) ⌝ }
+{
+    if has_room(answer, 4) {
+        let a = calls::look_up(text, at, note, index, records, items);
+        write_look_up(a, answer);
+    }
+}
+
+// calls::annotate; answer: number, groups, items, sources, label bytes, note.
+#[no_mangle]
+pub extern "C" fn citations_annotate<'a>(
+    text: &'a [u8],
+    mode: u8,
+    pool: &'a [u8],
+    note: u8,
+    index: &mut [u16],
+    records: &mut [Bracket],
+    items: &mut [u16],
+    groups: &mut [u16],
+    references: &mut [u16],
+    labels: &mut [u8],
+    answer: &mut [u32],
+)
+    ensures { λ _. let given = areas (now (items .entry)) (now (groups .entry)) (now (references .entry)) (now (labels .entry)) in
+        let left = annotateLeaves (now (text .entry)) mode (now (pool .entry)) note
+        (annotateAreas (now (index .entry)) (now (records .entry)) given (now (answer .entry))) in
+        ⌜ (now (index .exit) ≡ left .index)
+        × (now (records .exit) ≡ left .records)
+        × (now (items .exit) ≡ left .areas .items)
+        × (now (groups .exit) ≡ left .areas .groups)
+        × (now (references .exit) ≡ left .areas .references)
+        × (now (labels .exit) ≡ left .areas .labels)
+        × (now (answer .exit) ≡ left .answer) ⌝ }
+{
+    if has_room(answer, 6) {
+        let a = calls::annotate(
+            text, mode, pool, note, index, records, items, groups, references, labels,
+        );
+        write_annotation(a, answer);
+    }
+}
+
+// calls::size; answer: number, records.
+#[no_mangle]
+pub extern "C" fn citations_size(text: &[u8], answer: &mut [u32])
+    ensures { λ _. ⌜ now (answer .exit) ≡ sizeLeaves (now (text .entry)) (now (answer .entry)) ⌝ }
+{
+    if has_room(answer, 2) {
+        write_size(calls::size(text), answer);
+    }
+}
+
+// calls::locator; answer: number, label code, value pair, suffix pair.
+#[no_mangle]
+pub extern "C" fn citations_locator(text: &[u8], answer: &mut [u32])
+    ensures { λ _. ⌜ now (answer .exit) ≡ locatorLeaves (now (text .entry)) (now (answer .entry)) ⌝ }
+{
+    if has_room(answer, 6) {
+        write_locator(calls::locator(text), answer);
+    }
+}
+
+// calls::source_text; answer: number, bytes.
+#[no_mangle]
+pub extern "C" fn citations_source_text(pool: &[u8], entry: usize, area: &mut [u8], answer: &mut [u32])
+    ensures { λ _. let left = sourceTextLeaves (now (pool .entry)) entry (sourceAreas (now (area .entry)) (now (answer .entry))) in
+        ⌜ (now (area .exit) ≡ left .area) × (now (answer .exit) ≡ left .answer) ⌝ }
+{
+    if has_room(answer, 2) {
+        write_source_text(calls::source_text(pool, entry, area), answer);
+    }
+}
