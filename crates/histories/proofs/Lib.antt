@@ -1,2 +1,4 @@
+pub mod AllFound
 pub mod FromCalls
+pub mod Demand2
 pub mod Demand3

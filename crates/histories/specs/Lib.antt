@@ -1,1 +1,2 @@
+pub mod EveryGroup
 pub mod Histories
