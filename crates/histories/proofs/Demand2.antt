@@ -25,6 +25,7 @@ use Rattle.annotation.proofs.Truth.{annotate-true}
 use Rattle.sweep.specs.Sweep.{sweepOf}
 use Rattle.histories.specs.EveryGroup.{Admits, LookUpFinds, AnnotationFinds, said, EveryGroup}
 use Rattle.histories.proofs.AllFound.{all-found}
+use Rattle.histories.proofs.SaidSo.{says}
 
 -- 5 is none of the numbers that come before a bracket is looked up
 not-five : (s : List ℕ) (at n m : ℕ) → lookUpRefusal s at n m ≡ 5 → ⊥
@@ -128,6 +129,7 @@ demand-2 text index note records left = (
       subst (LookUpFinds text at (length index) (length records) items) (sym (look-up-true text at note index records items left))
       (plain-finds text at (length index) (length records) items),
   all-found text,
+  λ mode pool. says text mode (sweepOf text) pool,
   λ mode pool areas.
       subst (AnnotationFinds text mode pool (length index) (length records) areas) (sym (annotate-true text mode pool note index records areas left))
       (plain-says text mode pool (length index) (length records) areas),

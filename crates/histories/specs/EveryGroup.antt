@@ -26,6 +26,7 @@ use Rattle.annotation.specs.Call.{
   roomFor,
   zeroFilled,
 }
+use Rattle.histories.specs.Said.{Says}
 
 -- The rules admit the group `g` at `p`: an unescaped `[` stands there, the unlimited scan gives its close, and `match_citation` takes the
 -- items and the byte after that. No index, no note and no limit of 64 is in it.
@@ -54,7 +55,8 @@ pub record AllOf (text : List ℕ) (all : List Group) : Type 0 where
   pub apart : Sorted (λ (g h : Group). groupEnd g ≤ h .at) all
   pub every : (p : ℕ) (g : Group) → Admits text p g → Some (λ (h : Group). (h ≡ g) ⊎ ((h .at < p) × (p < groupEnd h))) all
 
--- what is said of them: item records with locators, numbers, uses and labels, group records, references, and the label bytes
+-- what is said of them: item records with locators, numbers, uses and labels, group records, references, and the label bytes; specs/Said
+-- has it record by record
 abbrev pub said : List ℕ → ℕ → List ℕ → Areas
 said text mode pool = contentOf text mode (sweepOf text) pool
 
@@ -67,12 +69,13 @@ pub record AnnotationFinds (text : List ℕ) (mode : ℕ) (pool : List ℕ) (n m
       → answer ≡ annotateRefused 10 (zeroFilled areas)
   pub found-only : answer .number ≡ 0 → answer ≡ annotateGives (sweepOf text) (said text mode pool) areas
 
--- THEOREM `EveryGroup`, proved in proofs/Demand2: of the calls as run, with an index and a note as left.
+-- THEOREM `EveryGroup`, proved in proofs/Demand2: demand 2, of the calls as run, with no index or one as left.
 abbrev pub EveryGroup : Type 0
 EveryGroup =
     (text index : List ℕ) (note : ℕ) (records : List Bracket) → Left text index note
     → ((at : ℕ) (items : List ℕ)
     → LookUpFinds text at (length index) (length records) items (lookUpRun text at note index records items .answer))
     × AllOf text (sweepOf text)
+    × ((mode : ℕ) (pool : List ℕ) → Says text mode pool (sweepOf text) (said text mode pool))
     × ((mode : ℕ) (pool : List ℕ) (areas : Areas)
     → AnnotationFinds text mode pool (length index) (length records) areas (annotateRun text mode pool note index records areas .answer))
