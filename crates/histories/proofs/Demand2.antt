@@ -124,13 +124,15 @@ module _ (text : List ℕ) (mode : ℕ) (pool : List ℕ) (n m : ℕ) (areas : A
       go false q r h = absurd (true≢false (sym (eq-eqb (annotateRefusal text mode pool n m) 0 h) ∙ q))
 
 pub demand-2 : EveryGroup
-demand-2 text index note records left = (
-  λ at items.
-      subst (LookUpFinds text at (length index) (length records) items) (sym (look-up-true text at note index records items left))
-      (plain-finds text at (length index) (length records) items),
+demand-2 text = (
   all-found text,
   λ mode pool. says text mode (sweepOf text) pool,
-  λ mode pool areas.
-      subst (AnnotationFinds text mode pool (length index) (length records) areas) (sym (annotate-true text mode pool note index records areas left))
-      (plain-says text mode pool (length index) (length records) areas),
+  λ index note records left. record {
+    look-ups = λ at items.
+        subst (LookUpFinds text at (length index) (length records) items) (sym (look-up-true text at note index records items left))
+        (plain-finds text at (length index) (length records) items);
+    annotations = λ mode pool areas.
+        subst (AnnotationFinds text mode pool (length index) (length records) areas) (sym (annotate-true text mode pool note index records areas left))
+        (plain-says text mode pool (length index) (length records) areas);
+  },
 )

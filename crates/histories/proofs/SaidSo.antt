@@ -40,7 +40,7 @@ use Rattle.annotation.specs.Content.{
 use Rattle.annotation.proofs.Numbers.{sources-in-order, numbers-stay}
 use Rattle.annotation.proofs.Records.{records-numbered}
 use Rattle.annotation.proofs.UsesRun.{records-used}
-use Rattle.histories.specs.Said.{cell, itemLabels, joined, sourcesOf, Says}
+use Rattle.histories.specs.Said.{cell, itemLabels, joined, Says}
 
 -- lists ----------------------------------------------------------------------------------------------------------------------------
 
@@ -222,12 +222,12 @@ module _ (text : List ℕ) (mode : ℕ) (all : List Group) (pool : List ℕ) whe
   placed-all before from [] = refl
   placed-all before from (g ∷ gs) = ap (λ (l : List Group). g ∷ l) (placed-all (inLine text before from g) (groupEnd g) gs)
 
-  all-so : So (tallyOf text mode all pool) (itemRows all) (itemLabels text mode all pool (sourcesOf text mode all pool) (placedOf text all pool))
+  all-so : So (tallyOf text mode all pool) (itemRows all) (itemLabels text mode all pool (tallyOf text mode all pool .sources) (placedOf text all pool))
   unfolding tallyOf placedOf joined
   all-so =
-      subst (λ (gs : List Group). So (tallyOf text mode all pool) (itemRows gs) (itemLabels text mode all pool (sourcesOf text mode all pool) (placedOf text all pool)))
+      subst (λ (gs : List Group). So (tallyOf text mode all pool) (itemRows gs) (itemLabels text mode all pool (tallyOf text mode all pool .sources) (placedOf text all pool)))
       (placed-all false 0 all)
-      (groups-so (placedOf text all pool) (tally [] [] []) [] [] (sourcesOf text mode all pool) refl
+      (groups-so (placedOf text all pool) (tally [] [] []) [] [] (tallyOf text mode all pool .sources) refl
       (record {
         count = refl;
         alike = refl;
@@ -244,9 +244,10 @@ module _ (text : List ℕ) (mode : ℕ) (all : List Group) (pool : List ℕ) whe
       let n = item-rows-length all in
       let c = records-numbered text mode all pool in
       record {
+        groups = refl;
         count = omega (arith, u .count, u .alike, n);
         items = λ k c h g. u .found k c (omega (arith, u .alike, n, h)) g;
-        sources = sources-in-order text mode all pool;
+        in-order = sources-in-order text mode all pool;
         numbers = λ k h. c .cells k (omega (arith, c .count, u .count, u .alike, n, h));
         uses = λ k h. records-used text mode all pool k h;
         label = λ k h. u .label k (omega (arith, u .alike, n, h));

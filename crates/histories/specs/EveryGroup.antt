@@ -55,8 +55,7 @@ pub record AllOf (text : List ℕ) (all : List Group) : Type 0 where
   pub apart : Sorted (λ (g h : Group). groupEnd g ≤ h .at) all
   pub every : (p : ℕ) (g : Group) → Admits text p g → Some (λ (h : Group). (h ≡ g) ⊎ ((h .at < p) × (p < groupEnd h))) all
 
--- what is said of them: item records with locators, numbers, uses and labels, group records, references, and the label bytes; specs/Said
--- has it record by record
+-- what is said of them: item, group and reference records, and the label bytes
 abbrev pub said : List ℕ → ℕ → List ℕ → Areas
 said text mode pool = contentOf text mode (sweepOf text) pool
 
@@ -69,13 +68,18 @@ pub record AnnotationFinds (text : List ℕ) (mode : ℕ) (pool : List ℕ) (n m
       → answer ≡ annotateRefused 10 (zeroFilled areas)
   pub found-only : answer .number ≡ 0 → answer ≡ annotateGives (sweepOf text) (said text mode pool) areas
 
--- THEOREM `EveryGroup`, proved in proofs/Demand2: demand 2, of the calls as run, with no index or one as left.
+-- the same of the calls as run, with this index, this note and these bracket records
+pub record CallsFind (text index : List ℕ) (note : ℕ) (records : List Bracket) : Type 0 where
+  pub look-ups : (at : ℕ) (items : List ℕ)
+      → LookUpFinds text at (length index) (length records) items (lookUpRun text at note index records items .answer)
+  pub annotations : (mode : ℕ) (pool : List ℕ) (areas : Areas)
+      → AnnotationFinds text mode pool (length index) (length records) areas (annotateRun text mode pool note index records areas .answer)
+
+-- THEOREM `EveryGroup`, proved in proofs/Demand2: demand 2. The groups of the sweep are all that the rules admit; what is said of them is
+-- what the rules say of each item; and "with no index or the one that earlier calls left" the calls find them, say this, and nothing else.
 abbrev pub EveryGroup : Type 0
 EveryGroup =
-    (text index : List ℕ) (note : ℕ) (records : List Bracket) → Left text index note
-    → ((at : ℕ) (items : List ℕ)
-    → LookUpFinds text at (length index) (length records) items (lookUpRun text at note index records items .answer))
-    × AllOf text (sweepOf text)
+    (text : List ℕ)
+    → AllOf text (sweepOf text)
     × ((mode : ℕ) (pool : List ℕ) → Says text mode pool (sweepOf text) (said text mode pool))
-    × ((mode : ℕ) (pool : List ℕ) (areas : Areas)
-    → AnnotationFinds text mode pool (length index) (length records) areas (annotateRun text mode pool note index records areas .answer))
+    × ((index : List ℕ) (note : ℕ) (records : List Bracket) → Left text index note → CallsFind text index note records)
