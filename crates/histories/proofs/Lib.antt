@@ -3,3 +3,4 @@ pub mod SaidSo
 pub mod FromCalls
 pub mod Demand2
 pub mod Demand3
+pub mod Promised
