@@ -1,1 +1,4 @@
+pub mod Said
+pub mod EveryGroup
 pub mod Histories
+pub mod Promises

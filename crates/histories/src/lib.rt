@@ -1,7 +1,16 @@
-// Demand 3: no order of look-ups changes what a reader is shown. The function does nothing; its contract states the theorem.
+// Demand 2: every group that the rules admit is found, and nothing else. Demand 3: no order of look-ups changes what a reader is shown.
+// The functions do nothing; their contracts state the theorems.
+ghost use Rattle.histories.specs.EveryGroup.{EveryGroup};
 ghost use Rattle.histories.specs.Histories.{Histories};
+ghost use Rattle.histories.specs.Promises.{PromisedHistories};
 
-// Demand 3, as specs/Histories states it.
+// Demand 2, as specs/EveryGroup states it.
+pub fn demand_2()
+    ensures { λ _. ⌜ EveryGroup ⌝ }
+{}
+
+// Demand 3, as specs/Histories states it of the definitions that the promises cite, and specs/Promises of what meets the promises.
 pub fn demand_3()
-    ensures { λ _. ⌜ Histories ⌝ }
+    ensures of_definitions { λ _. ⌜ Histories ⌝ }
+    ensures of_promises { λ _. ⌜ PromisedHistories ⌝ }
 {}

@@ -1,0 +1,57 @@
+-- What an annotation says of each item of a text's groups, record by record.
+use Prim.Native.Nat.{ℕ, _+_, _*_, _<_}
+use mathlib.Core.Path.{_≡_}
+use mathlib.Core.List.{List, [], _∷_, _++_, map}
+use mathlib.Core.Option.{none}
+use lib.ListN.{length, getD, take}
+use lib.Dec.{eqb}
+use Rattle.base.specs.Pick.{pick}
+use Rattle.base.specs.Lists.{part}
+use Rattle.item.specs.declared.Item.{Item}
+use Rattle.lookup.specs.Groups.{Group}
+use Rattle.lookup.specs.Rows.{itemWidth}
+use Rattle.pool.specs.Layout.{hasPool}
+use Rattle.sweep.specs.Rows.{Placed, itemCount, itemRows, groupRows}
+use Rattle.annotation.specs.Sources.{Source}
+use Rattle.annotation.specs.Content.{Areas, placedOf, labelFor, tallyOf}
+use Rattle.annotation.specs.Facts.{numberedKeys, firstUses, itemNumbers, itemKeys, useAfter}
+
+-- the number at place `c` of item record `k`
+abbrev pub cell : List ℕ → ℕ → ℕ → ℕ
+cell rows k c = getD rows (itemWidth * k + c) 0
+
+-- the labels of the items, in item order: in a numbered group by the number of the item's source, in another none
+unfoldable pub itemLabels : List ℕ → ℕ → List Group → List ℕ → List Source → List Placed → List (List ℕ)
+itemLabels text mode all pool sources [] = []
+itemLabels text mode all pool sources (p ∷ ps) =
+    map (λ (i : Item). pick (eqb (p .standing) 2) (labelFor text mode all pool sources i) []) (p .group .items)
+    ++ itemLabels text mode all pool sources ps
+
+-- one after the other
+unfoldable pub joined : List (List ℕ) → List ℕ
+joined [] = []
+joined (l ∷ ls) = l ++ joined ls
+
+-- `content` says of the groups `all`, which have the standings in `placed`, and of their items:
+pub record SaysOf (text : List ℕ) (mode : ℕ) (pool : List ℕ) (all : List Group) (placed : List Placed) (sources : List Source) (content : Areas)
+    : Type 0 where
+  -- one record for each group: "pair, first item .., item count, standing"
+  pub groups : content .groups ≡ groupRows 0 placed
+  -- one record for each item; its first 12 numbers, from prefix to marks, are those of its record when it is looked up
+  pub count : length (content .items) ≡ itemWidth * itemCount all
+  pub items : (k c : ℕ) → k < itemCount all → c < 12 → cell (content .items) k c ≡ cell (itemRows all) k c
+  -- "A source's number is the order of its first use in numbered groups, from 1."
+  pub in-order : map (λ (s : Source). s .key) sources ≡ firstUses [] (numberedKeys text placed)
+  pub numbers : (k : ℕ) → k < itemCount all → cell (content .items) k 12 ≡ getD (itemNumbers text sources placed) k 0
+  -- "With a pool present, use indices of a source run 1, 2, and on."
+  pub uses : (k : ℕ) → k < itemCount all
+      → cell (content .items) k 13 ≡ useAfter (hasPool pool) (take k (itemKeys text placed)) (getD (itemKeys text placed) k none)
+  -- "label pair into the label bytes". "Labels follow each other from offset 0 in item order."
+  pub label : (k : ℕ) → k < itemCount all
+      → part (content .labels) (cell (content .items) k 14) (cell (content .items) k 14 + cell (content .items) k 15)
+      ≡ getD (itemLabels text mode all pool sources placed) k []
+  pub labels : content .labels ≡ joined (itemLabels text mode all pool sources placed)
+
+-- with the standings of the groups, and the sources of the numbered ones by number
+abbrev pub Says : List ℕ → ℕ → List ℕ → List Group → Areas → Type 0
+Says text mode pool all content = SaysOf text mode pool all (placedOf text all pool) (tallyOf text mode all pool .sources) content
