@@ -12,15 +12,14 @@ use Rattle.base.specs.Lists.{isAt}
 use Rattle.text.specs.Utf8.{tooLong, utf8}
 use Rattle.text.specs.Escape.{escapedAt}
 use Rattle.text.specs.Refusal.{afterText}
-use Rattle.index.specs.Entries.{opensAt}
 use Rattle.lookup.specs.Groups.{Group, GroupAnswer, Found, NoGroup, groupAt}
 use Rattle.lookup.specs.Rows.{rowsLength}
 use Rattle.lookup.specs.Refusals.{tooFew, lookUpRefusal}
-use Rattle.lookup.specs.LookUps.{LookedUp, lookUpGives, lookUpRefused, lookUpAnswers, lookedUp, lookUpPlain, lookUpRun}
+use Rattle.lookup.specs.LookUps.{LookedUp, lookUpGives, lookUpRefused, lookUpAnswers, lookedUp, lookUpPlain}
 use Rattle.lookup.proofs.RefusalLaws.{unrefused}
 use Rattle.lookup.proofs.LooksUp.{look-up-true}
 use Rattle.annotation.specs.Content.{Areas}
-use Rattle.annotation.specs.Call.{Annotated, annotateRefusal, annotateRefused, annotateGives, answerOf, annotatePlain, annotateRun, roomFor, zeroFilled}
+use Rattle.annotation.specs.Call.{Annotated, annotateRefusal, annotateRefused, annotateGives, answerOf, annotatePlain, roomFor, zeroFilled}
 use Rattle.annotation.proofs.Truth.{annotate-true}
 use Rattle.sweep.specs.Sweep.{sweepOf}
 use Rattle.histories.specs.EveryGroup.{Admits, LookUpFinds, AnnotationFinds, said, EveryGroup}

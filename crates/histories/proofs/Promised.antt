@@ -1,9 +1,8 @@
 -- THEOREM `PromisedHistories`: calls that meet their promises answer as `answersOf` says, and so by `Histories` plainly.
 use Prim.Native.Nat.{ℕ}
-use mathlib.Core.Path.{_≡_, refl, sym, _∙_, ap, subst}
+use mathlib.Core.Path.{_≡_, refl, _∙_, ap}
 use mathlib.Core.List.{List, [], _∷_, map}
 use lib.ListN.{length, getD, take}
-use Rattle.index.specs.declared.Bracket.{Bracket}
 use Rattle.lookup.specs.declared.LookUp.{LookUp}
 use Rattle.lookup.specs.declared.LookUp.the-variants.{Accepted as FoundOne, Refused as FoundNone}
 use Rattle.lookup.specs.LookUps.{LookedUp, LookUpRan, lookUpRun}
@@ -14,13 +13,10 @@ use Rattle.annotation.specs.Content.{Areas}
 use Rattle.annotation.specs.Call.{Annotated, AnnotateRan, annotateRun}
 use Rattle.annotation.specs.Values.{annotationValues, annotationNumbers}
 use Rattle.histories.specs.Histories.{
-  Call,
-  Answer,
   OfLookUp,
   OfAnnotation,
   State,
   state,
-  Ran,
   runCall,
   lookUpLeft,
   annotateLeft,

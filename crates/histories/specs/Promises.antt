@@ -6,7 +6,7 @@ use lib.ListN.{length, take}
 use Rattle.index.specs.declared.Bracket.{Bracket}
 use Rattle.lookup.specs.declared.LookUp.{LookUp}
 use Rattle.lookup.specs.declared.LookUp.the-variants.{Accepted as FoundOne, Refused as FoundNone}
-use Rattle.lookup.specs.LookUps.{LookedUp, lookUpRefused, lookUpRun}
+use Rattle.lookup.specs.LookUps.{LookedUp, lookUpRun}
 use Rattle.lookup.specs.Values.{lookUpValues, lookUpNumbers}
 use Rattle.annotation.specs.declared.Annotation.{Annotation}
 use Rattle.annotation.specs.declared.Annotation.the-variants.{Accepted, Refused}
