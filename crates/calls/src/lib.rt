@@ -7,12 +7,10 @@ pub use lookup::LookUp;
 pub use lookup::Size;
 pub use source::SourceText;
 ghost use mathlib.Core.Path.{_≡_};
-ghost use Rattle.annotation.specs.Call.{annotateRun};
 ghost use Rattle.annotation.specs.Halves.{areas};
-ghost use Rattle.annotation.specs.Values.{annotationValues, annotationNumbers};
-ghost use Rattle.lookup.specs.LookUps.{lookUpRun};
+ghost use Rattle.histories.specs.Promises.{LookUpPromise, AnnotatePromise};
 ghost use Rattle.lookup.specs.Others.{locatorCall, sizeCall};
-ghost use Rattle.lookup.specs.Values.{lookUpValues, lookUpNumbers, locatorValues, locatorNumbers, sizeValues, sizeNumbers};
+ghost use Rattle.lookup.specs.Values.{locatorValues, locatorNumbers, sizeValues, sizeNumbers};
 ghost use Rattle.source.specs.Call.{sourceTextCall};
 ghost use Rattle.source.specs.Values.{sourceTextValues, sourceTextNumbers};
 
@@ -26,11 +24,8 @@ pub fn look_up(
     records: &mut [Bracket],
     items: &mut [u16],
 ) -> LookUp
-    ensures { λ r. let ran = lookUpRun (now (text .entry)) at note (now (index .entry)) (now (records .entry)) (now (items .entry)) in
-        ⌜ (lookUpValues r ≡ lookUpNumbers ran)
-        × (now (index .exit) ≡ ran .index)
-        × (now (records .exit) ≡ ran .records)
-        × (now (items .exit) ≡ ran .answer .items) ⌝ }
+    ensures { λ r. ⌜ LookUpPromise (now (text .entry)) at note (now (index .entry)) (now (records .entry)) (now (items .entry))
+        r (now (index .exit)) (now (records .exit)) (now (items .exit)) ⌝ }
 {
     let n = pairs::count(records);
     let p = lookup::prepare(text, at, note, index, n);
@@ -55,14 +50,9 @@ pub fn annotate<'a>(
     labels: &mut [u8],
 ) -> Annotation
     ensures { λ r. let given = areas (now (items .entry)) (now (groups .entry)) (now (references .entry)) (now (labels .entry)) in
-        let annotated = annotateRun (now (text .entry)) mode (now (pool .entry)) note (now (index .entry)) (now (records .entry)) given in
-        ⌜ (annotationValues r ≡ annotationNumbers annotated)
-        × (now (index .exit) ≡ annotated .index)
-        × (now (records .exit) ≡ annotated .records)
-        × (now (items .exit) ≡ annotated .answer .areas .items)
-        × (now (groups .exit) ≡ annotated .answer .areas .groups)
-        × (now (references .exit) ≡ annotated .answer .areas .references)
-        × (now (labels .exit) ≡ annotated .answer .areas .labels) ⌝ }
+        let left = areas (now (items .exit)) (now (groups .exit)) (now (references .exit)) (now (labels .exit)) in
+        ⌜ AnnotatePromise (now (text .entry)) mode (now (pool .entry)) note (now (index .entry)) (now (records .entry)) given
+        r (now (index .exit)) (now (records .exit)) left ⌝ }
 {
     let n = pairs::count(records);
     let p = annotation::prepare(text, mode, pool, note, index, n, items, groups);
