@@ -1,6 +1,7 @@
 //! The time of the compiled library beside that of the Rust's bare calls, in one process, the best of many calls, in turns.
 //! bench/run builds and runs it; docs/PERFORMANCE.md says what each side does.
 
+mod clock;
 mod port;
 mod texts;
 
@@ -9,14 +10,18 @@ use std::time::{Duration, Instant};
 
 use oracle::bare::Bare;
 
+use clock::{Clock, Time};
 use port::Port;
 use texts::Text;
 
 /// How long a row is measured, and how many calls each side has at least.
 const ROW: Duration = Duration::from_millis(600);
 const LEAST: usize = 5;
-/// How many brackets of a text are looked up in a row.
+/// From this time on a call is long.
+const LONG: Duration = Duration::from_millis(3);
+/// How many brackets of a text are looked up in a row, at most, and how many look-ups are measured at once, at least.
 const PLACES: usize = 100;
+const LOOK_UPS: usize = 400;
 /// The larger size, near the limit of 65,535 bytes, and half of it.
 const LARGE: usize = 65_530;
 const HALF: usize = LARGE / 2;
@@ -109,25 +114,36 @@ fn show_growth(half: &Text, call: &str, build: bool, [a, b]: [(f64, f64); 2], gr
     growths.push((half.name.clone(), build, grown));
 }
 
-// Both sides in turns: the best time of each, in microseconds.
-fn in_turns(mut port: impl FnMut() -> Duration, mut rust: impl FnMut() -> Duration) -> (f64, f64) {
+// Both sides in turns: the time of each, in microseconds.
+fn in_turns(mut port: impl FnMut() -> Time, mut rust: impl FnMut() -> Time) -> (f64, f64) {
     let start = Instant::now();
-    let mut best = (Duration::MAX, Duration::MAX);
-    let mut calls = 0;
-    while calls < LEAST || start.elapsed() < ROW {
-        best.0 = best.0.min(port());
-        best.1 = best.1.min(rust());
-        calls += 1;
+    let mut times = (Vec::new(), Vec::new());
+    while times.0.len() < LEAST || start.elapsed() < ROW {
+        times.0.push(port());
+        times.1.push(rust());
     }
-    (best.0.as_secs_f64() * 1e6, best.1.as_secs_f64() * 1e6)
+    (time_of(times.0), time_of(times.1))
+}
+
+// The best by the wall clock; where a call is so long that other programs get in between, the median of the thread's own time.
+fn time_of(mut times: Vec<Time>) -> f64 {
+    let best = times.iter().map(|time| time.wall).min().unwrap_or_default();
+    times.sort_by_key(|time| time.own);
+    let time = if best < LONG { best } else { times[times.len() / 2].own };
+    time.as_secs_f64() * 1e6
 }
 
 // Brackets of the text, evenly spread; not the one that builds the index.
 fn places(text: &Text) -> Vec<usize> {
     let all: Vec<usize> =
         (0..text.bytes.len()).filter(|&at| text.bytes[at] == b'[' && (text.builds_at == 0 || at != text.builds_at)).collect();
-    let step = all.len().div_ceil(PLACES).max(1);
-    all.into_iter().step_by(step).collect()
+    let step = all.len().div_ceil(PLACES);
+    let some: Vec<usize> = all.into_iter().step_by(step).collect();
+    match text.builds_at {
+        // look-ups in a text that is bad by itself are long
+        0 => some,
+        _ => some.repeat(LOOK_UPS.div_ceil(some.len())),
+    }
 }
 
 // One look-up, of many; with the index kept from an earlier call, or none. The Rust with a check of the text's UTF-8, or without.
@@ -142,14 +158,14 @@ fn look_up(port: &mut Port, text: &Text, kept: bool, checked: bool) -> (f64, f64
     bare.look_up(&first, &mut found);
     let times = in_turns(
         || {
-            let start = Instant::now();
+            let start = Clock::start();
             ours = port.look_up(black_box(&text.bytes), black_box(&places), note).0;
             start.elapsed()
         },
         || {
             found.clear();
             theirs = 0;
-            let start = Instant::now();
+            let start = Clock::start();
             if checked {
                 for at in black_box(&places).chunks(1) {
                     black_box(std::str::from_utf8(black_box(&text.bytes)).is_ok());
@@ -174,14 +190,14 @@ fn build(port: &mut Port, text: &Text) -> (f64, f64) {
     let (mut ours, mut theirs) = ((0, 0), 0);
     let times = in_turns(
         || {
-            let start = Instant::now();
+            let start = Clock::start();
             ours = port.look_up(black_box(&text.bytes), &place, 0);
             start.elapsed()
         },
         || {
             found.clear();
             bare.forget();
-            let start = Instant::now();
+            let start = Clock::start();
             theirs = black_box(&bare).look_up(&place, &mut found);
             start.elapsed()
         },
@@ -195,13 +211,13 @@ fn annotation(port: &mut Port, text: &[u8], mode: u8, pool: &[u8]) -> (f64, f64)
     let (mut ours, mut theirs) = (0, 0);
     let times = in_turns(
         || {
-            let start = Instant::now();
+            let start = Clock::start();
             ours = port.annotate(black_box(text), mode, pool);
             start.elapsed()
         },
         || {
             bare.forget();
-            let start = Instant::now();
+            let start = Clock::start();
             let (answer, sources) = black_box(&bare).annotate();
             let time = start.elapsed();
             theirs = sources;

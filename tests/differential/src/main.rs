@@ -35,7 +35,7 @@ const LISTS: u64 = 50_000;
 const BATCH: usize = 64;
 
 fn main() {
-    std::panic::set_hook(Box::new(|_| {}));
+    run::keep_quiet();
     let words: Vec<String> = std::env::args().skip(1).collect();
     let words: Vec<&str> = words.iter().map(String::as_str).collect();
     let passed = match words.as_slice() {

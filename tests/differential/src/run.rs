@@ -1,8 +1,10 @@
 //! Runs cases in as many threads as there are processors, shows progress, and makes a failing case small.
 
+use std::cell::Cell;
 use std::panic::{self, AssertUnwindSafe};
-use std::sync::atomic::{AtomicBool, Ordering};
-use std::sync::Mutex;
+use std::process::exit;
+use std::sync::atomic::{AtomicBool, AtomicU64, AtomicUsize, Ordering};
+use std::sync::{Arc, Mutex};
 use std::thread;
 use std::time::{Duration, Instant};
 
@@ -45,6 +47,10 @@ pub trait Runner {
     }
 }
 
+/// How often progress is shown, and after what time a case counts as one that does not end.
+const PROGRESS: Duration = Duration::from_secs(10);
+const STUCK: Duration = Duration::from_secs(120);
+
 /// How long a run goes on: a time, and a number of cases that it has at least.
 #[derive(Clone, Copy)]
 pub struct Until {
@@ -52,22 +58,32 @@ pub struct Until {
     pub cases: u64,
 }
 
-/// Runs cases until then. `batch` gives the next ones of a thread. False, and a report, where one differs.
+/// The cases that a thread has at hand, and how many it has run in all.
+#[derive(Default)]
+struct Worker {
+    cases: Mutex<Arc<Vec<Case>>>,
+    at: AtomicUsize,
+    run: AtomicU64,
+}
+
+/// Runs cases until then. `batch` gives the next ones of a thread. None, and a report, where one differs.
 pub fn run<R: Runner, B: FnMut() -> Vec<Case>>(new: fn() -> R, batch: impl Fn(u64) -> B + Sync, until: Until) -> Option<Counts> {
     let start = Instant::now();
     let stop = AtomicBool::new(false);
     let counts = Mutex::new(Counts::default());
     let failed = Mutex::new(None);
-    let threads = thread::available_parallelism().map_or(1, usize::from) as u64;
+    let threads = thread::available_parallelism().map_or(1, usize::from);
+    let workers: Vec<Worker> = (0..threads).map(|_| Worker::default()).collect();
     thread::scope(|scope| {
-        let workers: Vec<_> = (0..threads)
-            .map(|number| {
+        let handles: Vec<_> = (0u64..)
+            .zip(&workers)
+            .map(|(number, worker)| {
                 let (stop, counts, failed, batch) = (&stop, &counts, &failed, &batch);
                 scope.spawn(move || {
                     let mut next = batch(number);
                     let mut runner = new();
                     while !stop.load(Ordering::Relaxed) && !over(start, &counts.lock().unwrap(), until) {
-                        if let Err(case) = run_batch(&mut runner, &next(), counts) {
+                        if let Err(case) = worker.run_batch(&mut runner, next(), counts) {
                             stop.store(true, Ordering::Relaxed);
                             failed.lock().unwrap().get_or_insert(case);
                         }
@@ -75,7 +91,7 @@ pub fn run<R: Runner, B: FnMut() -> Vec<Case>>(new: fn() -> R, batch: impl Fn(u6
                 })
             })
             .collect();
-        show_progress(start, &counts, || workers.iter().all(|worker| worker.is_finished()));
+        watch(start, &counts, &workers, |number| handles[number].is_finished());
     });
     let failed = failed.into_inner().unwrap();
     if let Some(case) = failed {
@@ -89,22 +105,51 @@ fn over(start: Instant, counts: &Counts, until: Until) -> bool {
     start.elapsed() >= until.time && counts.cases >= until.cases
 }
 
-// Runs some cases, and hands back the first that fails.
-fn run_batch<R: Runner>(runner: &mut R, cases: &[Case], counts: &Mutex<Counts>) -> Result<(), Case> {
-    let mut own = Counts::default();
-    for case in cases {
-        if run_one(runner, case, &mut |done| own.count(&done)).is_some() {
-            return Err(case.clone());
+impl Worker {
+    // Runs some cases, and hands back the first that fails.
+    fn run_batch<R: Runner>(&self, runner: &mut R, cases: Vec<Case>, counts: &Mutex<Counts>) -> Result<(), Case> {
+        let cases = Arc::new(cases);
+        *self.cases.lock().unwrap() = cases.clone();
+        let mut own = Counts::default();
+        for (at, case) in cases.iter().enumerate() {
+            self.at.store(at, Ordering::Relaxed);
+            if run_one(runner, case, &mut |done| own.count(&done)).is_some() {
+                return Err(case.clone());
+            }
+            own.cases += 1;
+            self.run.fetch_add(1, Ordering::Relaxed);
         }
-        own.cases += 1;
+        counts.lock().unwrap().add(&own);
+        Ok(())
     }
-    counts.lock().unwrap().add(&own);
-    Ok(())
+
+    // The case at hand.
+    fn case(&self) -> Option<Case> {
+        self.cases.lock().unwrap().get(self.at.load(Ordering::Relaxed)).cloned()
+    }
+}
+
+thread_local! {
+    // This thread runs a case.
+    static RUNS: Cell<bool> = const { Cell::new(false) };
+}
+
+/// From now on what stops a case is not printed where it stops, but with the case.
+pub fn keep_quiet() {
+    let usual = panic::take_hook();
+    panic::set_hook(Box::new(move |why| {
+        if !RUNS.get() {
+            usual(why);
+        }
+    }));
 }
 
 /// Runs a case; where the reference stops instead of answering, that is a difference too.
 pub fn run_one<R: Runner>(runner: &mut R, case: &Case, done: &mut dyn FnMut(Done)) -> Option<Box<Difference>> {
-    match panic::catch_unwind(AssertUnwindSafe(|| runner.run(case, done))) {
+    RUNS.set(true);
+    let outcome = panic::catch_unwind(AssertUnwindSafe(|| runner.run(case, done)));
+    RUNS.set(false);
+    match outcome {
         Ok(difference) => difference,
         Err(why) => {
             let why = why.downcast_ref::<String>().cloned().or_else(|| why.downcast_ref::<&str>().map(|why| why.to_string()));
@@ -114,19 +159,27 @@ pub fn run_one<R: Runner>(runner: &mut R, case: &Case, done: &mut dyn FnMut(Done
     }
 }
 
-fn show_progress(start: Instant, counts: &Mutex<Counts>, finished: impl Fn() -> bool) {
+// Shows progress until all threads are finished; a case that does not end is printed, and ends the program.
+fn watch(start: Instant, counts: &Mutex<Counts>, workers: &[Worker], finished: impl Fn(usize) -> bool) {
     let mut shown = start;
-    while !finished() {
+    let mut last: Vec<(u64, Instant)> = vec![(0, start); workers.len()];
+    while !(0..workers.len()).all(&finished) {
         thread::sleep(Duration::from_millis(50));
-        if shown.elapsed() >= Duration::from_secs(10) {
+        for (number, worker) in workers.iter().enumerate() {
+            let run = worker.run.load(Ordering::Relaxed);
+            if run != last[number].0 || finished(number) {
+                last[number] = (run, Instant::now());
+            } else if last[number].1.elapsed() > STUCK {
+                println!("differ: DIFFERENCE: a case has not ended in {} s", STUCK.as_secs());
+                print!("{}", worker.case().map_or(String::new(), |case| case.shown()));
+                exit(1);
+            }
+        }
+        if shown.elapsed() >= PROGRESS {
             shown = Instant::now();
             let counts = counts.lock().unwrap();
-            println!(
-                "differ: {} s, {} cases, {} calls, no difference",
-                start.elapsed().as_secs(),
-                grouped(counts.cases),
-                grouped(counts.calls)
-            );
+            let (cases, calls) = (grouped(counts.cases), grouped(counts.calls));
+            println!("differ: {} s, {cases} cases, {calls} calls, no difference", start.elapsed().as_secs());
         }
     }
 }
