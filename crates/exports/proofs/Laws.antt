@@ -37,7 +37,7 @@ use Rattle.index.specs.declared.Bracket.{Bracket}
 use Rattle.exports.specs.Words.{Words}
 use Rattle.exports.proofs.Words.{size-words, locator-words, look-up-words, annotation-words}
 use Rattle.exports.proofs.SourceWords.{source-words}
-use Rattle.exports.specs.Leaves.{lookUpAreas, lookUpRanIn, lookUpLeaves, annotateAreas, annotateRanIn, annotateLeaves, sizeLeaves, locatorLeaves, sourceAreas, sourceRanIn, sourceTextLeaves}
+use Rattle.exports.specs.Areas.{lookUpAreas, lookUpDone, afterLookUp, annotateAreas, annotateDone, afterAnnotate, afterSize, afterLocator, sourceAreas, sourceDone, afterSourceText}
 
 -- what is put
 module _ (s : List ℕ) (a b : ℕ) where
@@ -54,36 +54,7 @@ module _ (s : List ℕ) (a b : ℕ) where
     unfolding putAt
     six-put e f h = put-written (a ∷ b ∷ c ∷ d ∷ e ∷ f ∷ []) s h
 
--- each number fits
-module _ (a : ℕ) where
-  pub first-fits : (ns : List ℕ) → Words (a ∷ ns) → Fits w32 a
-  unfolding Words
-  first-fits ns h = record { fits = h .0 }
-
-  module _ (b : ℕ) where
-    pub second-fits : (ns : List ℕ) → Words (a ∷ b ∷ ns) → Fits w32 b
-    unfolding Words
-    second-fits ns h = record { fits = h .1 .0 }
-
-    module _ (c : ℕ) where
-      pub third-fits : (ns : List ℕ) → Words (a ∷ b ∷ c ∷ ns) → Fits w32 c
-      unfolding Words
-      third-fits ns h = record { fits = h .1 .1 .0 }
-
-      module _ (d : ℕ) where
-        pub fourth-fits : (ns : List ℕ) → Words (a ∷ b ∷ c ∷ d ∷ ns) → Fits w32 d
-        unfolding Words
-        fourth-fits ns h = record { fits = h .1 .1 .1 .0 }
-
-        pub fifth-fits : (e : ℕ) (ns : List ℕ) → Words (a ∷ b ∷ c ∷ d ∷ e ∷ ns) → Fits w32 e
-        unfolding Words
-        fifth-fits e ns h = record { fits = h .1 .1 .1 .1 .0 }
-
-        pub sixth-fits : (e f : ℕ) (ns : List ℕ) → Words (a ∷ b ∷ c ∷ d ∷ e ∷ f ∷ ns) → Fits w32 f
-        unfolding Words
-        sixth-fits e f ns h = record { fits = h .1 .1 .1 .1 .1 .0 }
-
-pub ruleset put-laws = (two-put, four-put, six-put, first-fits, second-fits, third-fits, fourth-fits, fifth-fits, sixth-fits)
+pub ruleset put-laws = (two-put, four-put, six-put)
 
 -- the numbers of each case
 pub look-up-accepted : {a : LookUp} {x y z : ℕ} → a ≡ Accepted x y z → lookUpValues a ≡ 0 ∷ x ∷ y ∷ z ∷ []
@@ -130,12 +101,62 @@ source-refused e = rw e
 pub values-put : {values ns out : List ℕ} (s : List ℕ) → values ≡ ns → out ≡ written ns s → out ≡ written values s
 values-put s e h = rw e h
 
-pub values-words : (values : List ℕ) {ns : List ℕ} → values ≡ ns → Words values → Words ns
-values-words values e h = rw e at h
+-- each of the numbers fits
+module _ {values : List ℕ} (h : Words values) {a : ℕ} where
+  pub first-fits : {ns : List ℕ} → values ≡ a ∷ ns → Fits w32 a
+  unfolding Words
+  first-fits e = record { fits = (rw e at h) .0 }
+
+  module _ {b : ℕ} where
+    pub second-fits : {ns : List ℕ} → values ≡ a ∷ b ∷ ns → Fits w32 b
+    unfolding Words
+    second-fits e = record { fits = (rw e at h) .1 .0 }
+
+    pub third-fits : {c : ℕ} {ns : List ℕ} → values ≡ a ∷ b ∷ c ∷ ns → Fits w32 c
+    unfolding Words
+    third-fits e = record { fits = (rw e at h) .1 .1 .0 }
+
+    module _ {c d : ℕ} where
+      pub fourth-fits : {ns : List ℕ} → values ≡ a ∷ b ∷ c ∷ d ∷ ns → Fits w32 d
+      unfolding Words
+      fourth-fits e = record { fits = (rw e at h) .1 .1 .1 .0 }
+
+      pub fifth-fits : {e : ℕ} {ns : List ℕ} → values ≡ a ∷ b ∷ c ∷ d ∷ e ∷ ns → Fits w32 e
+      unfolding Words
+      fifth-fits q = record { fits = (rw q at h) .1 .1 .1 .1 .0 }
+
+      pub sixth-fits : {e f : ℕ} {ns : List ℕ} → values ≡ a ∷ b ∷ c ∷ d ∷ e ∷ f ∷ ns → Fits w32 f
+      unfolding Words
+      sixth-fits q = record { fits = (rw q at h) .1 .1 .1 .1 .1 .0 }
+
+-- and those of a locator's pairs
+module _ (a : LocatorAnswer) {l : Locator} (h : Words (locatorValues a)) (e : a ≡ LocatorIs l) (p : Span) where
+  pub value-at-fits : p ≡ valueOf l → Fits w32 (p .at)
+  unfolding locatorValues Words
+  value-at-fits q = record { fits = rw q ((rw e at h) .1 .1 .0) }
+
+  pub value-len-fits : p ≡ valueOf l → Fits w32 (p .len)
+  unfolding locatorValues Words
+  value-len-fits q = record { fits = rw q ((rw e at h) .1 .1 .1 .0) }
+
+  pub suffix-at-fits : p ≡ suffixOf l → Fits w32 (p .at)
+  unfolding locatorValues Words
+  suffix-at-fits q = record { fits = rw q ((rw e at h) .1 .1 .1 .1 .0) }
+
+  pub suffix-len-fits : p ≡ suffixOf l → Fits w32 (p .len)
+  unfolding locatorValues Words
+  suffix-len-fits q = record { fits = rw q ((rw e at h) .1 .1 .1 .1 .1 .0) }
+
+pub ruleset pair-laws = (value-at-fits, value-len-fits, suffix-at-fits, suffix-len-fits)
 
 pub ruleset write-laws = (
   values-put,
-  values-words,
+  first-fits,
+  second-fits,
+  third-fits,
+  fourth-fits,
+  fifth-fits,
+  sixth-fits,
   look-up-accepted,
   look-up-refused,
   annotation-accepted,
@@ -165,38 +186,38 @@ pub source-fit : (pool : List ℕ) (entry : ℕ) (area : List ℕ) (a : SourceTe
 source-fit pool entry area a v = rw v (source-words pool entry area)
 
 module _ (text : List ℕ) {b : Bool} {s s′ : List ℕ} (kept : s′ ≡ s) where
-  pub size-left : {out : List ℕ} (a : Size) → b ≡ leb 2 (length s) → b ≡ true → sizeValues a ≡ sizeNumbers (sizeCall text) → out ≡ written (sizeValues a) s′ → out ≡ sizeLeaves text s
-  unfolding sizeLeaves
+  pub size-left : {out : List ℕ} (a : Size) → b ≡ leb 2 (length s) → b ≡ true → sizeValues a ≡ sizeNumbers (sizeCall text) → out ≡ written (sizeValues a) s′ → out ≡ afterSize text s
+  unfolding afterSize
   size-left a r t v h = rw (← r, t, ← v, ← kept) h
 
-  pub size-kept : b ≡ leb 2 (length s) → b ≡ false → s′ ≡ sizeLeaves text s
-  unfolding sizeLeaves
+  pub size-kept : b ≡ leb 2 (length s) → b ≡ false → s′ ≡ afterSize text s
+  unfolding afterSize
   size-kept r t = rw (← r, t) kept
 
-  pub locator-left : {out : List ℕ} (a : LocatorAnswer) → b ≡ leb 6 (length s) → b ≡ true → locatorValues a ≡ locatorNumbers (locatorCall text) → out ≡ written (locatorValues a) s′ → out ≡ locatorLeaves text s
-  unfolding locatorLeaves
+  pub locator-left : {out : List ℕ} (a : LocatorAnswer) → b ≡ leb 6 (length s) → b ≡ true → locatorValues a ≡ locatorNumbers (locatorCall text) → out ≡ written (locatorValues a) s′ → out ≡ afterLocator text s
+  unfolding afterLocator
   locator-left a r t v h = rw (← r, t, ← v, ← kept) h
 
-  pub locator-kept : b ≡ leb 6 (length s) → b ≡ false → s′ ≡ locatorLeaves text s
-  unfolding locatorLeaves
+  pub locator-kept : b ≡ leb 6 (length s) → b ≡ false → s′ ≡ afterLocator text s
+  unfolding afterLocator
   locator-kept r t = rw (← r, t) kept
 
 module _ (pool : List ℕ) (entry : ℕ) (area : List ℕ) {b : Bool} {s s′ : List ℕ} (kept : s′ ≡ s) (r : b ≡ leb 2 (length s)) where
-  pub source-area-left : {area′ : List ℕ} → b ≡ true → area′ ≡ sourceTextCall pool entry area .area → area′ ≡ sourceTextLeaves pool entry (sourceAreas area s) .area
-  unfolding sourceTextLeaves sourceRanIn
+  pub source-area-left : {area′ : List ℕ} → b ≡ true → area′ ≡ sourceTextCall pool entry area .area → area′ ≡ afterSourceText pool entry (sourceAreas area s) .area
+  unfolding afterSourceText sourceDone
   source-area-left t h = rw (← r, t) h
 
   pub source-left : {out : List ℕ} (a : SourceText) → b ≡ true → sourceTextValues a ≡ sourceTextNumbers (sourceTextCall pool entry area) → out ≡ written (sourceTextValues a) s′
-      → out ≡ sourceTextLeaves pool entry (sourceAreas area s) .answer
-  unfolding sourceTextLeaves sourceRanIn
+      → out ≡ afterSourceText pool entry (sourceAreas area s) .answer
+  unfolding afterSourceText sourceDone
   source-left a t v h = rw (← r, t, ← v, ← kept) h
 
-  pub source-area-kept : b ≡ false → area ≡ sourceTextLeaves pool entry (sourceAreas area s) .area
-  unfolding sourceTextLeaves
+  pub source-area-kept : b ≡ false → area ≡ afterSourceText pool entry (sourceAreas area s) .area
+  unfolding afterSourceText
   source-area-kept t = rw (← r, t)
 
-  pub source-kept : b ≡ false → s′ ≡ sourceTextLeaves pool entry (sourceAreas area s) .answer
-  unfolding sourceTextLeaves
+  pub source-kept : b ≡ false → s′ ≡ afterSourceText pool entry (sourceAreas area s) .answer
+  unfolding afterSourceText
   source-kept t = rw (← r, t) kept
 
 module _ (text : List ℕ) (at note : ℕ) (index : List ℕ) (records : List Bracket) (items answer : List ℕ) where
@@ -207,12 +228,12 @@ module _ (text : List ℕ) (at note : ℕ) (index : List ℕ) (records : List Br
   look-up-fit h r v = rw v (look-up-words text at note index records items h)
 
   pub look-up-left : leb 4 (length answer) ≡ true → (r : LookUp) → lookUpValues r ≡ lookUpNumbers looked
-      → lookUpAreas (looked .index) (looked .records) (looked .answer .items) (written (lookUpValues r) answer) ≡ lookUpLeaves text at note (lookUpAreas index records items answer)
-  unfolding lookUpLeaves lookUpRanIn
+      → lookUpAreas (looked .index) (looked .records) (looked .answer .items) (written (lookUpValues r) answer) ≡ afterLookUp text at note (lookUpAreas index records items answer)
+  unfolding afterLookUp lookUpDone
   look-up-left t r v = rw (t, v)
 
-  pub look-up-kept : leb 4 (length answer) ≡ false → lookUpAreas index records items answer ≡ lookUpLeaves text at note (lookUpAreas index records items answer)
-  unfolding lookUpLeaves
+  pub look-up-kept : leb 4 (length answer) ≡ false → lookUpAreas index records items answer ≡ afterLookUp text at note (lookUpAreas index records items answer)
+  unfolding afterLookUp
   look-up-kept t = rw t
 
 module _ (text : List ℕ) (mode : ℕ) (pool : List ℕ) (note : ℕ) (index : List ℕ) (records : List Bracket) (areas : Areas) (answer : List ℕ) where
@@ -223,12 +244,12 @@ module _ (text : List ℕ) (mode : ℕ) (pool : List ℕ) (note : ℕ) (index : 
   annotate-fit h r v = rw v (annotation-words text mode pool note index records areas h)
 
   pub annotate-left : leb 6 (length answer) ≡ true → (r : Annotation) → annotationValues r ≡ annotationNumbers annotated
-      → annotateAreas (annotated .index) (annotated .records) (annotated .answer .areas) (written (annotationValues r) answer) ≡ annotateLeaves text mode pool note (annotateAreas index records areas answer)
-  unfolding annotateLeaves annotateRanIn
+      → annotateAreas (annotated .index) (annotated .records) (annotated .answer .areas) (written (annotationValues r) answer) ≡ afterAnnotate text mode pool note (annotateAreas index records areas answer)
+  unfolding afterAnnotate annotateDone
   annotate-left t r v = rw (t, v)
 
-  pub annotate-kept : leb 6 (length answer) ≡ false → annotateAreas index records areas answer ≡ annotateLeaves text mode pool note (annotateAreas index records areas answer)
-  unfolding annotateLeaves
+  pub annotate-kept : leb 6 (length answer) ≡ false → annotateAreas index records areas answer ≡ afterAnnotate text mode pool note (annotateAreas index records areas answer)
+  unfolding afterAnnotate
   annotate-kept t = rw t
 
 pub ruleset call-laws = (has-room, size-fit, locator-fit, source-fit, size-left, size-kept, locator-left, locator-kept, source-area-left, source-left, source-area-kept, source-kept)

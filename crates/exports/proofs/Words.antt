@@ -192,7 +192,7 @@ refused-few n areas l h k = record { number = h; groups = omega arith; items = o
 
 labels-few : (content areas : Areas) → roomFor content areas ≡ true → length (content .labels) ≤ 65535
 unfolding roomFor
-labels-few content areas q = leb-true (length (content .labels)) 65535 
+labels-few content areas q = leb-true (length (content .labels)) 65535
     (and-right
     (leb (length (content .items)) (length (areas .items))
     && leb (length (content .groups)) (length (areas .groups))

@@ -17,15 +17,15 @@ ghost use Rattle.base.specs.Lists.{written};
 ghost use Rattle.lookup.specs.Values.{lookUpValues, locatorValues, sizeValues};
 ghost use Rattle.source.specs.Values.{sourceTextValues};
 ghost use Rattle.exports.specs.Words.{Words};
-ghost use Rattle.exports.specs.Leaves.{
+ghost use Rattle.exports.specs.Areas.{
   lookUpAreas,
-  lookUpLeaves,
+  afterLookUp,
   annotateAreas,
-  annotateLeaves,
-  sizeLeaves,
-  locatorLeaves,
+  afterAnnotate,
+  afterSize,
+  afterLocator,
   sourceAreas,
-  sourceTextLeaves,
+  afterSourceText,
 };
 
 // Whether `answer` has room for `n` numbers.
@@ -36,36 +36,36 @@ fn has_room(answer: &mut [u32], n: usize) -> bool
 }
 
 // Two numbers, at the front of `answer`.
-fn put_two(answer: &mut [u32], a: usize, b: usize)
-    requires { ⌜ (2 ≤ length (now answer)) × Words (a ∷ b ∷ []) ⌝ }
+fn put_two(answer: &mut [u32], a: u32, b: u32)
+    requires { ⌜ 2 ≤ length (now answer) ⌝ }
     ensures { λ _. ⌜ now (answer .exit) ≡ written (a ∷ b ∷ []) (now (answer .entry)) ⌝ }
 {
-    answer[0] = a as u32;
-    answer[1] = b as u32;
+    answer[0] = a;
+    answer[1] = b;
 }
 
 // Four numbers, at the front of `answer`.
-fn put_four(answer: &mut [u32], a: usize, b: usize, c: usize, d: usize)
-    requires { ⌜ (4 ≤ length (now answer)) × Words (a ∷ b ∷ c ∷ d ∷ []) ⌝ }
+fn put_four(answer: &mut [u32], a: u32, b: u32, c: u32, d: u32)
+    requires { ⌜ 4 ≤ length (now answer) ⌝ }
     ensures { λ _. ⌜ now (answer .exit) ≡ written (a ∷ b ∷ c ∷ d ∷ []) (now (answer .entry)) ⌝ }
 {
-    answer[0] = a as u32;
-    answer[1] = b as u32;
-    answer[2] = c as u32;
-    answer[3] = d as u32;
+    answer[0] = a;
+    answer[1] = b;
+    answer[2] = c;
+    answer[3] = d;
 }
 
 // Six numbers, at the front of `answer`.
-fn put_six(answer: &mut [u32], a: usize, b: usize, c: usize, d: usize, e: usize, f: usize)
-    requires { ⌜ (6 ≤ length (now answer)) × Words (a ∷ b ∷ c ∷ d ∷ e ∷ f ∷ []) ⌝ }
+fn put_six(answer: &mut [u32], a: u32, b: u32, c: u32, d: u32, e: u32, f: u32)
+    requires { ⌜ 6 ≤ length (now answer) ⌝ }
     ensures { λ _. ⌜ now (answer .exit) ≡ written (a ∷ b ∷ c ∷ d ∷ e ∷ f ∷ []) (now (answer .entry)) ⌝ }
 {
-    answer[0] = a as u32;
-    answer[1] = b as u32;
-    answer[2] = c as u32;
-    answer[3] = d as u32;
-    answer[4] = e as u32;
-    answer[5] = f as u32;
+    answer[0] = a;
+    answer[1] = b;
+    answer[2] = c;
+    answer[3] = d;
+    answer[4] = e;
+    answer[5] = f;
 }
 
 // Number, close, item count, note.
@@ -74,8 +74,14 @@ fn write_look_up(a: LookUp, answer: &mut [u32])
     ensures { λ _. ⌜ now (answer .exit) ≡ written (lookUpValues a) (now (answer .entry)) ⌝ }
 {
     match a {
-        LookUp::Accepted { close, count, note } => put_four(answer, 0, close, count, note as usize),
-        LookUp::Refused { number, note } => put_four(answer, number as usize, 0, 0, note as usize),
+        LookUp::Accepted { close, count, note } => put_four(
+            answer,
+            0,
+            close as u32,
+            count as u32,
+            note as u32,
+        ),
+        LookUp::Refused { number, note } => put_four(answer, number as u32, 0, 0, note as u32),
     }
 }
 
@@ -94,13 +100,21 @@ fn write_annotation(a: Annotation, answer: &mut [u32])
         } => put_six(
             answer,
             0,
-            groups,
-            items,
-            sources,
-            label_bytes,
-            note as usize,
+            groups as u32,
+            items as u32,
+            sources as u32,
+            label_bytes as u32,
+            note as u32,
         ),
-        Annotation::Refused { number, note } => put_six(answer, number as usize, 0, 0, 0, 0, note as usize),
+        Annotation::Refused { number, note } => put_six(
+            answer,
+            number as u32,
+            0,
+            0,
+            0,
+            0,
+            note as u32,
+        ),
     }
 }
 
@@ -110,8 +124,8 @@ fn write_size(a: Size, answer: &mut [u32])
     ensures { λ _. ⌜ now (answer .exit) ≡ written (sizeValues a) (now (answer .entry)) ⌝ }
 {
     match a {
-        Size::Accepted { records } => put_two(answer, 0, records),
-        Size::Refused { number } => put_two(answer, number as usize, 0),
+        Size::Accepted { records } => put_two(answer, 0, records as u32),
+        Size::Refused { number } => put_two(answer, number as u32, 0),
     }
 }
 
@@ -128,14 +142,14 @@ fn write_locator(a: LocatorAnswer, answer: &mut [u32])
             put_six(
                 answer,
                 0,
-                code as usize,
-                value.at,
-                value.len,
-                suffix.at,
-                suffix.len,
+                code as u32,
+                value.at as u32,
+                value.len as u32,
+                suffix.at as u32,
+                suffix.len as u32,
             )
         }
-        LocatorAnswer::Refused { number } => put_six(answer, number as usize, 0, 0, 0, 0, 0),
+        LocatorAnswer::Refused { number } => put_six(answer, number as u32, 0, 0, 0, 0, 0),
     }
 }
 
@@ -145,8 +159,8 @@ fn write_source_text(a: SourceText, answer: &mut [u32])
     ensures { λ _. ⌜ now (answer .exit) ≡ written (sourceTextValues a) (now (answer .entry)) ⌝ }
 {
     match a {
-        SourceText::Accepted { bytes } => put_two(answer, 0, bytes),
-        SourceText::Refused { number } => put_two(answer, number as usize, 0),
+        SourceText::Accepted { bytes } => put_two(answer, 0, bytes as u32),
+        SourceText::Refused { number } => put_two(answer, number as u32, 0),
     }
 }
 
@@ -161,12 +175,12 @@ pub extern "C" fn citations_look_up(
     items: &mut [u16],
     answer: &mut [u32],
 )
-    ensures { λ _. let left = lookUpLeaves (now (text .entry)) at note
+    ensures { λ _. let after = afterLookUp (now (text .entry)) at note
         (lookUpAreas (now (index .entry)) (now (records .entry)) (now (items .entry)) (now (answer .entry))) in
-        ⌜ (now (index .exit) ≡ left .index)
-        × (now (records .exit) ≡ left .records)
-        × (now (items .exit) ≡ left .items)
-        × (now (answer .exit) ≡ left .answer) ⌝ }
+        ⌜ (now (index .exit) ≡ after .index)
+        × (now (records .exit) ≡ after .records)
+        × (now (items .exit) ≡ after .items)
+        × (now (answer .exit) ≡ after .answer) ⌝ }
 {
     if has_room(answer, 4) {
         let a = calls::look_up(text, at, note, index, records, items);
@@ -190,19 +204,28 @@ pub extern "C" fn citations_annotate<'a>(
     answer: &mut [u32],
 )
     ensures { λ _. let given = areas (now (items .entry)) (now (groups .entry)) (now (references .entry)) (now (labels .entry)) in
-        let left = annotateLeaves (now (text .entry)) mode (now (pool .entry)) note
+        let after = afterAnnotate (now (text .entry)) mode (now (pool .entry)) note
         (annotateAreas (now (index .entry)) (now (records .entry)) given (now (answer .entry))) in
-        ⌜ (now (index .exit) ≡ left .index)
-        × (now (records .exit) ≡ left .records)
-        × (now (items .exit) ≡ left .areas .items)
-        × (now (groups .exit) ≡ left .areas .groups)
-        × (now (references .exit) ≡ left .areas .references)
-        × (now (labels .exit) ≡ left .areas .labels)
-        × (now (answer .exit) ≡ left .answer) ⌝ }
+        ⌜ (now (index .exit) ≡ after .index)
+        × (now (records .exit) ≡ after .records)
+        × (now (items .exit) ≡ after .areas .items)
+        × (now (groups .exit) ≡ after .areas .groups)
+        × (now (references .exit) ≡ after .areas .references)
+        × (now (labels .exit) ≡ after .areas .labels)
+        × (now (answer .exit) ≡ after .answer) ⌝ }
 {
     if has_room(answer, 6) {
         let a = calls::annotate(
-            text, mode, pool, note, index, records, items, groups, references, labels,
+            text,
+            mode,
+            pool,
+            note,
+            index,
+            records,
+            items,
+            groups,
+            references,
+            labels,
         );
         write_annotation(a, answer);
     }
@@ -211,7 +234,7 @@ pub extern "C" fn citations_annotate<'a>(
 // calls::size; answer: number, records.
 #[no_mangle]
 pub extern "C" fn citations_size(text: &[u8], answer: &mut [u32])
-    ensures { λ _. ⌜ now (answer .exit) ≡ sizeLeaves (now (text .entry)) (now (answer .entry)) ⌝ }
+    ensures { λ _. ⌜ now (answer .exit) ≡ afterSize (now (text .entry)) (now (answer .entry)) ⌝ }
 {
     if has_room(answer, 2) {
         write_size(calls::size(text), answer);
@@ -221,7 +244,7 @@ pub extern "C" fn citations_size(text: &[u8], answer: &mut [u32])
 // calls::locator; answer: number, label code, value pair, suffix pair.
 #[no_mangle]
 pub extern "C" fn citations_locator(text: &[u8], answer: &mut [u32])
-    ensures { λ _. ⌜ now (answer .exit) ≡ locatorLeaves (now (text .entry)) (now (answer .entry)) ⌝ }
+    ensures { λ _. ⌜ now (answer .exit) ≡ afterLocator (now (text .entry)) (now (answer .entry)) ⌝ }
 {
     if has_room(answer, 6) {
         write_locator(calls::locator(text), answer);
@@ -230,9 +253,14 @@ pub extern "C" fn citations_locator(text: &[u8], answer: &mut [u32])
 
 // calls::source_text; answer: number, bytes.
 #[no_mangle]
-pub extern "C" fn citations_source_text(pool: &[u8], entry: usize, area: &mut [u8], answer: &mut [u32])
-    ensures { λ _. let left = sourceTextLeaves (now (pool .entry)) entry (sourceAreas (now (area .entry)) (now (answer .entry))) in
-        ⌜ (now (area .exit) ≡ left .area) × (now (answer .exit) ≡ left .answer) ⌝ }
+pub extern "C" fn citations_source_text(
+    pool: &[u8],
+    entry: usize,
+    area: &mut [u8],
+    answer: &mut [u32],
+)
+    ensures { λ _. let after = afterSourceText (now (pool .entry)) entry (sourceAreas (now (area .entry)) (now (answer .entry))) in
+        ⌜ (now (area .exit) ≡ after .area) × (now (answer .exit) ≡ after .answer) ⌝ }
 {
     if has_room(answer, 2) {
         write_source_text(calls::source_text(pool, entry, area), answer);

@@ -54,7 +54,7 @@ use Rattle.calls.proofs.annotate.Symbol as called-def
 use Rattle.calls.proofs.annotate.Symbol.{name as #calls·annotate}
 use Rattle.calls.proofs.annotate.Met as called-thm
 use Rattle.exports.specs.Words.{Words}
-use Rattle.exports.specs.Leaves.{AnnotateAreas, annotateAreas, annotateLeaves}
+use Rattle.exports.specs.Areas.{AnnotateAreas, annotateAreas, afterAnnotate}
 use Rattle.exports.proofs.Laws.{annotate-fit, annotate-left, annotate-kept}
 use Rattle.exports.proofs.Calls.{HasRoom, asks, holds, fails}
 use Rattle.exports.proofs.has_room.Symbol as room-def
@@ -167,7 +167,7 @@ module _ {M : Type 1} (𝓤 : URA M) (H : Heap 𝓤) (A : Atoms 𝓤) (W : Given
   ran = annotateRun ts mode ps note is ys (areas js gs rs ls)
 
   abbrev left : AnnotateAreas
-  left = annotateLeaves ts mode ps note (annotateAreas is ys (areas js gs rs ls) xs)
+  left = afterAnnotate ts mode ps note (annotateAreas is ys (areas js gs rs ls) xs)
 
   abbrev Post : Val → SProp 𝓤
   Post = walkOf 𝓤 H A f.ended stayed (f.clauses 𝓤 H A mem run) .post (((κ₀, (κ₁, (κ₂, (κ₃, (κ₄, (κ₅, (κ₆, (κ₇, tt)))))))), (q₀, (q₁, (q₂, (q₃, (q₄, (q₅, (q₆, (q₇, tt)))))))), tt, a, vals), tt)
@@ -201,30 +201,30 @@ module _ {M : Type 1} (𝓤 : URA M) (H : Heap 𝓤) (A : Atoms 𝓤) (W : Given
       leaves : (x : AnnotateAreas) → x ≡ left → AsLong x → Sq W (After x) (runs C Λ En code.Mir.t-5 (atRet En Post))
       leaves x e long =
           assigns ! (of-opd ! (unit-lit !)) (from ! {i = 0} (stop !)) (init ! 77 refl (tt, tt)) $ returns ! (look ! 77 refl) $
-          forget ! 51 refl $ forget ! 55 refl $ forget ! 57 refl $ forget ! 59 refl $ forget ! 61 refl $ forget ! 63 refl $ forget ! 65 refl $ forget ! 67 refl $ forget ! 69 refl $ forget ! 71 refl $ forget ! 73 refl $ forget ! 75 refl $ forget ! 77 refl $ 
+          forget ! 51 refl $ forget ! 55 refl $ forget ! 57 refl $ forget ! 59 refl $ forget ! 61 refl $ forget ! 63 refl $ forget ! 65 refl $ forget ! 67 refl $ forget ! 69 refl $ forget ! 71 refl $ forget ! 73 refl $ forget ! 75 refl $ forget ! 77 refl $
           move ! (77 ∷ 78 ∷ []) $ free1 ! $ move ! (75 ∷ 76 ∷ []) $ free1 ! $ move ! (73 ∷ 74 ∷ []) $ free1 ! $ move ! (71 ∷ 72 ∷ []) $ free1 ! $ move ! (69 ∷ 70 ∷ []) $ free1 ! $ move ! (67 ∷ 68 ∷ []) $ free1 ! $ move ! (65 ∷ 66 ∷ []) $ free1 ! $ move ! (63 ∷ 64 ∷ []) $ free1 ! $ move ! (61 ∷ 62 ∷ []) $ free1 ! $ move ! (59 ∷ 60 ∷ []) $ free1 ! $ move ! (57 ∷ 58 ∷ []) $ free1 ! $ move ! (55 ∷ 56 ∷ []) $ free1 ! $ move ! (53 ∷ 54 ∷ []) $ free1 ! $ move ! (51 ∷ 52 ∷ []) $ free1 ! $ move ! (49 ∷ 50 ∷ []) $ free1 ! $ move ! (47 ∷ 48 ∷ []) $ free1 ! $ move ! (45 ∷ 46 ∷ []) $ free1 ! $ move ! (43 ∷ 44 ∷ []) $ free1 ! $ move ! (41 ∷ 42 ∷ []) $ free1 ! $ move ! (39 ∷ 40 ∷ []) $ free1 ! $ move ! (37 ∷ 38 ∷ []) $ free1 ! $ move ! (35 ∷ 36 ∷ []) $ free1 ! $ move ! (33 ∷ 34 ∷ []) $ free1 ! $ move ! (31 ∷ 32 ∷ []) $ free1 ! $ move ! (29 ∷ 30 ∷ []) $ free1 ! $ move ! (27 ∷ 28 ∷ []) $ free1 ! $ move ! (25 ∷ 26 ∷ []) $ free1 ! $ move ! (23 ∷ 24 ∷ []) $ free1 ! $ move ! (21 ∷ 22 ∷ []) $ free1 ! $ move ! (19 ∷ 20 ∷ []) $ free1 ! $ move ! (17 ∷ 18 ∷ []) $ free1 ! $ free0 ! $
           by ! (exits x e long mode-fits note-fits)
 
       body : Sq W (After (annotateAreas is ys (areas js gs rs ls) xs)) (runs C Λ En code.Mir.t-4 (atRet En Post))
       body = first ! $ branches ! (load ! (from ! {i = 13} (stop !)) (look ! 51 refl))
           (λ yes.
-          assigns ! (addr ! (from ! {i = 5} (fld ! refl (hop ! (look-in ! 67 (sub ! 0 refl (whole !))) (stop !))))) (from ! {i = 16} (stop !)) (init ! 45 refl (tt, tt)) $ assigns ! (agg ! (and-then ! (load ! (from ! {i = 16} (stop !)) (look ! 45 refl)) (and-then ! (load ! (from ! {i = 5} (fld ! refl (stop !))) (look-in ! 67 (sub ! 1 refl (whole !)))) (no-more !)))) (from ! {i = 17} (stop !)) (init ! 43 refl (tt, (tt, (record { fits = room₂ .0 }, tt)))) $ 
-          assigns ! (addr ! (from ! {i = 6} (fld ! refl (hop ! (look-in ! 65 (sub ! 0 refl (whole !))) (stop !))))) (from ! {i = 18} (stop !)) (init ! 41 refl (tt, tt)) $ assigns ! (agg ! (and-then ! (load ! (from ! {i = 18} (stop !)) (look ! 41 refl)) (and-then ! (load ! (from ! {i = 6} (fld ! refl (stop !))) (look-in ! 65 (sub ! 1 refl (whole !)))) (no-more !)))) (from ! {i = 19} (stop !)) (init ! 39 refl (tt, (tt, (record { fits = room₃ .0 }, tt)))) $ 
-          assigns ! (addr ! (from ! {i = 7} (fld ! refl (hop ! (look-in ! 63 (sub ! 0 refl (whole !))) (stop !))))) (from ! {i = 20} (stop !)) (init ! 37 refl (tt, tt)) $ assigns ! (agg ! (and-then ! (load ! (from ! {i = 20} (stop !)) (look ! 37 refl)) (and-then ! (load ! (from ! {i = 7} (fld ! refl (stop !))) (look-in ! 63 (sub ! 1 refl (whole !)))) (no-more !)))) (from ! {i = 21} (stop !)) (init ! 35 refl (tt, (tt, (record { fits = room₄ .0 }, tt)))) $ 
-          assigns ! (addr ! (from ! {i = 8} (fld ! refl (hop ! (look-in ! 61 (sub ! 0 refl (whole !))) (stop !))))) (from ! {i = 22} (stop !)) (init ! 33 refl (tt, tt)) $ assigns ! (agg ! (and-then ! (load ! (from ! {i = 22} (stop !)) (look ! 33 refl)) (and-then ! (load ! (from ! {i = 8} (fld ! refl (stop !))) (look-in ! 61 (sub ! 1 refl (whole !)))) (no-more !)))) (from ! {i = 23} (stop !)) (init ! 31 refl (tt, (tt, (record { fits = room₅ .0 }, tt)))) $ 
-          assigns ! (addr ! (from ! {i = 9} (fld ! refl (hop ! (look-in ! 59 (sub ! 0 refl (whole !))) (stop !))))) (from ! {i = 24} (stop !)) (init ! 29 refl (tt, tt)) $ assigns ! (agg ! (and-then ! (load ! (from ! {i = 24} (stop !)) (look ! 29 refl)) (and-then ! (load ! (from ! {i = 9} (fld ! refl (stop !))) (look-in ! 59 (sub ! 1 refl (whole !)))) (no-more !)))) (from ! {i = 25} (stop !)) (init ! 27 refl (tt, (tt, (record { fits = room₆ .0 }, tt)))) $ 
-          assigns ! (addr ! (from ! {i = 10} (fld ! refl (hop ! (look-in ! 57 (sub ! 0 refl (whole !))) (stop !))))) (from ! {i = 26} (stop !)) (init ! 25 refl (tt, tt)) $ assigns ! (agg ! (and-then ! (load ! (from ! {i = 26} (stop !)) (look ! 25 refl)) (and-then ! (load ! (from ! {i = 10} (fld ! refl (stop !))) (look-in ! 57 (sub ! 1 refl (whole !)))) (no-more !)))) (from ! {i = 27} (stop !)) (init ! 23 refl (tt, (tt, (record { fits = room₇ .0 }, tt)))) $ 
-          move ! (1 ∷ 10 ∷ []) $ lent ! tt u16 b₂ o₂ (named 1) (named 1) is (λ ν₁ δ₁. move ! (4 ∷ 12 ∷ []) $ lent ! tt T.the-row b₃ o₃ (named 2) (named 2) ys (λ ν₂ δ₂. move ! (7 ∷ 14 ∷ []) $ lent ! tt u16 b₄ o₄ (named 3) (named 3) js (λ ν₃ δ₃. move ! (10 ∷ 16 ∷ []) $ lent ! tt u16 b₅ o₅ (named 4) (named 4) gs (λ ν₄ δ₄. move ! (13 ∷ 18 ∷ []) $ lent ! tt u16 b₆ o₆ (named 5) (named 5) rs (λ ν₅ δ₅. move ! (16 ∷ 20 ∷ []) $ lent ! tt u8 b₇ o₇ (named 6) (named 6) ls (λ ν₆ δ₆. 
-          move ! (20 ∷ []) $ copied ! u8 (named 0) κ₀ text $ move ! (22 ∷ []) $ copied ! u8 (named 0) κ₀ pool $ owned ! u8 (Is u8) (uint-makes 𝓤 H A W w8) mode (vint w8 mode ∷ []) (refl, mode-fits) $ owned ! u8 (Is u8) (uint-makes 𝓤 H A W w8) note (vint w8 note ∷ []) (refl, note-fits) $ nothing ! $ nothing ! $ move ! (26 ∷ 23 ∷ 20 ∷ 17 ∷ 14 ∷ 11 ∷ 8 ∷ 1 ∷ 6 ∷ 3 ∷ 4 ∷ 2 ∷ 24 ∷ 21 ∷ 18 ∷ 15 ∷ 12 ∷ 9 ∷ 0 ∷ []) $ 
+          assigns ! (addr ! (from ! {i = 5} (fld ! refl (hop ! (look-in ! 67 (sub ! 0 refl (whole !))) (stop !))))) (from ! {i = 16} (stop !)) (init ! 45 refl (tt, tt)) $ assigns ! (agg ! (and-then ! (load ! (from ! {i = 16} (stop !)) (look ! 45 refl)) (and-then ! (load ! (from ! {i = 5} (fld ! refl (stop !))) (look-in ! 67 (sub ! 1 refl (whole !)))) (no-more !)))) (from ! {i = 17} (stop !)) (init ! 43 refl (tt, (tt, (record { fits = room₂ .0 }, tt)))) $
+          assigns ! (addr ! (from ! {i = 6} (fld ! refl (hop ! (look-in ! 65 (sub ! 0 refl (whole !))) (stop !))))) (from ! {i = 18} (stop !)) (init ! 41 refl (tt, tt)) $ assigns ! (agg ! (and-then ! (load ! (from ! {i = 18} (stop !)) (look ! 41 refl)) (and-then ! (load ! (from ! {i = 6} (fld ! refl (stop !))) (look-in ! 65 (sub ! 1 refl (whole !)))) (no-more !)))) (from ! {i = 19} (stop !)) (init ! 39 refl (tt, (tt, (record { fits = room₃ .0 }, tt)))) $
+          assigns ! (addr ! (from ! {i = 7} (fld ! refl (hop ! (look-in ! 63 (sub ! 0 refl (whole !))) (stop !))))) (from ! {i = 20} (stop !)) (init ! 37 refl (tt, tt)) $ assigns ! (agg ! (and-then ! (load ! (from ! {i = 20} (stop !)) (look ! 37 refl)) (and-then ! (load ! (from ! {i = 7} (fld ! refl (stop !))) (look-in ! 63 (sub ! 1 refl (whole !)))) (no-more !)))) (from ! {i = 21} (stop !)) (init ! 35 refl (tt, (tt, (record { fits = room₄ .0 }, tt)))) $
+          assigns ! (addr ! (from ! {i = 8} (fld ! refl (hop ! (look-in ! 61 (sub ! 0 refl (whole !))) (stop !))))) (from ! {i = 22} (stop !)) (init ! 33 refl (tt, tt)) $ assigns ! (agg ! (and-then ! (load ! (from ! {i = 22} (stop !)) (look ! 33 refl)) (and-then ! (load ! (from ! {i = 8} (fld ! refl (stop !))) (look-in ! 61 (sub ! 1 refl (whole !)))) (no-more !)))) (from ! {i = 23} (stop !)) (init ! 31 refl (tt, (tt, (record { fits = room₅ .0 }, tt)))) $
+          assigns ! (addr ! (from ! {i = 9} (fld ! refl (hop ! (look-in ! 59 (sub ! 0 refl (whole !))) (stop !))))) (from ! {i = 24} (stop !)) (init ! 29 refl (tt, tt)) $ assigns ! (agg ! (and-then ! (load ! (from ! {i = 24} (stop !)) (look ! 29 refl)) (and-then ! (load ! (from ! {i = 9} (fld ! refl (stop !))) (look-in ! 59 (sub ! 1 refl (whole !)))) (no-more !)))) (from ! {i = 25} (stop !)) (init ! 27 refl (tt, (tt, (record { fits = room₆ .0 }, tt)))) $
+          assigns ! (addr ! (from ! {i = 10} (fld ! refl (hop ! (look-in ! 57 (sub ! 0 refl (whole !))) (stop !))))) (from ! {i = 26} (stop !)) (init ! 25 refl (tt, tt)) $ assigns ! (agg ! (and-then ! (load ! (from ! {i = 26} (stop !)) (look ! 25 refl)) (and-then ! (load ! (from ! {i = 10} (fld ! refl (stop !))) (look-in ! 57 (sub ! 1 refl (whole !)))) (no-more !)))) (from ! {i = 27} (stop !)) (init ! 23 refl (tt, (tt, (record { fits = room₇ .0 }, tt)))) $
+          move ! (1 ∷ 10 ∷ []) $ lent ! tt u16 b₂ o₂ (named 1) (named 1) is (λ ν₁ δ₁. move ! (4 ∷ 12 ∷ []) $ lent ! tt T.the-row b₃ o₃ (named 2) (named 2) ys (λ ν₂ δ₂. move ! (7 ∷ 14 ∷ []) $ lent ! tt u16 b₄ o₄ (named 3) (named 3) js (λ ν₃ δ₃. move ! (10 ∷ 16 ∷ []) $ lent ! tt u16 b₅ o₅ (named 4) (named 4) gs (λ ν₄ δ₄. move ! (13 ∷ 18 ∷ []) $ lent ! tt u16 b₆ o₆ (named 5) (named 5) rs (λ ν₅ δ₅. move ! (16 ∷ 20 ∷ []) $ lent ! tt u8 b₇ o₇ (named 6) (named 6) ls (λ ν₆ δ₆.
+          move ! (20 ∷ []) $ copied ! u8 (named 0) κ₀ text $ move ! (22 ∷ []) $ copied ! u8 (named 0) κ₀ pool $ owned ! u8 (Is u8) (uint-makes 𝓤 H A W w8) mode (vint w8 mode ∷ []) (refl, mode-fits) $ owned ! u8 (Is u8) (uint-makes 𝓤 H A W w8) note (vint w8 note ∷ []) (refl, note-fits) $ nothing ! $ nothing ! $ move ! (26 ∷ 23 ∷ 20 ∷ 17 ∷ 14 ∷ 11 ∷ 8 ∷ 1 ∷ 6 ∷ 3 ∷ 4 ∷ 2 ∷ 24 ∷ 21 ∷ 18 ∷ 15 ∷ 12 ∷ 9 ∷ 0 ∷ []) $
           calls-fn W ! called.ended (called.clauses 𝓤 H A mem run) ((κ₀, (ν₁ ∷ [], (ν₂ ∷ [], (ν₃ ∷ [], (ν₄ ∷ [], (ν₅ ∷ [], (ν₆ ∷ [], tt))))))), (q₀, (fullShare, (fullShare, (fullShare, (fullShare, (fullShare, (fullShare, tt))))))), tt, (text, (mode, (pool, (note, (at-list b₂ o₂ δ₁ is, (at-list b₃ o₃ δ₂ ys, (at-list b₄ o₄ δ₃ js, (at-list b₅ o₅ δ₄ gs, (at-list b₆ o₆ δ₅ rs, (at-list b₇ o₇ δ₆ ls, tt)))))))))), (sv₀ ∷ [], (vint w8 mode ∷ [], (sv₁ ∷ [], (vint w8 note ∷ [], (sv₂ ∷ [], (sv₃ ∷ [], (sv₄ ∷ [], (sv₅ ∷ [], (sv₆ ∷ [], (sv₇ ∷ [], tt))))))))))) tt
           (λ r zs. (annotationValues r ≡ annotationNumbers ran) × (zs .1 .1 .1 .1 .0 ≡ ran .index) × (zs .1 .1 .1 .1 .1 .0 ≡ ran .records) × (zs .1 .1 .1 .1 .1 .1 .0 ≡ ran .answer .areas .items) × (zs .1 .1 .1 .1 .1 .1 .1 .0 ≡ ran .answer .areas .groups) × (zs .1 .1 .1 .1 .1 .1 .1 .1 .0 ≡ ran .answer .areas .references) × (zs .1 .1 .1 .1 .1 .1 .1 .1 .1 .0 ≡ ran .answer .areas .labels))
           (‵ (flft κ₀ q₀) ∷ ‵ (flft (ν₁ ∷ []) fullShare) ∷ ‵ (flft (ν₂ ∷ []) fullShare) ∷ ‵ (flft (ν₃ ∷ []) fullShare) ∷ ‵ (flft (ν₄ ∷ []) fullShare) ∷ ‵ (flft (ν₅ ∷ []) fullShare) ∷ ‵ (flft (ν₆ ∷ []) fullShare) ∷ ‵ ftrue ∷ [])
           (‵ (ShrSlice (named 0) κ₀ u8 .own text (sv₀ ∷ [])) ∷ ‵ (u8 .own mode (vint w8 mode ∷ [])) ∷ ‵ (ShrSlice (named 0) κ₀ u8 .own pool (sv₁ ∷ [])) ∷ ‵ (u8 .own note (vint w8 note ∷ [])) ∷ ‵ (MutSlice (named 1) (ν₁ ∷ []) u16 .own (at-list b₂ o₂ δ₁ is) (sv₂ ∷ [])) ∷ ‵ (MutSlice (named 2) (ν₂ ∷ []) T.the-row .own (at-list b₃ o₃ δ₂ ys) (sv₃ ∷ [])) ∷ ‵ (MutSlice (named 3) (ν₃ ∷ []) u16 .own (at-list b₄ o₄ δ₃ js) (sv₄ ∷ [])) ∷ ‵ (MutSlice (named 4) (ν₄ ∷ []) u16 .own (at-list b₅ o₅ δ₄ gs) (sv₅ ∷ [])) ∷ ‵ (MutSlice (named 5) (ν₅ ∷ []) u16 .own (at-list b₆ o₆ δ₅ rs) (sv₆ ∷ [])) ∷ ‵ (MutSlice (named 6) (ν₆ ∷ []) u8 .own (at-list b₇ o₇ δ₆ ls) (sv₇ ∷ [])) ∷ ‵ ftrue ∷ [])
-          (record { tokens = refl; owned = refl; required = id⊢ 𝓤 _; ensured = λ r zs. id⊢ 𝓤 _ }) fm (known .1) (and-then ! (load ! (from ! {i = 1} (stop !)) (look ! 68 refl)) (and-then ! (load ! (from ! {i = 2} (stop !)) (look ! 66 refl)) (and-then ! (load ! (from ! {i = 3} (stop !)) (look ! 64 refl)) (and-then ! (load ! (from ! {i = 4} (stop !)) (look ! 62 refl)) (and-then ! (load ! (from ! {i = 17} (stop !)) (look ! 36 refl)) (and-then ! (load ! (from ! {i = 19} (stop !)) (look ! 32 refl)) (and-then ! (load ! (from ! {i = 21} (stop !)) (look ! 28 refl)) (and-then ! (load ! (from ! {i = 23} (stop !)) (look ! 24 refl)) (and-then ! (load ! (from ! {i = 25} (stop !)) (look ! 20 refl)) (and-then ! (load ! (from ! {i = 27} (stop !)) (look ! 16 refl)) (no-more !))))))))))) (λ u r zs e. move ! (9 ∷ []) $ no-last ! $ no-last ! $ no-last ! $ no-last ! $ last-list ! u16 δ₁ (zs .1 .1 .1 .1 .0) (ran .index) (e .1) (λ e₁. last-list ! T.the-row δ₂ (zs .1 .1 .1 .1 .1 .0) (ran .records) (e .2) (λ e₂. last-list ! u16 δ₃ (zs .1 .1 .1 .1 .1 .1 .0) (ran .answer .areas .items) (e .3) (λ e₃. last-list ! u16 δ₄ (zs .1 .1 .1 .1 .1 .1 .1 .0) (ran .answer .areas .groups) (e .4) (λ e₄. last-list ! u16 δ₅ (zs .1 .1 .1 .1 .1 .1 .1 .1 .0) (ran .answer .areas .references) (e .5) (λ e₅. last-list ! u8 δ₆ (zs .1 .1 .1 .1 .1 .1 .1 .1 .1 .0) (ran .answer .areas .labels) (e .6) (λ e₆. drop ! $ move ! (14 ∷ []) $ drop ! $ 
-          move ! (8 ∷ 5 ∷ 21 ∷ []) $ back ! tt u16 b₂ o₂ (named 1) is (ran .index) room₂ e₁ $ move ! (9 ∷ 6 ∷ 20 ∷ []) $ back ! tt T.the-row b₃ o₃ (named 2) ys (ran .records) room₃ e₂ $ move ! (10 ∷ 7 ∷ 19 ∷ []) $ back ! tt u16 b₄ o₄ (named 3) js (ran .answer .areas .items) room₄ e₃ $ move ! (11 ∷ 8 ∷ 18 ∷ []) $ back ! tt u16 b₅ o₅ (named 4) gs (ran .answer .areas .groups) room₅ e₄ $ move ! (12 ∷ 9 ∷ 17 ∷ []) $ back ! tt u16 b₆ o₆ (named 5) rs (ran .answer .areas .references) room₆ e₅ $ move ! (13 ∷ 10 ∷ 16 ∷ []) $ back ! tt u8 b₇ o₇ (named 6) ls (ran .answer .areas .labels) room₇ e₆ $ move ! (12 ∷ []) $ 
+          (record { tokens = refl; owned = refl; required = id⊢ 𝓤 _; ensured = λ r zs. id⊢ 𝓤 _ }) fm (known .1) (and-then ! (load ! (from ! {i = 1} (stop !)) (look ! 68 refl)) (and-then ! (load ! (from ! {i = 2} (stop !)) (look ! 66 refl)) (and-then ! (load ! (from ! {i = 3} (stop !)) (look ! 64 refl)) (and-then ! (load ! (from ! {i = 4} (stop !)) (look ! 62 refl)) (and-then ! (load ! (from ! {i = 17} (stop !)) (look ! 36 refl)) (and-then ! (load ! (from ! {i = 19} (stop !)) (look ! 32 refl)) (and-then ! (load ! (from ! {i = 21} (stop !)) (look ! 28 refl)) (and-then ! (load ! (from ! {i = 23} (stop !)) (look ! 24 refl)) (and-then ! (load ! (from ! {i = 25} (stop !)) (look ! 20 refl)) (and-then ! (load ! (from ! {i = 27} (stop !)) (look ! 16 refl)) (no-more !))))))))))) (λ u r zs e. move ! (9 ∷ []) $ no-last ! $ no-last ! $ no-last ! $ no-last ! $ last-list ! u16 δ₁ (zs .1 .1 .1 .1 .0) (ran .index) (e .1) (λ e₁. last-list ! T.the-row δ₂ (zs .1 .1 .1 .1 .1 .0) (ran .records) (e .2) (λ e₂. last-list ! u16 δ₃ (zs .1 .1 .1 .1 .1 .1 .0) (ran .answer .areas .items) (e .3) (λ e₃. last-list ! u16 δ₄ (zs .1 .1 .1 .1 .1 .1 .1 .0) (ran .answer .areas .groups) (e .4) (λ e₄. last-list ! u16 δ₅ (zs .1 .1 .1 .1 .1 .1 .1 .1 .0) (ran .answer .areas .references) (e .5) (λ e₅. last-list ! u8 δ₆ (zs .1 .1 .1 .1 .1 .1 .1 .1 .1 .0) (ran .answer .areas .labels) (e .6) (λ e₆. drop ! $ move ! (14 ∷ []) $ drop ! $
+          move ! (8 ∷ 5 ∷ 21 ∷ []) $ back ! tt u16 b₂ o₂ (named 1) is (ran .index) room₂ e₁ $ move ! (9 ∷ 6 ∷ 20 ∷ []) $ back ! tt T.the-row b₃ o₃ (named 2) ys (ran .records) room₃ e₂ $ move ! (10 ∷ 7 ∷ 19 ∷ []) $ back ! tt u16 b₄ o₄ (named 3) js (ran .answer .areas .items) room₄ e₃ $ move ! (11 ∷ 8 ∷ 18 ∷ []) $ back ! tt u16 b₅ o₅ (named 4) gs (ran .answer .areas .groups) room₅ e₄ $ move ! (12 ∷ 9 ∷ 17 ∷ []) $ back ! tt u16 b₆ o₆ (named 5) rs (ran .answer .areas .references) room₆ e₅ $ move ! (13 ∷ 10 ∷ 16 ∷ []) $ back ! tt u8 b₇ o₇ (named 6) ls (ran .answer .areas .labels) room₇ e₆ $ move ! (12 ∷ []) $
           peeks ! R.the-row (Is R.the-row) (shows 𝓤 H A R.the-row) r (u ∷ []) (λ r-is. land ! (from ! {i = 12} (stop !)) (init ! 54 refl (EL.lawful R.the-type R′.the-laws 𝓤 H A W tt .typed r _ r-is .0)) $
-          assigns ! (addr ! (from ! {i = 11} (fld ! refl (hop ! (look-in ! 56 (sub ! 0 refl (whole !))) (stop !))))) (from ! {i = 29} (stop !)) (init ! 20 refl (tt, tt)) $ assigns ! (agg ! (and-then ! (load ! (from ! {i = 29} (stop !)) (look ! 20 refl)) (and-then ! (load ! (from ! {i = 11} (fld ! refl (stop !))) (look-in ! 56 (sub ! 1 refl (whole !)))) (no-more !)))) (from ! {i = 30} (stop !)) (init ! 18 refl (tt, (tt, (record { fits = room₈ .0 }, tt)))) $ 
-          move ! (16 ∷ 17 ∷ []) $ lent ! tt u32 b₈ o₈ (named 7) (named 0) xs (λ ν₇ δ₇. nothing ! $ nothing ! $ move ! (2 ∷ 1 ∷ 5 ∷ 3 ∷ 0 ∷ []) $ 
+          assigns ! (addr ! (from ! {i = 11} (fld ! refl (hop ! (look-in ! 56 (sub ! 0 refl (whole !))) (stop !))))) (from ! {i = 29} (stop !)) (init ! 20 refl (tt, tt)) $ assigns ! (agg ! (and-then ! (load ! (from ! {i = 29} (stop !)) (look ! 20 refl)) (and-then ! (load ! (from ! {i = 11} (fld ! refl (stop !))) (look-in ! 56 (sub ! 1 refl (whole !)))) (no-more !)))) (from ! {i = 30} (stop !)) (init ! 18 refl (tt, (tt, (record { fits = room₈ .0 }, tt)))) $
+          move ! (16 ∷ 17 ∷ []) $ lent ! tt u32 b₈ o₈ (named 7) (named 0) xs (λ ν₇ δ₇. nothing ! $ nothing ! $ move ! (2 ∷ 1 ∷ 5 ∷ 3 ∷ 0 ∷ []) $
           calls-row-last W ! writes.ended (writes.clauses 𝓤 H A mem run) ((ν₇ ∷ [], tt), (fullShare, tt), tt, (r, (at-list b₈ o₈ δ₇ xs, tt)), (u ∷ [], (sv₈ ∷ [], tt))) tt
           (λ _ zs. zs .1 .0 ≡ written (annotationValues r) xs)
           (‵ (flft (ν₇ ∷ []) fullShare) ∷ ‵ ftrue ∷ [])
@@ -232,18 +232,18 @@ module _ {M : Type 1} (𝓤 : URA M) (H : Heap 𝓤) (A : Atoms 𝓤) (W : Given
           (record { tokens = refl; owned = refl; required = factI 𝓤 ((6 ≤ length xs) × Words (annotationValues r)) (emp 𝓤) (leb-true 6 (length xs) (holds _ yes), annotate-fit ts mode ps note is ys (areas js gs rs ls) xs note-fits r (e .0)); ensured = λ r zs. id⊢ 𝓤 _ }) fm (known .2) (and-then ! (load ! (from ! {i = 12} (stop !)) (look ! 52 refl)) (and-then ! (load ! (from ! {i = 30} (stop !)) (look ! 16 refl)) (no-more !)))
           (λ _. vunit) nothing-tells tt (λ r zs e. refl) (λ _ zs′ e′. move ! (2 ∷ []) $ no-last ! $ last-list ! u32 δ₇ (zs′ .1 .0) (written (annotationValues r) xs) e′ (λ e₇. drop ! $ move ! (2 ∷ []) $ drop ! $ move ! (1 ∷ 0 ∷ 2 ∷ []) $ back ! tt u32 b₈ o₈ (named 7) xs (written (annotationValues r) xs) room₈ e₇ $
           land-last ! (from ! {i = 28} (stop !)) (init ! 21 refl (tt, tt)) $ exec ! C Λ En code.Mir.t-5 (atRet En Post) $
-          forget ! 17 refl $ forget ! 19 refl $ forget ! 21 refl $ forget ! 23 refl $ forget ! 25 refl $ forget ! 27 refl $ forget ! 29 refl $ forget ! 31 refl $ forget ! 33 refl $ forget ! 35 refl $ forget ! 37 refl $ forget ! 39 refl $ forget ! 41 refl $ forget ! 43 refl $ forget ! 45 refl $ forget ! 53 refl $ 
+          forget ! 17 refl $ forget ! 19 refl $ forget ! 21 refl $ forget ! 23 refl $ forget ! 25 refl $ forget ! 27 refl $ forget ! 29 refl $ forget ! 31 refl $ forget ! 33 refl $ forget ! 35 refl $ forget ! 37 refl $ forget ! 39 refl $ forget ! 41 refl $ forget ! 43 refl $ forget ! 45 refl $ forget ! 53 refl $
           move ! (14 ∷ 12 ∷ 10 ∷ 8 ∷ 6 ∷ 4 ∷ 2 ∷ 0 ∷ 16 ∷ 15 ∷ 13 ∷ 11 ∷ 9 ∷ 7 ∷ 5 ∷ 3 ∷ 1 ∷ []) $ leaves (annotateAreas (ran .index) (ran .records) (ran .answer .areas) (written (annotationValues r) xs)) (annotate-left ts mode ps note is ys (areas js gs rs ls) xs (holds _ yes) r (e .0)) (e₁, e₂, e₃, e₄, e₅, e₆, e₇)))))))))))))))))))
           (λ no. skips ! $ exec ! C Λ En code.Mir.t-5 (atRet En Post) $ leaves (annotateAreas is ys (areas js gs rs ls) xs) (annotate-kept ts mode ps note is ys (areas js gs rs ls) xs (fails _ no)) (refl, refl, refl, refl, refl, refl, refl))
 
     walk : ent 𝓤 (onEntry 𝓤 H A f.signature (κ₀, (κ₁, (κ₂, (κ₃, (κ₄, (κ₅, (κ₆, (κ₇, tt)))))))) (q₀, (q₁, (q₂, (q₃, (q₄, (q₅, (q₆, (q₇, tt)))))))) a vals) (WpFn 𝓤 H C Λ code.function (sv₀ ∷ vint w8 mode ∷ sv₁ ∷ vint w8 note ∷ sv₂ ∷ sv₃ ∷ sv₄ ∷ sv₅ ∷ sv₆ ∷ sv₇ ∷ sv₈ ∷ []) Post)
     walk =
         qed W ((‵ (flft κ₀ q₀) ⊛ (‵ (flft κ₁ q₁) ⊛ (‵ (flft κ₂ q₂) ⊛ (‵ (flft κ₃ q₃) ⊛ (‵ (flft κ₄ q₄) ⊛ (‵ (flft κ₅ q₅) ⊛ (‵ (flft κ₆ q₆) ⊛ (‵ (flft κ₇ q₇) ⊛ ‵ ftrue)))))))) ∷ ‵ (owns (ShrSlice (named 0) κ₀ u8 ∷ u8 ∷ ShrSlice (named 0) κ₀ u8 ∷ u8 ∷ MutSlice (named 1) κ₁ u16 ∷ MutSlice (named 2) κ₂ T.the-row ∷ MutSlice (named 3) κ₃ u16 ∷ MutSlice (named 4) κ₄ u16 ∷ MutSlice (named 5) κ₅ u16 ∷ MutSlice (named 6) κ₆ u8 ∷ MutSlice (named 7) κ₇ u32 ∷ []) a vals) ∷ []) ∵
-        split ! $ move ! (1 ∷ []) $ split ! $ move ! (1 ∷ []) $ split ! $ move ! (1 ∷ []) $ split ! $ move ! (1 ∷ []) $ split ! $ move ! (1 ∷ []) $ split ! $ move ! (1 ∷ []) $ split ! $ move ! (1 ∷ []) $ split ! $ move ! (9 ∷ []) $ fsplit ! $ move ! (1 ∷ []) $ fsplit ! $ drop ! $ fsplit ! $ move ! (1 ∷ []) $ fsplit ! $ drop ! $ fsplit ! $ move ! (1 ∷ []) $ fsplit ! $ move ! (1 ∷ []) $ fsplit ! $ move ! (1 ∷ []) $ fsplit ! $ move ! (1 ∷ []) $ fsplit ! $ move ! (1 ∷ []) $ fsplit ! $ move ! (1 ∷ []) $ fsplit ! $ move ! (1 ∷ []) $ drop ! $ move ! (10 ∷ []) $ drop ! $ move ! (16 ∷ 15 ∷ 14 ∷ 13 ∷ 12 ∷ 11 ∷ 10 ∷ 9 ∷ 8 ∷ 7 ∷ 6 ∷ 5 ∷ 4 ∷ 3 ∷ 2 ∷ 1 ∷ 0 ∷ []) $ 
+        split ! $ move ! (1 ∷ []) $ split ! $ move ! (1 ∷ []) $ split ! $ move ! (1 ∷ []) $ split ! $ move ! (1 ∷ []) $ split ! $ move ! (1 ∷ []) $ split ! $ move ! (1 ∷ []) $ split ! $ move ! (1 ∷ []) $ split ! $ move ! (9 ∷ []) $ fsplit ! $ move ! (1 ∷ []) $ fsplit ! $ drop ! $ fsplit ! $ move ! (1 ∷ []) $ fsplit ! $ drop ! $ fsplit ! $ move ! (1 ∷ []) $ fsplit ! $ move ! (1 ∷ []) $ fsplit ! $ move ! (1 ∷ []) $ fsplit ! $ move ! (1 ∷ []) $ fsplit ! $ move ! (1 ∷ []) $ fsplit ! $ move ! (1 ∷ []) $ fsplit ! $ move ! (1 ∷ []) $ drop ! $ move ! (10 ∷ []) $ drop ! $ move ! (16 ∷ 15 ∷ 14 ∷ 13 ∷ 12 ∷ 11 ∷ 10 ∷ 9 ∷ 8 ∷ 7 ∷ 6 ∷ 5 ∷ 4 ∷ 3 ∷ 2 ∷ 1 ∷ 0 ∷ []) $
         enter ! C Λ code.function (sv₀ ∷ vint w8 mode ∷ sv₁ ∷ vint w8 note ∷ sv₂ ∷ sv₃ ∷ sv₄ ∷ sv₅ ∷ sv₆ ∷ sv₇ ∷ sv₈ ∷ []) _ $
         alloc1 ! (λ l₀. alloc1 ! (λ l₁. alloc1 ! (λ l₂. alloc1 ! (λ l₃. alloc1 ! (λ l₄. alloc1 ! (λ l₅. alloc1 ! (λ l₆. alloc1 ! (λ l₇. alloc1 ! (λ l₈. alloc1 ! (λ l₉. alloc1 ! (λ l₁₀. alloc1 ! (λ l₁₁. alloc1 ! (λ l₁₂. alloc1 ! (λ l₁₃. alloc1 ! (λ l₁₄. alloc1 ! (λ l₁₅. alloc1 ! (λ l₁₆. alloc1 ! (λ l₁₇. alloc1 ! (λ l₁₈. alloc1 ! (λ l₁₉. alloc1 ! (λ l₂₀. alloc1 ! (λ l₂₁. alloc1 ! (λ l₂₂. alloc1 ! (λ l₂₃. alloc1 ! (λ l₂₄. alloc1 ! (λ l₂₅. alloc1 ! (λ l₂₆. alloc1 ! (λ l₂₇. alloc1 ! (λ l₂₈. alloc1 ! (λ l₂₉. alloc1 ! (λ l₃₀. alloc0 ! $ params1 ! $
-        pass1 ! (init ! 58 refl (tt, (tt, (record { fits = room₀ .0 }, tt)))) $ pass1 ! (init ! 56 refl (tt, record { fits = mode-fits })) $ pass1 ! (init ! 54 refl (tt, (tt, (record { fits = room₁ .0 }, tt)))) $ pass1 ! (init ! 52 refl (tt, record { fits = note-fits })) $ pass1 ! (init ! 50 refl (tt, (tt, (record { fits = room₂ .0 }, tt)))) $ pass1 ! (init ! 48 refl (tt, (tt, (record { fits = room₃ .0 }, tt)))) $ pass1 ! (init ! 46 refl (tt, (tt, (record { fits = room₄ .0 }, tt)))) $ pass1 ! (init ! 44 refl (tt, (tt, (record { fits = room₅ .0 }, tt)))) $ pass1 ! (init ! 42 refl (tt, (tt, (record { fits = room₆ .0 }, tt)))) $ pass1 ! (init ! 40 refl (tt, (tt, (record { fits = room₇ .0 }, tt)))) $ pass1 ! (init ! 38 refl (tt, (tt, (record { fits = room₈ .0 }, tt)))) $ pass0 ! $ move ! (62 ∷ 63 ∷ 64 ∷ 65 ∷ 66 ∷ 67 ∷ 68 ∷ 69 ∷ 70 ∷ 71 ∷ 72 ∷ 73 ∷ 74 ∷ 75 ∷ 76 ∷ 77 ∷ 78 ∷ []) $ 
-        assigns ! (addr ! (from ! {i = 11} (fld ! refl (hop ! (look-in ! 55 (sub ! 0 refl (whole !))) (stop !))))) (from ! {i = 14} (stop !)) (init ! 49 refl (tt, tt)) $ assigns ! (agg ! (and-then ! (load ! (from ! {i = 14} (stop !)) (look ! 49 refl)) (and-then ! (load ! (from ! {i = 11} (fld ! refl (stop !))) (look-in ! 55 (sub ! 1 refl (whole !)))) (no-more !)))) (from ! {i = 15} (stop !)) (init ! 47 refl (tt, (tt, (record { fits = room₈ .0 }, tt)))) $ 
+        pass1 ! (init ! 58 refl (tt, (tt, (record { fits = room₀ .0 }, tt)))) $ pass1 ! (init ! 56 refl (tt, record { fits = mode-fits })) $ pass1 ! (init ! 54 refl (tt, (tt, (record { fits = room₁ .0 }, tt)))) $ pass1 ! (init ! 52 refl (tt, record { fits = note-fits })) $ pass1 ! (init ! 50 refl (tt, (tt, (record { fits = room₂ .0 }, tt)))) $ pass1 ! (init ! 48 refl (tt, (tt, (record { fits = room₃ .0 }, tt)))) $ pass1 ! (init ! 46 refl (tt, (tt, (record { fits = room₄ .0 }, tt)))) $ pass1 ! (init ! 44 refl (tt, (tt, (record { fits = room₅ .0 }, tt)))) $ pass1 ! (init ! 42 refl (tt, (tt, (record { fits = room₆ .0 }, tt)))) $ pass1 ! (init ! 40 refl (tt, (tt, (record { fits = room₇ .0 }, tt)))) $ pass1 ! (init ! 38 refl (tt, (tt, (record { fits = room₈ .0 }, tt)))) $ pass0 ! $ move ! (62 ∷ 63 ∷ 64 ∷ 65 ∷ 66 ∷ 67 ∷ 68 ∷ 69 ∷ 70 ∷ 71 ∷ 72 ∷ 73 ∷ 74 ∷ 75 ∷ 76 ∷ 77 ∷ 78 ∷ []) $
+        assigns ! (addr ! (from ! {i = 11} (fld ! refl (hop ! (look-in ! 55 (sub ! 0 refl (whole !))) (stop !))))) (from ! {i = 14} (stop !)) (init ! 49 refl (tt, tt)) $ assigns ! (agg ! (and-then ! (load ! (from ! {i = 14} (stop !)) (look ! 49 refl)) (and-then ! (load ! (from ! {i = 11} (fld ! refl (stop !))) (look-in ! 55 (sub ! 1 refl (whole !)))) (no-more !)))) (from ! {i = 15} (stop !)) (init ! 47 refl (tt, (tt, (record { fits = room₈ .0 }, tt)))) $
         move ! (7 ∷ 16 ∷ []) $ asks ! mem run fm (known .0) (named 7) b₈ o₈ xs 6 (lit< tt) room₈ (and-then ! (load ! (from ! {i = 15} (stop !)) (look ! 45 refl)) (and-then ! (lit ! tt) (no-more !))) (
         land ! (from ! {i = 13} (stop !)) (init ! 51 refl (tt, tt)) $ forget ! 49 refl $ forget ! 47 refl $
         move ! (2 ∷ 3 ∷ 4 ∷ 5 ∷ 6 ∷ 7 ∷ 8 ∷ 0 ∷ 9 ∷ 10 ∷ 11 ∷ 12 ∷ 13 ∷ 14 ∷ 15 ∷ 16 ∷ 1 ∷ []) $ keep ! (0 ∷ 1 ∷ 2 ∷ 3 ∷ 4 ∷ 5 ∷ 6 ∷ 7 ∷ 8 ∷ 9 ∷ 10 ∷ 11 ∷ 12 ∷ 13 ∷ 14 ∷ 15 ∷ 16 ∷ 17 ∷ 18 ∷ 19 ∷ 20 ∷ 21 ∷ 22 ∷ 23 ∷ 24 ∷ 25 ∷ 26 ∷ 27 ∷ 28 ∷ 29 ∷ 30 ∷ 31 ∷ 32 ∷ 33 ∷ 34 ∷ 35 ∷ 36 ∷ 37 ∷ 38 ∷ 39 ∷ 40 ∷ 41 ∷ 42 ∷ 43 ∷ 44 ∷ 45 ∷ 46 ∷ 47 ∷ 48 ∷ 49 ∷ 50 ∷ 51 ∷ 52 ∷ 53 ∷ 54 ∷ 55 ∷ 56 ∷ 57 ∷ 58 ∷ 59 ∷ 60 ∷ 61 ∷ 62 ∷ 63 ∷ 64 ∷ 65 ∷ 66 ∷ 67 ∷ 68 ∷ 69 ∷ 70 ∷ 71 ∷ 72 ∷ 73 ∷ 74 ∷ 75 ∷ 76 ∷ 77 ∷ 78 ∷ []) $ body l₀ l₁ l₂ l₃ l₄ l₅ l₆ l₇ l₈ l₉ l₁₀ l₁₁ l₁₂ l₁₃ l₁₄ l₁₅ l₁₆ l₁₇ l₁₈ l₁₉ l₂₀ l₂₁ l₂₂ l₂₃ l₂₄ l₂₅ l₂₆ l₂₇ l₂₈ l₂₉ l₃₀))))))))))))))))))))))))))))))))

@@ -53,7 +53,7 @@ use Rattle.calls.proofs.look_up.Symbol as called-def
 use Rattle.calls.proofs.look_up.Symbol.{name as #calls·look-up}
 use Rattle.calls.proofs.look_up.Met as called-thm
 use Rattle.exports.specs.Words.{Words}
-use Rattle.exports.specs.Leaves.{LookUpAreas, lookUpAreas, lookUpLeaves}
+use Rattle.exports.specs.Areas.{LookUpAreas, lookUpAreas, afterLookUp}
 use Rattle.exports.proofs.Laws.{look-up-fit, look-up-left, look-up-kept}
 use Rattle.exports.proofs.Calls.{HasRoom, asks, holds, fails}
 use Rattle.exports.proofs.has_room.Symbol as room-def
@@ -139,7 +139,7 @@ module _ {M : Type 1} (𝓤 : URA M) (H : Heap 𝓤) (A : Atoms 𝓤) (W : Given
   ran = lookUpRun ts at note is ys js
 
   abbrev left : LookUpAreas
-  left = lookUpLeaves ts at note (lookUpAreas is ys js xs)
+  left = afterLookUp ts at note (lookUpAreas is ys js xs)
 
   abbrev Post : Val → SProp 𝓤
   Post = walkOf 𝓤 H A f.ended stayed (f.clauses 𝓤 H A mem run) .post (((κ₀, (κ₁, (κ₂, (κ₃, (κ₄, tt))))), (q₀, (q₁, (q₂, (q₃, (q₄, tt))))), tt, a, vals), tt)
@@ -173,27 +173,27 @@ module _ {M : Type 1} (𝓤 : URA M) (H : Heap 𝓤) (A : Atoms 𝓤) (W : Given
       leaves : (x : LookUpAreas) → x ≡ left → AsLong x → Sq W (After x) (runs C Λ En code.Mir.t-5 (atRet En Post))
       leaves x e long =
           assigns ! (of-opd ! (unit-lit !)) (from ! {i = 0} (stop !)) (init ! 50 refl (tt, tt)) $ returns ! (look ! 50 refl) $
-          forget ! 32 refl $ forget ! 36 refl $ forget ! 38 refl $ forget ! 40 refl $ forget ! 42 refl $ forget ! 44 refl $ forget ! 46 refl $ forget ! 48 refl $ forget ! 50 refl $ 
+          forget ! 32 refl $ forget ! 36 refl $ forget ! 38 refl $ forget ! 40 refl $ forget ! 42 refl $ forget ! 44 refl $ forget ! 46 refl $ forget ! 48 refl $ forget ! 50 refl $
           move ! (50 ∷ 51 ∷ []) $ free1 ! $ move ! (48 ∷ 49 ∷ []) $ free1 ! $ move ! (46 ∷ 47 ∷ []) $ free1 ! $ move ! (44 ∷ 45 ∷ []) $ free1 ! $ move ! (42 ∷ 43 ∷ []) $ free1 ! $ move ! (40 ∷ 41 ∷ []) $ free1 ! $ move ! (38 ∷ 39 ∷ []) $ free1 ! $ move ! (36 ∷ 37 ∷ []) $ free1 ! $ move ! (34 ∷ 35 ∷ []) $ free1 ! $ move ! (32 ∷ 33 ∷ []) $ free1 ! $ move ! (30 ∷ 31 ∷ []) $ free1 ! $ move ! (28 ∷ 29 ∷ []) $ free1 ! $ move ! (26 ∷ 27 ∷ []) $ free1 ! $ move ! (24 ∷ 25 ∷ []) $ free1 ! $ move ! (22 ∷ 23 ∷ []) $ free1 ! $ move ! (20 ∷ 21 ∷ []) $ free1 ! $ move ! (18 ∷ 19 ∷ []) $ free1 ! $ move ! (16 ∷ 17 ∷ []) $ free1 ! $ move ! (14 ∷ 15 ∷ []) $ free1 ! $ move ! (12 ∷ 13 ∷ []) $ free1 ! $ move ! (10 ∷ 11 ∷ []) $ free1 ! $ free0 ! $
           by ! (exits x e long at-fits note-fits)
 
       body : Sq W (After (lookUpAreas is ys js xs)) (runs C Λ En code.Mir.t-4 (atRet En Post))
       body = first ! $ branches ! (load ! (from ! {i = 9} (stop !)) (look ! 32 refl))
           (λ yes.
-          assigns ! (addr ! (from ! {i = 4} (fld ! refl (hop ! (look-in ! 42 (sub ! 0 refl (whole !))) (stop !))))) (from ! {i = 12} (stop !)) (init ! 26 refl (tt, tt)) $ assigns ! (agg ! (and-then ! (load ! (from ! {i = 12} (stop !)) (look ! 26 refl)) (and-then ! (load ! (from ! {i = 4} (fld ! refl (stop !))) (look-in ! 42 (sub ! 1 refl (whole !)))) (no-more !)))) (from ! {i = 13} (stop !)) (init ! 24 refl (tt, (tt, (record { fits = room₁ .0 }, tt)))) $ 
-          assigns ! (addr ! (from ! {i = 5} (fld ! refl (hop ! (look-in ! 40 (sub ! 0 refl (whole !))) (stop !))))) (from ! {i = 14} (stop !)) (init ! 22 refl (tt, tt)) $ assigns ! (agg ! (and-then ! (load ! (from ! {i = 14} (stop !)) (look ! 22 refl)) (and-then ! (load ! (from ! {i = 5} (fld ! refl (stop !))) (look-in ! 40 (sub ! 1 refl (whole !)))) (no-more !)))) (from ! {i = 15} (stop !)) (init ! 20 refl (tt, (tt, (record { fits = room₂ .0 }, tt)))) $ 
-          assigns ! (addr ! (from ! {i = 6} (fld ! refl (hop ! (look-in ! 38 (sub ! 0 refl (whole !))) (stop !))))) (from ! {i = 16} (stop !)) (init ! 18 refl (tt, tt)) $ assigns ! (agg ! (and-then ! (load ! (from ! {i = 16} (stop !)) (look ! 18 refl)) (and-then ! (load ! (from ! {i = 6} (fld ! refl (stop !))) (look-in ! 38 (sub ! 1 refl (whole !)))) (no-more !)))) (from ! {i = 17} (stop !)) (init ! 16 refl (tt, (tt, (record { fits = room₃ .0 }, tt)))) $ 
-          move ! (1 ∷ 6 ∷ []) $ lent ! tt u16 b₁ o₁ (named 1) (named 1) is (λ ν₁ δ₁. move ! (4 ∷ 8 ∷ []) $ lent ! tt T.the-row b₂ o₂ (named 2) (named 2) ys (λ ν₂ δ₂. move ! (7 ∷ 10 ∷ []) $ lent ! tt u16 b₃ o₃ (named 3) (named 3) js (λ ν₃ δ₃. 
-          move ! (11 ∷ []) $ copied ! u8 (named 0) κ₀ text $ owned ! usize (Is usize) (uint-makes 𝓤 H A W w64) at (vint w64 at ∷ []) (refl, at-fits) $ owned ! u8 (Is u8) (uint-makes 𝓤 H A W w8) note (vint w8 note ∷ []) (refl, note-fits) $ nothing ! $ nothing ! $ move ! (15 ∷ 12 ∷ 9 ∷ 6 ∷ 1 ∷ 4 ∷ 3 ∷ 2 ∷ 13 ∷ 10 ∷ 7 ∷ 0 ∷ []) $ 
+          assigns ! (addr ! (from ! {i = 4} (fld ! refl (hop ! (look-in ! 42 (sub ! 0 refl (whole !))) (stop !))))) (from ! {i = 12} (stop !)) (init ! 26 refl (tt, tt)) $ assigns ! (agg ! (and-then ! (load ! (from ! {i = 12} (stop !)) (look ! 26 refl)) (and-then ! (load ! (from ! {i = 4} (fld ! refl (stop !))) (look-in ! 42 (sub ! 1 refl (whole !)))) (no-more !)))) (from ! {i = 13} (stop !)) (init ! 24 refl (tt, (tt, (record { fits = room₁ .0 }, tt)))) $
+          assigns ! (addr ! (from ! {i = 5} (fld ! refl (hop ! (look-in ! 40 (sub ! 0 refl (whole !))) (stop !))))) (from ! {i = 14} (stop !)) (init ! 22 refl (tt, tt)) $ assigns ! (agg ! (and-then ! (load ! (from ! {i = 14} (stop !)) (look ! 22 refl)) (and-then ! (load ! (from ! {i = 5} (fld ! refl (stop !))) (look-in ! 40 (sub ! 1 refl (whole !)))) (no-more !)))) (from ! {i = 15} (stop !)) (init ! 20 refl (tt, (tt, (record { fits = room₂ .0 }, tt)))) $
+          assigns ! (addr ! (from ! {i = 6} (fld ! refl (hop ! (look-in ! 38 (sub ! 0 refl (whole !))) (stop !))))) (from ! {i = 16} (stop !)) (init ! 18 refl (tt, tt)) $ assigns ! (agg ! (and-then ! (load ! (from ! {i = 16} (stop !)) (look ! 18 refl)) (and-then ! (load ! (from ! {i = 6} (fld ! refl (stop !))) (look-in ! 38 (sub ! 1 refl (whole !)))) (no-more !)))) (from ! {i = 17} (stop !)) (init ! 16 refl (tt, (tt, (record { fits = room₃ .0 }, tt)))) $
+          move ! (1 ∷ 6 ∷ []) $ lent ! tt u16 b₁ o₁ (named 1) (named 1) is (λ ν₁ δ₁. move ! (4 ∷ 8 ∷ []) $ lent ! tt T.the-row b₂ o₂ (named 2) (named 2) ys (λ ν₂ δ₂. move ! (7 ∷ 10 ∷ []) $ lent ! tt u16 b₃ o₃ (named 3) (named 3) js (λ ν₃ δ₃.
+          move ! (11 ∷ []) $ copied ! u8 (named 0) κ₀ text $ owned ! usize (Is usize) (uint-makes 𝓤 H A W w64) at (vint w64 at ∷ []) (refl, at-fits) $ owned ! u8 (Is u8) (uint-makes 𝓤 H A W w8) note (vint w8 note ∷ []) (refl, note-fits) $ nothing ! $ nothing ! $ move ! (15 ∷ 12 ∷ 9 ∷ 6 ∷ 1 ∷ 4 ∷ 3 ∷ 2 ∷ 13 ∷ 10 ∷ 7 ∷ 0 ∷ []) $
           calls-fn W ! called.ended (called.clauses 𝓤 H A mem run) ((κ₀, (ν₁ ∷ [], (ν₂ ∷ [], (ν₃ ∷ [], tt)))), (q₀, (fullShare, (fullShare, (fullShare, tt)))), tt, (text, (at, (note, (at-list b₁ o₁ δ₁ is, (at-list b₂ o₂ δ₂ ys, (at-list b₃ o₃ δ₃ js, tt)))))), (sv₀ ∷ [], (vint w64 at ∷ [], (vint w8 note ∷ [], (sv₁ ∷ [], (sv₂ ∷ [], (sv₃ ∷ [], tt))))))) tt
           (λ r zs. (lookUpValues r ≡ lookUpNumbers ran) × (zs .1 .1 .1 .0 ≡ ran .index) × (zs .1 .1 .1 .1 .0 ≡ ran .records) × (zs .1 .1 .1 .1 .1 .0 ≡ ran .answer .items))
           (‵ (flft κ₀ q₀) ∷ ‵ (flft (ν₁ ∷ []) fullShare) ∷ ‵ (flft (ν₂ ∷ []) fullShare) ∷ ‵ (flft (ν₃ ∷ []) fullShare) ∷ ‵ ftrue ∷ [])
           (‵ (ShrSlice (named 0) κ₀ u8 .own text (sv₀ ∷ [])) ∷ ‵ (usize .own at (vint w64 at ∷ [])) ∷ ‵ (u8 .own note (vint w8 note ∷ [])) ∷ ‵ (MutSlice (named 1) (ν₁ ∷ []) u16 .own (at-list b₁ o₁ δ₁ is) (sv₁ ∷ [])) ∷ ‵ (MutSlice (named 2) (ν₂ ∷ []) T.the-row .own (at-list b₂ o₂ δ₂ ys) (sv₂ ∷ [])) ∷ ‵ (MutSlice (named 3) (ν₃ ∷ []) u16 .own (at-list b₃ o₃ δ₃ js) (sv₃ ∷ [])) ∷ ‵ ftrue ∷ [])
-          (record { tokens = refl; owned = refl; required = id⊢ 𝓤 _; ensured = λ r zs. id⊢ 𝓤 _ }) fm (known .1) (and-then ! (load ! (from ! {i = 1} (stop !)) (look ! 44 refl)) (and-then ! (load ! (from ! {i = 2} (stop !)) (look ! 42 refl)) (and-then ! (load ! (from ! {i = 3} (stop !)) (look ! 40 refl)) (and-then ! (load ! (from ! {i = 13} (stop !)) (look ! 20 refl)) (and-then ! (load ! (from ! {i = 15} (stop !)) (look ! 16 refl)) (and-then ! (load ! (from ! {i = 17} (stop !)) (look ! 12 refl)) (no-more !))))))) (λ u r zs e. move ! (6 ∷ []) $ no-last ! $ no-last ! $ no-last ! $ last-list ! u16 δ₁ (zs .1 .1 .1 .0) (ran .index) (e .1) (λ e₁. last-list ! T.the-row δ₂ (zs .1 .1 .1 .1 .0) (ran .records) (e .2) (λ e₂. last-list ! u16 δ₃ (zs .1 .1 .1 .1 .1 .0) (ran .answer .items) (e .3) (λ e₃. drop ! $ move ! (8 ∷ []) $ drop ! $ 
-          move ! (5 ∷ 2 ∷ 11 ∷ []) $ back ! tt u16 b₁ o₁ (named 1) is (ran .index) room₁ e₁ $ move ! (6 ∷ 3 ∷ 10 ∷ []) $ back ! tt T.the-row b₂ o₂ (named 2) ys (ran .records) room₂ e₂ $ move ! (7 ∷ 4 ∷ 9 ∷ []) $ back ! tt u16 b₃ o₃ (named 3) js (ran .answer .items) room₃ e₃ $ move ! (6 ∷ []) $ 
+          (record { tokens = refl; owned = refl; required = id⊢ 𝓤 _; ensured = λ r zs. id⊢ 𝓤 _ }) fm (known .1) (and-then ! (load ! (from ! {i = 1} (stop !)) (look ! 44 refl)) (and-then ! (load ! (from ! {i = 2} (stop !)) (look ! 42 refl)) (and-then ! (load ! (from ! {i = 3} (stop !)) (look ! 40 refl)) (and-then ! (load ! (from ! {i = 13} (stop !)) (look ! 20 refl)) (and-then ! (load ! (from ! {i = 15} (stop !)) (look ! 16 refl)) (and-then ! (load ! (from ! {i = 17} (stop !)) (look ! 12 refl)) (no-more !))))))) (λ u r zs e. move ! (6 ∷ []) $ no-last ! $ no-last ! $ no-last ! $ last-list ! u16 δ₁ (zs .1 .1 .1 .0) (ran .index) (e .1) (λ e₁. last-list ! T.the-row δ₂ (zs .1 .1 .1 .1 .0) (ran .records) (e .2) (λ e₂. last-list ! u16 δ₃ (zs .1 .1 .1 .1 .1 .0) (ran .answer .items) (e .3) (λ e₃. drop ! $ move ! (8 ∷ []) $ drop ! $
+          move ! (5 ∷ 2 ∷ 11 ∷ []) $ back ! tt u16 b₁ o₁ (named 1) is (ran .index) room₁ e₁ $ move ! (6 ∷ 3 ∷ 10 ∷ []) $ back ! tt T.the-row b₂ o₂ (named 2) ys (ran .records) room₂ e₂ $ move ! (7 ∷ 4 ∷ 9 ∷ []) $ back ! tt u16 b₃ o₃ (named 3) js (ran .answer .items) room₃ e₃ $ move ! (6 ∷ []) $
           peeks ! R.the-row (Is R.the-row) (shows 𝓤 H A R.the-row) r (u ∷ []) (λ r-is. land ! (from ! {i = 8} (stop !)) (init ! 35 refl (EL.lawful R.the-type R′.the-laws 𝓤 H A W tt .typed r _ r-is .0)) $
-          assigns ! (addr ! (from ! {i = 7} (fld ! refl (hop ! (look-in ! 37 (sub ! 0 refl (whole !))) (stop !))))) (from ! {i = 19} (stop !)) (init ! 13 refl (tt, tt)) $ assigns ! (agg ! (and-then ! (load ! (from ! {i = 19} (stop !)) (look ! 13 refl)) (and-then ! (load ! (from ! {i = 7} (fld ! refl (stop !))) (look-in ! 37 (sub ! 1 refl (whole !)))) (no-more !)))) (from ! {i = 20} (stop !)) (init ! 11 refl (tt, (tt, (record { fits = room₄ .0 }, tt)))) $ 
-          move ! (9 ∷ 10 ∷ []) $ lent ! tt u32 b₄ o₄ (named 4) (named 0) xs (λ ν₄ δ₄. nothing ! $ nothing ! $ move ! (2 ∷ 1 ∷ 5 ∷ 3 ∷ 0 ∷ []) $ 
+          assigns ! (addr ! (from ! {i = 7} (fld ! refl (hop ! (look-in ! 37 (sub ! 0 refl (whole !))) (stop !))))) (from ! {i = 19} (stop !)) (init ! 13 refl (tt, tt)) $ assigns ! (agg ! (and-then ! (load ! (from ! {i = 19} (stop !)) (look ! 13 refl)) (and-then ! (load ! (from ! {i = 7} (fld ! refl (stop !))) (look-in ! 37 (sub ! 1 refl (whole !)))) (no-more !)))) (from ! {i = 20} (stop !)) (init ! 11 refl (tt, (tt, (record { fits = room₄ .0 }, tt)))) $
+          move ! (9 ∷ 10 ∷ []) $ lent ! tt u32 b₄ o₄ (named 4) (named 0) xs (λ ν₄ δ₄. nothing ! $ nothing ! $ move ! (2 ∷ 1 ∷ 5 ∷ 3 ∷ 0 ∷ []) $
           calls-row-last W ! writes.ended (writes.clauses 𝓤 H A mem run) ((ν₄ ∷ [], tt), (fullShare, tt), tt, (r, (at-list b₄ o₄ δ₄ xs, tt)), (u ∷ [], (sv₄ ∷ [], tt))) tt
           (λ _ zs. zs .1 .0 ≡ written (lookUpValues r) xs)
           (‵ (flft (ν₄ ∷ []) fullShare) ∷ ‵ ftrue ∷ [])
@@ -201,18 +201,18 @@ module _ {M : Type 1} (𝓤 : URA M) (H : Heap 𝓤) (A : Atoms 𝓤) (W : Given
           (record { tokens = refl; owned = refl; required = factI 𝓤 ((4 ≤ length xs) × Words (lookUpValues r)) (emp 𝓤) (leb-true 4 (length xs) (holds _ yes), look-up-fit ts at note is ys js xs note-fits r (e .0)); ensured = λ r zs. id⊢ 𝓤 _ }) fm (known .2) (and-then ! (load ! (from ! {i = 8} (stop !)) (look ! 33 refl)) (and-then ! (load ! (from ! {i = 20} (stop !)) (look ! 9 refl)) (no-more !)))
           (λ _. vunit) nothing-tells tt (λ r zs e. refl) (λ _ zs′ e′. move ! (2 ∷ []) $ no-last ! $ last-list ! u32 δ₄ (zs′ .1 .0) (written (lookUpValues r) xs) e′ (λ e₄. drop ! $ move ! (2 ∷ []) $ drop ! $ move ! (1 ∷ 0 ∷ 2 ∷ []) $ back ! tt u32 b₄ o₄ (named 4) xs (written (lookUpValues r) xs) room₄ e₄ $
           land-last ! (from ! {i = 18} (stop !)) (init ! 14 refl (tt, tt)) $ exec ! C Λ En code.Mir.t-5 (atRet En Post) $
-          forget ! 10 refl $ forget ! 12 refl $ forget ! 14 refl $ forget ! 16 refl $ forget ! 18 refl $ forget ! 20 refl $ forget ! 22 refl $ forget ! 24 refl $ forget ! 26 refl $ forget ! 34 refl $ 
+          forget ! 10 refl $ forget ! 12 refl $ forget ! 14 refl $ forget ! 16 refl $ forget ! 18 refl $ forget ! 20 refl $ forget ! 22 refl $ forget ! 24 refl $ forget ! 26 refl $ forget ! 34 refl $
           move ! (8 ∷ 6 ∷ 4 ∷ 2 ∷ 0 ∷ 9 ∷ 7 ∷ 5 ∷ 3 ∷ 1 ∷ []) $ leaves (lookUpAreas (ran .index) (ran .records) (ran .answer .items) (written (lookUpValues r) xs)) (look-up-left ts at note is ys js xs (holds _ yes) r (e .0)) (e₁, e₂, e₃, e₄)))))))))))))
           (λ no. skips ! $ exec ! C Λ En code.Mir.t-5 (atRet En Post) $ leaves (lookUpAreas is ys js xs) (look-up-kept ts at note is ys js xs (fails _ no)) (refl, refl, refl, refl))
 
     walk : ent 𝓤 (onEntry 𝓤 H A f.signature (κ₀, (κ₁, (κ₂, (κ₃, (κ₄, tt))))) (q₀, (q₁, (q₂, (q₃, (q₄, tt))))) a vals) (WpFn 𝓤 H C Λ code.function (sv₀ ∷ vint w64 at ∷ vint w8 note ∷ sv₁ ∷ sv₂ ∷ sv₃ ∷ sv₄ ∷ []) Post)
     walk =
         qed W ((‵ (flft κ₀ q₀) ⊛ (‵ (flft κ₁ q₁) ⊛ (‵ (flft κ₂ q₂) ⊛ (‵ (flft κ₃ q₃) ⊛ (‵ (flft κ₄ q₄) ⊛ ‵ ftrue))))) ∷ ‵ (owns (ShrSlice (named 0) κ₀ u8 ∷ usize ∷ u8 ∷ MutSlice (named 1) κ₁ u16 ∷ MutSlice (named 2) κ₂ T.the-row ∷ MutSlice (named 3) κ₃ u16 ∷ MutSlice (named 4) κ₄ u32 ∷ []) a vals) ∷ []) ∵
-        split ! $ move ! (1 ∷ []) $ split ! $ move ! (1 ∷ []) $ split ! $ move ! (1 ∷ []) $ split ! $ move ! (1 ∷ []) $ split ! $ move ! (6 ∷ []) $ fsplit ! $ move ! (1 ∷ []) $ fsplit ! $ drop ! $ fsplit ! $ drop ! $ fsplit ! $ move ! (1 ∷ []) $ fsplit ! $ move ! (1 ∷ []) $ fsplit ! $ move ! (1 ∷ []) $ fsplit ! $ move ! (1 ∷ []) $ drop ! $ move ! (6 ∷ []) $ drop ! $ move ! (9 ∷ 8 ∷ 7 ∷ 6 ∷ 5 ∷ 4 ∷ 3 ∷ 2 ∷ 1 ∷ 0 ∷ []) $ 
+        split ! $ move ! (1 ∷ []) $ split ! $ move ! (1 ∷ []) $ split ! $ move ! (1 ∷ []) $ split ! $ move ! (1 ∷ []) $ split ! $ move ! (6 ∷ []) $ fsplit ! $ move ! (1 ∷ []) $ fsplit ! $ drop ! $ fsplit ! $ drop ! $ fsplit ! $ move ! (1 ∷ []) $ fsplit ! $ move ! (1 ∷ []) $ fsplit ! $ move ! (1 ∷ []) $ fsplit ! $ move ! (1 ∷ []) $ drop ! $ move ! (6 ∷ []) $ drop ! $ move ! (9 ∷ 8 ∷ 7 ∷ 6 ∷ 5 ∷ 4 ∷ 3 ∷ 2 ∷ 1 ∷ 0 ∷ []) $
         enter ! C Λ code.function (sv₀ ∷ vint w64 at ∷ vint w8 note ∷ sv₁ ∷ sv₂ ∷ sv₃ ∷ sv₄ ∷ []) _ $
         alloc1 ! (λ l₀. alloc1 ! (λ l₁. alloc1 ! (λ l₂. alloc1 ! (λ l₃. alloc1 ! (λ l₄. alloc1 ! (λ l₅. alloc1 ! (λ l₆. alloc1 ! (λ l₇. alloc1 ! (λ l₈. alloc1 ! (λ l₉. alloc1 ! (λ l₁₀. alloc1 ! (λ l₁₁. alloc1 ! (λ l₁₂. alloc1 ! (λ l₁₃. alloc1 ! (λ l₁₄. alloc1 ! (λ l₁₅. alloc1 ! (λ l₁₆. alloc1 ! (λ l₁₇. alloc1 ! (λ l₁₈. alloc1 ! (λ l₁₉. alloc1 ! (λ l₂₀. alloc0 ! $ params1 ! $
-        pass1 ! (init ! 38 refl (tt, (tt, (record { fits = room₀ .0 }, tt)))) $ pass1 ! (init ! 36 refl (tt, record { fits = at-fits })) $ pass1 ! (init ! 34 refl (tt, record { fits = note-fits })) $ pass1 ! (init ! 32 refl (tt, (tt, (record { fits = room₁ .0 }, tt)))) $ pass1 ! (init ! 30 refl (tt, (tt, (record { fits = room₂ .0 }, tt)))) $ pass1 ! (init ! 28 refl (tt, (tt, (record { fits = room₃ .0 }, tt)))) $ pass1 ! (init ! 26 refl (tt, (tt, (record { fits = room₄ .0 }, tt)))) $ pass0 ! $ move ! (42 ∷ 43 ∷ 44 ∷ 45 ∷ 46 ∷ 47 ∷ 48 ∷ 49 ∷ 50 ∷ 51 ∷ []) $ 
-        assigns ! (addr ! (from ! {i = 7} (fld ! refl (hop ! (look-in ! 36 (sub ! 0 refl (whole !))) (stop !))))) (from ! {i = 10} (stop !)) (init ! 30 refl (tt, tt)) $ assigns ! (agg ! (and-then ! (load ! (from ! {i = 10} (stop !)) (look ! 30 refl)) (and-then ! (load ! (from ! {i = 7} (fld ! refl (stop !))) (look-in ! 36 (sub ! 1 refl (whole !)))) (no-more !)))) (from ! {i = 11} (stop !)) (init ! 28 refl (tt, (tt, (record { fits = room₄ .0 }, tt)))) $ 
+        pass1 ! (init ! 38 refl (tt, (tt, (record { fits = room₀ .0 }, tt)))) $ pass1 ! (init ! 36 refl (tt, record { fits = at-fits })) $ pass1 ! (init ! 34 refl (tt, record { fits = note-fits })) $ pass1 ! (init ! 32 refl (tt, (tt, (record { fits = room₁ .0 }, tt)))) $ pass1 ! (init ! 30 refl (tt, (tt, (record { fits = room₂ .0 }, tt)))) $ pass1 ! (init ! 28 refl (tt, (tt, (record { fits = room₃ .0 }, tt)))) $ pass1 ! (init ! 26 refl (tt, (tt, (record { fits = room₄ .0 }, tt)))) $ pass0 ! $ move ! (42 ∷ 43 ∷ 44 ∷ 45 ∷ 46 ∷ 47 ∷ 48 ∷ 49 ∷ 50 ∷ 51 ∷ []) $
+        assigns ! (addr ! (from ! {i = 7} (fld ! refl (hop ! (look-in ! 36 (sub ! 0 refl (whole !))) (stop !))))) (from ! {i = 10} (stop !)) (init ! 30 refl (tt, tt)) $ assigns ! (agg ! (and-then ! (load ! (from ! {i = 10} (stop !)) (look ! 30 refl)) (and-then ! (load ! (from ! {i = 7} (fld ! refl (stop !))) (look-in ! 36 (sub ! 1 refl (whole !)))) (no-more !)))) (from ! {i = 11} (stop !)) (init ! 28 refl (tt, (tt, (record { fits = room₄ .0 }, tt)))) $
         move ! (4 ∷ 9 ∷ []) $ asks ! mem run fm (known .0) (named 4) b₄ o₄ xs 4 (lit< tt) room₄ (and-then ! (load ! (from ! {i = 11} (stop !)) (look ! 26 refl)) (and-then ! (lit ! tt) (no-more !))) (
         land ! (from ! {i = 9} (stop !)) (init ! 32 refl (tt, tt)) $ forget ! 30 refl $ forget ! 28 refl $
         move ! (2 ∷ 3 ∷ 4 ∷ 5 ∷ 0 ∷ 6 ∷ 7 ∷ 8 ∷ 9 ∷ 1 ∷ []) $ keep ! (0 ∷ 1 ∷ 2 ∷ 3 ∷ 4 ∷ 5 ∷ 6 ∷ 7 ∷ 8 ∷ 9 ∷ 10 ∷ 11 ∷ 12 ∷ 13 ∷ 14 ∷ 15 ∷ 16 ∷ 17 ∷ 18 ∷ 19 ∷ 20 ∷ 21 ∷ 22 ∷ 23 ∷ 24 ∷ 25 ∷ 26 ∷ 27 ∷ 28 ∷ 29 ∷ 30 ∷ 31 ∷ 32 ∷ 33 ∷ 34 ∷ 35 ∷ 36 ∷ 37 ∷ 38 ∷ 39 ∷ 40 ∷ 41 ∷ 42 ∷ 43 ∷ 44 ∷ 45 ∷ 46 ∷ 47 ∷ 48 ∷ 49 ∷ 50 ∷ 51 ∷ []) $ body l₀ l₁ l₂ l₃ l₄ l₅ l₆ l₇ l₈ l₉ l₁₀ l₁₁ l₁₂ l₁₃ l₁₄ l₁₅ l₁₆ l₁₇ l₁₈ l₁₉ l₂₀))))))))))))))))))))))

@@ -1,0 +1,81 @@
+-- The areas that an exported call is lent, after it. `answer` gets "its number" (0 accepted) and then the values, in the order that the
+-- paper gives them: "A refusal returns its number, the note as it was given (where the call has one) and zeros". The rest of it stays as it
+-- was, and a call with an `answer` too short for its numbers does nothing.
+use Prim.Native.Nat.{ℕ}
+use mathlib.Core.List.{List}
+use mathlib.Core.Bool.{Bool}
+use lib.ListN.{length}
+use lib.Dec.{leb}
+use Rattle.base.specs.Pick.{pick}
+use Rattle.base.specs.Lists.{written}
+use Rattle.index.specs.declared.Bracket.{Bracket}
+use Rattle.lookup.specs.LookUps.{LookUpRan, lookUpRun}
+use Rattle.lookup.specs.Others.{locatorCall, sizeCall}
+use Rattle.lookup.specs.Values.{lookUpNumbers, locatorNumbers, sizeNumbers}
+use Rattle.source.specs.Call.{SourceAnswer, sourceTextCall}
+use Rattle.source.specs.Values.{sourceTextNumbers}
+use Rattle.annotation.specs.Content.{Areas}
+use Rattle.annotation.specs.Call.{AnnotateRan, annotateRun}
+use Rattle.annotation.specs.Values.{annotationNumbers}
+
+-- `answer` has room for `n` numbers
+abbrev pub roomFor : ℕ → List ℕ → Bool
+roomFor n answer = leb n (length answer)
+
+-- a look-up: number, "the place of the close, the item count and the note"
+pub record LookUpAreas : Type 0 where
+  pub index : List ℕ
+  pub records : List Bracket
+  pub items : List ℕ
+  pub answer : List ℕ
+
+abbrev pub lookUpAreas : List ℕ → List Bracket → List ℕ → List ℕ → LookUpAreas
+lookUpAreas index records items answer = record { index = index; records = records; items = items; answer = answer }
+
+unfoldable pub lookUpDone : LookUpRan → List ℕ → LookUpAreas
+lookUpDone ran answer = lookUpAreas (ran .index) (ran .records) (ran .answer .items) (written (lookUpNumbers ran) answer)
+
+unfoldable pub afterLookUp : List ℕ → ℕ → ℕ → LookUpAreas → LookUpAreas
+afterLookUp text at note lent =
+    pick (roomFor 4 (lent .answer)) (lookUpDone (lookUpRun text at note (lent .index) (lent .records) (lent .items)) (lent .answer)) lent
+
+-- an annotation: number, "the counts of groups, items, sources and label bytes, and the note"
+pub record AnnotateAreas : Type 0 where
+  pub index : List ℕ
+  pub records : List Bracket
+  pub areas : Areas
+  pub answer : List ℕ
+
+abbrev pub annotateAreas : List ℕ → List Bracket → Areas → List ℕ → AnnotateAreas
+annotateAreas index records areas answer = record { index = index; records = records; areas = areas; answer = answer }
+
+unfoldable pub annotateDone : AnnotateRan → List ℕ → AnnotateAreas
+annotateDone ran answer = annotateAreas (ran .index) (ran .records) (ran .answer .areas) (written (annotationNumbers ran) answer)
+
+unfoldable pub afterAnnotate : List ℕ → ℕ → List ℕ → ℕ → AnnotateAreas → AnnotateAreas
+afterAnnotate text mode pool note lent =
+    pick (roomFor 6 (lent .answer))
+    (annotateDone (annotateRun text mode pool note (lent .index) (lent .records) (lent .areas)) (lent .answer))
+    lent
+
+-- the size call: number and records
+unfoldable pub afterSize : List ℕ → List ℕ → List ℕ
+afterSize text answer = pick (roomFor 2 answer) (written (sizeNumbers (sizeCall text)) answer) answer
+
+-- the locator call: number, "label code, value pair and suffix pair"
+unfoldable pub afterLocator : List ℕ → List ℕ → List ℕ
+afterLocator text answer = pick (roomFor 6 answer) (written (locatorNumbers (locatorCall text)) answer) answer
+
+-- a source text call: number and "the bytes written"
+pub record SourceAreas : Type 0 where
+  pub area : List ℕ
+  pub answer : List ℕ
+
+abbrev pub sourceAreas : List ℕ → List ℕ → SourceAreas
+sourceAreas area answer = record { area = area; answer = answer }
+
+unfoldable pub sourceDone : SourceAnswer → List ℕ → SourceAreas
+sourceDone ran answer = sourceAreas (ran .area) (written (sourceTextNumbers ran) answer)
+
+unfoldable pub afterSourceText : List ℕ → ℕ → SourceAreas → SourceAreas
+afterSourceText pool entry lent = pick (roomFor 2 (lent .answer)) (sourceDone (sourceTextCall pool entry (lent .area)) (lent .answer)) lent
