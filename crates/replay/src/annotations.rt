@@ -9,7 +9,6 @@ use crate::body::after;
 use crate::body::before;
 use crate::body::byte;
 use crate::body::number;
-use crate::lent;
 use crate::look_ups::first_note;
 use crate::look_ups::is_index;
 use crate::look_ups::set_index;
@@ -211,7 +210,7 @@ fn annotate(
     let part = after(body, at);
     let text = text_of(body);
     let pool = pool_of(part);
-    let t = told(lent::annotate(
+    let t = told(local_records::annotate(
         text,
         byte(part, 0),
         pool,

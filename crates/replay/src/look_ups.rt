@@ -6,7 +6,6 @@ use crate::body::after;
 use crate::body::byte;
 use crate::body::length;
 use crate::body::number;
-use crate::lent;
 use lookup::LookUp;
 ghost use Prim.Native.Nat.{_≤_};
 
@@ -186,7 +185,7 @@ fn look_up(body: &[u8], s: Session, index: &mut [u16], items: &mut [u16]) -> Ses
     let at = s.at;
     let part = after(body, at);
     let count = number(part, 6);
-    let t = told(lent::look_up(text_of(body), number(part, 0), s.note, index, items));
+    let t = told(local_records::look_up(text_of(body), number(part, 0), s.note, index, items));
     let same = is_told(t, part) & has_rows(after(part, 10), count, items);
     fill(items, 16 * count, UNUSED);
     Session {

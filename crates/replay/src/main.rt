@@ -4,7 +4,6 @@ mod annotations;
 mod areas;
 mod body;
 mod leaves;
-mod lent;
 mod look_ups;
 mod parts;
 mod pools;

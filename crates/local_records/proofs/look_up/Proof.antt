@@ -1,4 +1,4 @@
--- `replay::lent::look_up` meets its contract: a walk of its MIR, by hand. The records stand in a local array, which is lent to `calls::look_up` for a lifetime of the call, and is room again after it; index and items are passed on for good.
+-- `local_records::look_up` meets its contract: a walk of its MIR, by hand. The records stand in a local array, which is lent to `calls::look_up` for a lifetime of the call, and is room again after it; index and items are passed on for good.
 -- Assumes nothing.
 use mathlib.Core.Path.{_≡_, refl}
 use Prim.Native.Nat.{ℕ, _<_, _^_}
@@ -53,12 +53,12 @@ use Rattle.calls.proofs.look_up as called
 use Rattle.calls.proofs.look_up.Symbol as called-def
 use Rattle.calls.proofs.look_up.Symbol.{name as #calls·look-up}
 use Rattle.calls.proofs.look_up.Met as called-thm
-use Rattle.replay.proofs.LongLocal.{lends-long, big-lit}
-use Rattle.replay.proofs.Records.{rows, bracket, is-blank}
-use Rattle.replay.proofs.lent.look_up.Key.{name as #lent·look-up}
-use Rattle.replay.proofs.lent.look_up as f
-use Rattle.replay.proofs.lent.look_up.Statement as stated
-use Rattle.replay.proofs.lent.look_up.Code as code
+use Rattle.local_records.proofs.LongLocal.{lends-long, big-lit}
+use Rattle.local_records.proofs.Records.{rows, bracket, is-blank}
+use Rattle.local_records.proofs.look_up.Key.{name as #look-up}
+use Rattle.local_records.proofs.look_up as f
+use Rattle.local_records.proofs.look_up.Statement as stated
+use Rattle.local_records.proofs.look_up.Code as code
 
 abbrev stayed : Stays (f.ended .signature .params) (f.ended .kept)
 stayed = (stay-none-slice (0 ∷ []) tt (plain (λ _. u8)) yes, (stay-none (λ _. usize) yes, (stay-none (λ _. u8) yes, (gave-slice (1 ∷ []) tt (plain (λ _. u16)), (gave-slice (2 ∷ []) tt (plain (λ _. u16)), tt)))))
@@ -92,7 +92,7 @@ module _ {M : Type 1} (𝓤 : URA M) (H : Heap 𝓤) (A : Atoms 𝓤) (W : Given
   abbrev Post : Val → SProp 𝓤
   Post = walkOf 𝓤 H A f.ended stayed (f.clauses 𝓤 H A mem run) .post (((κ₀, (κ₁, (κ₂, tt))), (q₀, (q₁, (q₂, tt))), tt, a, vals), tt)
 
-  exits : (v : Val) (r : LookUp) (is′ js′ : List ℕ) → at < 2 ^ 64 → note < 2 ^ 8 → lookUpValues r ≡ lookUpNumbers ran → length is′ ≡ length is → length js′ ≡ length js
+  exits : (v : Val) (r : LookUp) (is′ js′ : List ℕ) → at < 2 ^ 64 → note < 2 ^ 8 → (lookUpValues r ≡ lookUpNumbers ran) × (is′ ≡ ran .index) × (js′ ≡ ran .answer .items) → length is′ ≡ length is → length js′ ≡ length js
       → ent 𝓤 (⋆ 𝓤 H A (‵ (R.the-row .own r (v ∷ [])) ∷ ‵ (flft κ₀ q₀) ∷ ‵ (ShrSlice (named 0) κ₀ u8 .own text (sv₀ ∷ [])) ∷ ‵ (flft κ₁ q₁) ∷ ‵ (finally u16 γ₁ is′) ∷ ‵ (flft κ₂ q₂) ∷ ‵ (finally u16 γ₂ js′) ∷ [])) (Post v)
   exits v r is′ js′ at-fits note-fits told e₁ e₂ =
       qed W (‵ (R.the-row .own r (v ∷ [])) ∷ ‵ (flft κ₀ q₀) ∷ ‵ (ShrSlice (named 0) κ₀ u8 .own text (sv₀ ∷ [])) ∷ ‵ (flft κ₁ q₁) ∷ ‵ (finally u16 γ₁ is′) ∷ ‵ (flft κ₂ q₂) ∷ ‵ (finally u16 γ₂ js′) ∷ []) ∵
@@ -146,7 +146,7 @@ module _ {M : Type 1} (𝓤 : URA M) (H : Heap 𝓤) (A : Atoms 𝓤) (W : Given
         move ! (33 ∷ 34 ∷ []) $ free1 ! $ move ! (31 ∷ 32 ∷ []) $ free1 ! $ move ! (29 ∷ 30 ∷ []) $ free1 ! $ move ! (27 ∷ 28 ∷ []) $ free1 ! $ move ! (25 ∷ 26 ∷ []) $ free1 ! $ move ! (23 ∷ 24 ∷ []) $ free1 ! $ move ! (21 ∷ 22 ∷ []) $ free1 ! $ move ! (0 ∷ 20 ∷ []) $ free1 ! $
         move ! (17 ∷ 18 ∷ []) $ free1 ! $ move ! (15 ∷ 16 ∷ []) $ free1 ! $ move ! (13 ∷ 14 ∷ []) $ free1 ! $ move ! (11 ∷ 12 ∷ []) $ free1 ! $ move ! (9 ∷ 10 ∷ []) $ free1 ! $ move ! (7 ∷ 8 ∷ []) $ free1 ! $ free0 ! $
         -- [answer; items last; index last; κ₀; κ₁; κ₂; text]
-        move ! (0 ∷ 3 ∷ 6 ∷ 4 ∷ 2 ∷ 5 ∷ 1 ∷ []) $ keep ! (0 ∷ 1 ∷ 2 ∷ 3 ∷ 4 ∷ 5 ∷ 6 ∷ []) $ by ! (exits u r (zs .1 .1 .1 .0) (zs .1 .1 .1 .1 .1 .0) at-fits note-fits (e .0) e₁ e₂))))))))))))))))))))))
+        move ! (0 ∷ 3 ∷ 6 ∷ 4 ∷ 2 ∷ 5 ∷ 1 ∷ []) $ keep ! (0 ∷ 1 ∷ 2 ∷ 3 ∷ 4 ∷ 5 ∷ 6 ∷ []) $ by ! (exits u r (zs .1 .1 .1 .0) (zs .1 .1 .1 .1 .1 .0) at-fits note-fits (e .0, e .1, e .3) e₁ e₂))))))))))))))))))))))
 
 module _ {M : Type 1} (𝓤 : URA M) (H : Heap 𝓤) (A : Atoms 𝓤) (W : Given 𝓤 H A) (mem : Memory → SProp 𝓤) (run : Routine → Fun 𝓤) where
   look-up-walks : (C : Calls 𝓤 H) (Λ : Loops 𝓤 H) → FmC 𝓤 H (W .laws) C → Triple 𝓤 (C #calls·look-up) (tripleOf 𝓤 H A called.signature (called.spec 𝓤 H A mem run)) → Walks 𝓤 H A f.ended stayed (WpFn 𝓤 H C Λ code.function) (f.clauses 𝓤 H A mem run)
@@ -170,6 +170,6 @@ pub look-up-spec : {M : Type 1} → stated.statement M
 unfolding code.routine tablesOf
 look-up-spec 𝓤 H 𝓜 𝓖 𝓡 =
     entered 𝓤 H (tripleOf 𝓤 H (𝓖 .A) f.signature (f.spec 𝓤 H (𝓖 .A) (𝓜 .mem) (𝓡 .run)))
-    (tables 𝓤 H 𝓜 𝓡 code.env .C) (tables 𝓤 H 𝓜 𝓡 code.env .Λ) #lent·look-up code.function (code.unfolded 𝓤 H 𝓜 𝓡)
+    (tables 𝓤 H 𝓜 𝓡 code.env .C) (tables 𝓤 H 𝓜 𝓡 code.env .Λ) #look-up code.function (code.unfolded 𝓤 H 𝓜 𝓡)
     (look-up-meets 𝓤 H (𝓖 .A) (givenOf 𝓤 H 𝓜 𝓖) (𝓜 .mem) (𝓡 .run) (tablesOf 𝓤 H 𝓜 (tables 𝓤 H 𝓜 𝓡 code.env))
     (cited 𝓤 H (tripleOf 𝓤 H (𝓖 .A) called.signature (called.spec 𝓤 H (𝓖 .A) (𝓜 .mem) (𝓡 .run))) 𝓜 𝓡 code.env #calls·look-up called-def.routine code.calls-calls·look-up (called-thm.met 𝓤 H 𝓜 𝓖 𝓡)))

@@ -1,4 +1,4 @@
--- `replay::lent::annotate` meets its contract: a walk of its MIR, by hand, as `look_up`'s. The records stand in a local array, which is lent to `calls::annotate` for a lifetime of the call; the other areas are passed on for good.
+-- `local_records::annotate` meets its contract: a walk of its MIR, by hand, as `look_up`'s. The records stand in a local array, which is lent to `calls::annotate` for a lifetime of the call; the other areas are passed on for good.
 -- Assumes nothing.
 use mathlib.Core.Path.{_≡_, refl}
 use Prim.Native.Nat.{ℕ, _<_, _^_}
@@ -54,12 +54,12 @@ use Rattle.calls.proofs.annotate as called
 use Rattle.calls.proofs.annotate.Symbol as called-def
 use Rattle.calls.proofs.annotate.Symbol.{name as #calls·annotate}
 use Rattle.calls.proofs.annotate.Met as called-thm
-use Rattle.replay.proofs.LongLocal.{lends-long, big-lit}
-use Rattle.replay.proofs.Records.{rows, bracket, is-blank}
-use Rattle.replay.proofs.lent.annotate.Key.{name as #lent·annotate}
-use Rattle.replay.proofs.lent.annotate as f
-use Rattle.replay.proofs.lent.annotate.Statement as stated
-use Rattle.replay.proofs.lent.annotate.Code as code
+use Rattle.local_records.proofs.LongLocal.{lends-long, big-lit}
+use Rattle.local_records.proofs.Records.{rows, bracket, is-blank}
+use Rattle.local_records.proofs.annotate.Key.{name as #annotate}
+use Rattle.local_records.proofs.annotate as f
+use Rattle.local_records.proofs.annotate.Statement as stated
+use Rattle.local_records.proofs.annotate.Code as code
 
 abbrev stayed : Stays (f.ended .signature .params) (f.ended .kept)
 stayed = (stay-none-slice (0 ∷ []) tt (plain (λ _. u8)) yes, (stay-none (λ _. u8) yes, (stay-none-slice (0 ∷ []) tt (plain (λ _. u8)) yes, (stay-none (λ _. u8) yes, (gave-slice (1 ∷ []) tt (plain (λ _. u16)), (gave-slice (2 ∷ []) tt (plain (λ _. u16)), (gave-slice (3 ∷ []) tt (plain (λ _. u16)), (gave-slice (4 ∷ []) tt (plain (λ _. u16)), (gave-slice (5 ∷ []) tt (plain (λ _. u8)), tt)))))))))
@@ -108,7 +108,7 @@ module _ {M : Type 1} (𝓤 : URA M) (H : Heap 𝓤) (A : Atoms 𝓤) (W : Given
   abbrev Post : Val → SProp 𝓤
   Post = walkOf 𝓤 H A f.ended stayed (f.clauses 𝓤 H A mem run) .post (((κ₀, (κ₁, (κ₂, (κ₃, (κ₄, (κ₅, tt)))))), (q₀, (q₁, (q₂, (q₃, (q₄, (q₅, tt)))))), tt, a, vals), tt)
 
-  exits : (v : Val) (r : Annotation) (is′ js′ gs′ rs′ ls′ : List ℕ) → mode < 2 ^ 8 → note < 2 ^ 8 → annotationValues r ≡ annotationNumbers ran → length is′ ≡ length is → length js′ ≡ length js → length gs′ ≡ length gs → length rs′ ≡ length rs → length ls′ ≡ length ls
+  exits : (v : Val) (r : Annotation) (is′ js′ gs′ rs′ ls′ : List ℕ) → mode < 2 ^ 8 → note < 2 ^ 8 → (annotationValues r ≡ annotationNumbers ran) × (is′ ≡ ran .index) × (js′ ≡ ran .answer .areas .items) × (gs′ ≡ ran .answer .areas .groups) × (rs′ ≡ ran .answer .areas .references) × (ls′ ≡ ran .answer .areas .labels) → length is′ ≡ length is → length js′ ≡ length js → length gs′ ≡ length gs → length rs′ ≡ length rs → length ls′ ≡ length ls
       → ent 𝓤 (⋆ 𝓤 H A (‵ (R.the-row .own r (v ∷ [])) ∷ ‵ (flft κ₀ q₀) ∷ ‵ (ShrSlice (named 0) κ₀ u8 .own text (sv₀ ∷ [])) ∷ ‵ (ShrSlice (named 0) κ₀ u8 .own pool (sv₁ ∷ [])) ∷ ‵ (flft κ₁ q₁) ∷ ‵ (finally u16 γ₂ is′) ∷ ‵ (flft κ₂ q₂) ∷ ‵ (finally u16 γ₃ js′) ∷ ‵ (flft κ₃ q₃) ∷ ‵ (finally u16 γ₄ gs′) ∷ ‵ (flft κ₄ q₄) ∷ ‵ (finally u16 γ₅ rs′) ∷ ‵ (flft κ₅ q₅) ∷ ‵ (finally u8 γ₆ ls′) ∷ [])) (Post v)
   exits v r is′ js′ gs′ rs′ ls′ mode-fits note-fits told e₁ e₂ e₃ e₄ e₅ =
       qed W (‵ (R.the-row .own r (v ∷ [])) ∷ ‵ (flft κ₀ q₀) ∷ ‵ (ShrSlice (named 0) κ₀ u8 .own text (sv₀ ∷ [])) ∷ ‵ (ShrSlice (named 0) κ₀ u8 .own pool (sv₁ ∷ [])) ∷ ‵ (flft κ₁ q₁) ∷ ‵ (finally u16 γ₂ is′) ∷ ‵ (flft κ₂ q₂) ∷ ‵ (finally u16 γ₃ js′) ∷ ‵ (flft κ₃ q₃) ∷ ‵ (finally u16 γ₄ gs′) ∷ ‵ (flft κ₄ q₄) ∷ ‵ (finally u16 γ₅ rs′) ∷ ‵ (flft κ₅ q₅) ∷ ‵ (finally u8 γ₆ ls′) ∷ []) ∵
@@ -164,7 +164,7 @@ module _ {M : Type 1} (𝓤 : URA M) (H : Heap 𝓤) (A : Atoms 𝓤) (W : Given
         returns ! (look ! 60 refl) $
         forget ! 15 refl $ forget ! 17 refl $ forget ! 19 refl $ forget ! 21 refl $ forget ! 23 refl $ forget ! 25 refl $ forget ! 27 refl $ forget ! 29 refl $ forget ! 31 refl $ forget ! 33 refl $ forget ! 35 refl $ forget ! 37 refl $ forget ! 40 refl $ forget ! 42 refl $ forget ! 44 refl $ forget ! 46 refl $ forget ! 48 refl $ forget ! 50 refl $ forget ! 52 refl $ forget ! 54 refl $ forget ! 56 refl $ forget ! 58 refl $ forget ! 60 refl $
         move ! (60 ∷ 61 ∷ []) $ free1 ! $ move ! (58 ∷ 59 ∷ []) $ free1 ! $ move ! (56 ∷ 57 ∷ []) $ free1 ! $ move ! (54 ∷ 55 ∷ []) $ free1 ! $ move ! (52 ∷ 53 ∷ []) $ free1 ! $ move ! (50 ∷ 51 ∷ []) $ free1 ! $ move ! (48 ∷ 49 ∷ []) $ free1 ! $ move ! (46 ∷ 47 ∷ []) $ free1 ! $ move ! (44 ∷ 45 ∷ []) $ free1 ! $ move ! (42 ∷ 43 ∷ []) $ free1 ! $ move ! (40 ∷ 41 ∷ []) $ free1 ! $ move ! (0 ∷ 39 ∷ []) $ free1 ! $ move ! (36 ∷ 37 ∷ []) $ free1 ! $ move ! (34 ∷ 35 ∷ []) $ free1 ! $ move ! (32 ∷ 33 ∷ []) $ free1 ! $ move ! (30 ∷ 31 ∷ []) $ free1 ! $ move ! (28 ∷ 29 ∷ []) $ free1 ! $ move ! (26 ∷ 27 ∷ []) $ free1 ! $ move ! (24 ∷ 25 ∷ []) $ free1 ! $ move ! (22 ∷ 23 ∷ []) $ free1 ! $ move ! (20 ∷ 21 ∷ []) $ free1 ! $ move ! (18 ∷ 19 ∷ []) $ free1 ! $ move ! (16 ∷ 17 ∷ []) $ free1 ! $ move ! (14 ∷ 15 ∷ []) $ free1 ! $ free0 ! $
-        move ! (0 ∷ 6 ∷ 13 ∷ 12 ∷ 7 ∷ 5 ∷ 8 ∷ 4 ∷ 9 ∷ 3 ∷ 10 ∷ 2 ∷ 11 ∷ 1 ∷ []) $ keep ! (0 ∷ 1 ∷ 2 ∷ 3 ∷ 4 ∷ 5 ∷ 6 ∷ 7 ∷ 8 ∷ 9 ∷ 10 ∷ 11 ∷ 12 ∷ 13 ∷ []) $ by ! (exits u r (zs .1 .1 .1 .1 .0) (zs .1 .1 .1 .1 .1 .1 .0) (zs .1 .1 .1 .1 .1 .1 .1 .0) (zs .1 .1 .1 .1 .1 .1 .1 .1 .0) (zs .1 .1 .1 .1 .1 .1 .1 .1 .1 .0) mode-fits note-fits (e .0) e₁ e₂ e₃ e₄ e₅)))))))))))))))))))))))))))))))))))
+        move ! (0 ∷ 6 ∷ 13 ∷ 12 ∷ 7 ∷ 5 ∷ 8 ∷ 4 ∷ 9 ∷ 3 ∷ 10 ∷ 2 ∷ 11 ∷ 1 ∷ []) $ keep ! (0 ∷ 1 ∷ 2 ∷ 3 ∷ 4 ∷ 5 ∷ 6 ∷ 7 ∷ 8 ∷ 9 ∷ 10 ∷ 11 ∷ 12 ∷ 13 ∷ []) $ by ! (exits u r (zs .1 .1 .1 .1 .0) (zs .1 .1 .1 .1 .1 .1 .0) (zs .1 .1 .1 .1 .1 .1 .1 .0) (zs .1 .1 .1 .1 .1 .1 .1 .1 .0) (zs .1 .1 .1 .1 .1 .1 .1 .1 .1 .0) mode-fits note-fits (e .0, e .1, e .3, e .4, e .5, e .6) e₁ e₂ e₃ e₄ e₅)))))))))))))))))))))))))))))))))))
 
 module _ {M : Type 1} (𝓤 : URA M) (H : Heap 𝓤) (A : Atoms 𝓤) (W : Given 𝓤 H A) (mem : Memory → SProp 𝓤) (run : Routine → Fun 𝓤) where
   annotate-walks : (C : Calls 𝓤 H) (Λ : Loops 𝓤 H) → FmC 𝓤 H (W .laws) C → Triple 𝓤 (C #calls·annotate) (tripleOf 𝓤 H A called.signature (called.spec 𝓤 H A mem run)) → Walks 𝓤 H A f.ended stayed (WpFn 𝓤 H C Λ code.function) (f.clauses 𝓤 H A mem run)
@@ -189,6 +189,6 @@ pub annotate-spec : {M : Type 1} → stated.statement M
 unfolding code.routine tablesOf
 annotate-spec 𝓤 H 𝓜 𝓖 𝓡 =
     entered 𝓤 H (tripleOf 𝓤 H (𝓖 .A) f.signature (f.spec 𝓤 H (𝓖 .A) (𝓜 .mem) (𝓡 .run)))
-    (tables 𝓤 H 𝓜 𝓡 code.env .C) (tables 𝓤 H 𝓜 𝓡 code.env .Λ) #lent·annotate code.function (code.unfolded 𝓤 H 𝓜 𝓡)
+    (tables 𝓤 H 𝓜 𝓡 code.env .C) (tables 𝓤 H 𝓜 𝓡 code.env .Λ) #annotate code.function (code.unfolded 𝓤 H 𝓜 𝓡)
     (annotate-meets 𝓤 H (𝓖 .A) (givenOf 𝓤 H 𝓜 𝓖) (𝓜 .mem) (𝓡 .run) (tablesOf 𝓤 H 𝓜 (tables 𝓤 H 𝓜 𝓡 code.env))
     (cited 𝓤 H (tripleOf 𝓤 H (𝓖 .A) called.signature (called.spec 𝓤 H (𝓖 .A) (𝓜 .mem) (𝓡 .run))) 𝓜 𝓡 code.env #calls·annotate called-def.routine code.calls-calls·annotate (called-thm.met 𝓤 H 𝓜 𝓖 𝓡)))

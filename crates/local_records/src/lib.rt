@@ -1,4 +1,5 @@
-// The calls that are lent bracket records, with the records in a local array: whoever calls these needs no walk of its MIR.
+// The two public calls that are lent bracket records, with the records in a local array, as many as any text needs: whoever calls these needs
+// no walk of its MIR. What they promise is what `calls` promises, but for the records, which nobody sees again.
 use annotation::Annotation;
 use index::Bracket;
 use lookup::LookUp;
@@ -11,9 +12,12 @@ ghost use Rattle.index.specs.Built.{blank};
 ghost use Rattle.lookup.specs.LookUps.{lookUpRun};
 ghost use Rattle.lookup.specs.Values.{lookUpValues, lookUpNumbers};
 
-// The look-up call with as many bracket records as any text needs.
+// `calls::look_up`.
 pub fn look_up(text: &[u8], at: usize, note: u8, index: &mut [u16], items: &mut [u16]) -> LookUp
-    ensures { λ r. ⌜ lookUpValues r ≡ lookUpNumbers (lookUpRun (now (text .entry)) at note (now (index .entry)) (replicate 65535 blank) (now (items .entry))) ⌝ }
+    ensures { λ r. let ran = lookUpRun (now (text .entry)) at note (now (index .entry)) (replicate 65535 blank) (now (items .entry)) in
+        ⌜ (lookUpValues r ≡ lookUpNumbers ran)
+        × (now (index .exit) ≡ ran .index)
+        × (now (items .exit) ≡ ran .answer .items) ⌝ }
 {
     let b = Bracket {
         place: 0,
@@ -25,7 +29,7 @@ pub fn look_up(text: &[u8], at: usize, note: u8, index: &mut [u16], items: &mut 
     calls::look_up(text, at, note, index, &mut records, items)
 }
 
-// The annotation call with as many bracket records as any text needs.
+// `calls::annotate`.
 pub fn annotate<'a>(
     text: &'a [u8],
     mode: u8,
@@ -38,7 +42,13 @@ pub fn annotate<'a>(
     labels: &mut [u8],
 ) -> Annotation
     ensures { λ r. let given = areas (now (items .entry)) (now (groups .entry)) (now (references .entry)) (now (labels .entry)) in
-        ⌜ annotationValues r ≡ annotationNumbers (annotateRun (now (text .entry)) mode (now (pool .entry)) note (now (index .entry)) (replicate 65535 blank) given) ⌝ }
+        let annotated = annotateRun (now (text .entry)) mode (now (pool .entry)) note (now (index .entry)) (replicate 65535 blank) given in
+        ⌜ (annotationValues r ≡ annotationNumbers annotated)
+        × (now (index .exit) ≡ annotated .index)
+        × (now (items .exit) ≡ annotated .answer .areas .items)
+        × (now (groups .exit) ≡ annotated .answer .areas .groups)
+        × (now (references .exit) ≡ annotated .answer .areas .references)
+        × (now (labels .exit) ≡ annotated .answer .areas .labels) ⌝ }
 {
     let b = Bracket {
         place: 0,

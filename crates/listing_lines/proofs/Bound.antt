@@ -1,0 +1,242 @@
+-- No listing is longer than 150,000 bytes. A line has five numbers of 20 digits at most, six bytes between and after them, and a key; there are
+-- at most a third as many lines as the text has bytes, and all keys together are no longer than the text.
+use Prim.Native.Nat.{ℕ, zero, suc, _+_, _-_, _*_, _≤_, _<_, min}
+use native.Mathlib.Omega.{arith}
+use mathlib.Core.Path.{_≡_, refl, sym, _∙_, ap, subst}
+use mathlib.Core.List.{List, [], _∷_, _++_, append-assoc}
+use mathlib.Core.Bool.{Bool, true, false, _&&_}
+use lib.ListN.{length, getD, take, drop, replicate, length-append, length-take}
+use lib.Dec.{eqb, leb, ltb}
+use lib.Seq.{getD-drop, drop-drop}
+use borrow.Author.Tests.{ltb-false}
+use Rattle.base.specs.Pick.{pick}
+use Rattle.base.specs.Lists.{part, written}
+use Rattle.base.specs.Ascii.{ascii}
+use Rattle.item.specs.declared.Item.{Item}
+use Rattle.lookup.specs.Groups.{Group}
+use Rattle.lookup.specs.Rows.{recordOf, rowOf, rowsIn, rowsOf, rowsLength}
+use Rattle.lookup.proofs.RowLaws.{row-length, rows-length}
+use Rattle.definition.specs.Lines.{inLine, groupEnd}
+use Rattle.source.specs.Decimal.{decimal}
+use Rattle.decimal.proofs.Laws.{decimal-short}
+use Rattle.sweep.specs.Sweep.{lentOf, sweepOf, sweepRun}
+use Rattle.sweep.specs.Rows.{Placed, groupRow, groupRows, itemCount, itemRows}
+use Rattle.sweep.proofs.Sweeps.{sweep-same}
+use Rattle.numbering.specs.Records.{itemField}
+use Rattle.numbering.proofs.Fields.{item-field, SameItems}
+use Rattle.annotation.specs.Content.{Areas, placedFrom, placedOf, tallyOf, contentOf}
+use Rattle.annotation.specs.Call.{Annotated, annotateRefused, annotateRefusal, roomFor, filled, zeroFilled, annotateGives, answerOf, annotatePlain}
+use Rattle.annotation.specs.Steps.{Fits}
+use Rattle.annotation.proofs.Found.{swept-fits}
+use Rattle.annotation.proofs.Passes.{tally-agrees}
+use Rattle.listing_lines.specs.Listing.{itemLine, itemLines, groupLines, countLine, refusedLine, listed, listingAreas, listingAnswer, listingOf}
+use Rattle.listing_lines.proofs.Answers.{placed-length}
+use Rattle.listing_lines.proofs.KeyBytes.{keysIn, keysOf, sweep-keys-by}
+
+-- lines ------------------------------------------------------------------------------------------------------------------------------
+
+part-short : (s : List ℕ) (a n : ℕ) → length (part s a (a + n)) ≤ n
+unfolding part
+part-short s a n = go (leb a (a + n) && leb (a + n) (length s))
+  where
+    go : (t : Bool) → length (pick t (take (a + n - a) (drop a s)) []) ≤ n
+    go true = rw length-take (omega arith)
+    go false = omega arith
+
+line-short : (text group item : List ℕ) → length (itemLine text group item) ≤ 106 + getD item 3 0
+unfolding itemLine ascii
+line-short text group item =
+    let p = part-short text (getD item 2 0) (getD item 3 0) in
+    let a = decimal-short (getD group 0 0) in
+    let b = decimal-short (getD group 1 0) in
+    let c = decimal-short (getD group 4 0) in
+    let d = decimal-short (getD item 10 0) in
+    let e = decimal-short (getD item 12 0) in
+    simp length-append (omega arith)
+
+-- the lengths of the keys of the `k` item records from record `n` on
+unfoldable keySum : List ℕ → ℕ → ℕ → ℕ
+keySum items n zero = 0
+keySum items n (suc k) = itemField items n 3 + keySum items (n + 1) k
+
+sum-add : (items : List ℕ) (n a b : ℕ) → keySum items n (a + b) ≡ keySum items n a + keySum items (n + a) b
+unfolding keySum
+sum-add items n zero b =
+    let p : 0 + b ≡ b = omega arith in
+    let q : n + 0 ≡ n = omega arith in
+    rw (p, q) (omega arith)
+sum-add items n (suc a) b =
+    let p : suc a + b ≡ suc (a + b) = omega arith in
+    let q : n + suc a ≡ n + 1 + a = omega arith in
+    let h = sum-add items (n + 1) a b in
+    rw (p, q) (omega arith)
+
+sum-same : (items others : List ℕ) → SameItems items others → (n k : ℕ) → keySum items n k ≡ keySum others n k
+unfolding keySum
+sum-same items others h n zero = refl
+sum-same items others h n (suc k) = let p = h n 3 (omega arith) in let q = sum-same items others h (n + 1) k in omega arith
+
+lines-short : (k : ℕ) (text group items : List ℕ) (n : ℕ) → length (itemLines k text group (drop (16 * n) items)) ≤ 106 * k + keySum items n k
+unfolding itemLines keySum itemField
+lines-short zero text group items n = omega arith
+lines-short (suc k) text group items n =
+    let p : 16 * n + 16 ≡ 16 * (n + 1) = omega arith in
+    let h = lines-short k text group items (n + 1) in
+    let l = line-short text group (drop (16 * n) items) in
+    let f = getD-drop (16 * n) items 3 0 in
+    rw (length-append, drop-drop 16 (16 * n) items, p) (omega arith)
+
+-- how many items groups with their standing have
+unfoldable countOf : List Placed → ℕ
+countOf [] = 0
+countOf (p ∷ ps) = length (p .group .items) + countOf ps
+
+count-placed : (text : List ℕ) (all : List Group) (pool : List ℕ) (before : Bool) (from : ℕ) (gs : List Group)
+    → countOf (placedFrom text all pool before from gs) ≡ itemCount gs
+unfolding placedFrom countOf itemCount
+count-placed text all pool before from [] = refl
+count-placed text all pool before from (g ∷ gs) =
+    ap (λ (n : ℕ). length (g .items) + n) (count-placed text all pool (inLine text before from g) (groupEnd g) gs)
+
+groups-short : (ps : List Placed) (text : List ℕ) (n : ℕ) (rest items : List ℕ)
+    → length (groupLines (length ps) text (groupRows n ps ++ rest) items) ≤ 106 * countOf ps + keySum items n (countOf ps)
+unfolding groupLines groupRows groupRow countOf
+groups-short [] text n rest items = omega arith
+groups-short (p ∷ ps) text n rest items =
+    let k : ℕ = length (p .group .items) in
+    let a = lines-short k text ((groupRow n p ++ groupRows (n + k) ps) ++ rest) items n in
+    let b = groups-short ps text (n + k) rest items in
+    let s = sum-add items n k (countOf ps) in
+    rw length-append (omega arith)
+
+-- keys -------------------------------------------------------------------------------------------------------------------------------
+
+key-there : (b : Bool) (it : Item) (more rest : List ℕ) → getD ((rowOf b it ++ more) ++ rest) 3 0 ≡ it .key .len
+unfolding rowOf recordOf
+key-there b it more rest = refl
+
+row-sum : (is : List Item) (integral : Bool) (before rest : List ℕ) (n : ℕ) → length before ≡ 16 * n
+    → keySum (before ++ (rowsIn integral is ++ rest)) n (length is) + 2 * length is ≡ keysIn is
+unfolding keySum rowsIn keysIn
+row-sum [] integral before rest n e = refl
+row-sum (i ∷ is) integral before rest n e =
+    let l : length (before ++ rowOf integral i) ≡ 16 * (n + 1) = let r = row-length integral i in rw length-append (omega arith) in
+    let h = row-sum is integral (before ++ rowOf integral i) rest (n + 1) l in
+    let q : (before ++ rowOf integral i) ++ (rowsIn integral is ++ rest) ≡ before ++ ((rowOf integral i ++ rowsIn integral is) ++ rest)
+    = simp append-assoc refl in
+    let f = item-field before ((rowOf integral i ++ rowsIn integral is) ++ rest) n 3 e ∙ key-there integral i (rowsIn integral is) rest in
+    let g = rw q at h in
+    omega arith
+
+zero-sum : (items : List ℕ) (n : ℕ) → keySum items n 0 + 2 * 0 ≡ 0
+unfolding keySum
+zero-sum items n = refl
+
+rows-sum : (gs : List Group) (before rest : List ℕ) (n : ℕ) → length before ≡ 16 * n
+    → keySum (before ++ (itemRows gs ++ rest)) n (itemCount gs) + 2 * itemCount gs ≡ keysOf gs
+unfolding itemRows itemCount keysOf rowsOf rowsLength
+rows-sum [] before rest n e = zero-sum (before ++ rest) n
+rows-sum (g ∷ gs) before rest n e =
+    let l : length (before ++ rowsIn (g .integral) (g .items)) ≡ 16 * (n + length (g .items)) =
+    let r = rows-length g in rw length-append (omega arith) in
+    let h = rows-sum gs (before ++ rowsIn (g .integral) (g .items)) rest (n + length (g .items)) l in
+    let here = row-sum (g .items) (g .integral) before (itemRows gs ++ rest) n e in
+    let q : (before ++ rowsIn (g .integral) (g .items)) ++ (itemRows gs ++ rest)
+    ≡ before ++ ((rowsIn (g .integral) (g .items) ++ itemRows gs) ++ rest) = simp append-assoc refl in
+    let p : before ++ (rowsIn (g .integral) (g .items) ++ (itemRows gs ++ rest))
+    ≡ before ++ ((rowsIn (g .integral) (g .items) ++ itemRows gs) ++ rest) = simp append-assoc refl in
+    let s = sum-add (before ++ ((rowsIn (g .integral) (g .items) ++ itemRows gs) ++ rest)) n (length (g .items)) (itemCount gs) in
+    let h′ = rw q at h in
+    let here′ = rw p at here in
+    omega arith
+
+-- the listing ------------------------------------------------------------------------------------------------------------------------
+
+swept-fits-plain : (text : List ℕ) → length text ≤ 65535 → Fits text (sweepOf text)
+unfolding sweepOf sweepRun
+swept-fits-plain text h =
+    subst (λ (gs : List Group). Fits text gs)
+    (sweep-same text (length text) 0 [] (lentOf 0 text []) (λ e. absurd (omega (arith, e))) (omega arith))
+    (swept-fits text (lentOf 0 text []) h)
+
+-- the item records of an annotation hold the keys of the sweep
+module _ (text rest : List ℕ) (h : length text ≤ 65535) where
+  keys-there : keySum (tallyOf text 0 (sweepOf text) [] .rows ++ rest) 0 (itemCount (sweepOf text)) + 2 * itemCount (sweepOf text) ≤ length text
+  keys-there =
+      let a = tally-agrees text 0 (sweepOf text) [] rest [] (swept-fits-plain text h) in
+      let e = rows-sum (sweepOf text) [] rest 0 refl in
+      let s = sum-same _ _ (a .same-items) 0 (itemCount (sweepOf text)) in
+      let k = sweep-keys-by text in
+      rw (← a .items) (omega arith)
+
+  all-short : (more : List ℕ)
+      → length (groupLines (length (sweepOf text)) text (groupRows 0 (placedOf text (sweepOf text) []) ++ more) (tallyOf text 0 (sweepOf text) [] .rows ++ rest))
+      ≤ 106 * itemCount (sweepOf text) + keySum (tallyOf text 0 (sweepOf text) [] .rows ++ rest) 0 (itemCount (sweepOf text))
+  unfolding placedOf
+  all-short more =
+      let g = groups-short (placedFrom text (sweepOf text) [] false 0 (sweepOf text)) text 0 more (tallyOf text 0 (sweepOf text) [] .rows ++ rest) in
+      rw (placed-length text (sweepOf text) [] false 0 (sweepOf text), count-placed text (sweepOf text) [] false 0 (sweepOf text)) at g
+
+  lines-by : (more : List ℕ)
+      → length (groupLines (length (sweepOf text)) text (groupRows 0 (placedOf text (sweepOf text) []) ++ more) (tallyOf text 0 (sweepOf text) [] .rows ++ rest))
+      ≤ 36 * length text
+  lines-by more =
+      let f = swept-fits-plain text h in
+      let a = all-short more in
+      let k = keys-there in
+      omega (arith, f .room)
+
+count-short : (a : Annotated) → length (countLine a) ≤ 84
+unfolding countLine ascii
+count-short a =
+    let x = decimal-short (a .groups) in
+    let y = decimal-short (a .items) in
+    let z = decimal-short (a .sources) in
+    simp length-append (omega arith)
+
+refused-short : (n : ℕ) → length (refusedLine n) ≤ 84
+unfolding refusedLine ascii
+refused-short n = let x = decimal-short n in simp length-append (omega arith)
+
+-- an answer that is refused, or has nothing to list
+refused-any : (n : ℕ) (text : List ℕ) (given : Areas) → length (listed text (annotateRefused n given)) ≤ 84
+unfolding listed groupLines
+refused-any n text given = go (eqb n 0)
+  where
+    go : (t : Bool) → length (pick t (countLine (annotateRefused n given) ++ []) (refusedLine n)) ≤ 84
+    go true = let c = count-short (annotateRefused n given) in rw length-append (omega arith)
+    go false = refused-short n
+
+-- where nothing refuses it
+given-short : (text : List ℕ) (given : Areas) → length text ≤ 4096
+    → length (listed text (answerOf (sweepOf text) (contentOf text 0 (sweepOf text) []) given)) ≤ 36 * 4096 + 84
+unfolding listed answerOf annotateGives filled contentOf written
+given-short text given h = go (roomFor (contentOf text 0 (sweepOf text) []) given)
+  where
+    go : (t : Bool)
+        → length (listed text (pick t (annotateGives (sweepOf text) (contentOf text 0 (sweepOf text) []) given) (annotateRefused 10 (zeroFilled given))))
+        ≤ 36 * 4096 + 84
+    go true =
+        let c = count-short (annotateGives (sweepOf text) (contentOf text 0 (sweepOf text) []) given) in
+        let l = lines-by text (drop (length (tallyOf text 0 (sweepOf text) [] .rows)) (given .items)) (omega arith)
+        (drop (length (groupRows 0 (placedOf text (sweepOf text) []))) (given .groups)) in
+        rw length-append (omega arith)
+    go false = let r = refused-short 10 in omega arith
+
+pub listing-short : (text : List ℕ) → length (listingOf text) ≤ 150000
+unfolding listingOf listingAnswer annotatePlain
+listing-short text = go (ltb 4096 (length text)) refl
+  where
+    plain : (t : Bool) → length text ≤ 4096
+        → length (listed text (pick t (answerOf (sweepOf text) (contentOf text 0 (sweepOf text) []) (listingAreas (length text)))
+        (annotateRefused (annotateRefusal text 0 [] (length text) (length text)) (listingAreas (length text))))) ≤ 150000
+    plain true h = let g = given-short text (listingAreas (length text)) h in omega arith
+    plain false h =
+        let r = refused-any (annotateRefusal text 0 [] (length text) (length text)) text (listingAreas (length text)) in omega arith
+
+    go : (t : Bool) → ltb 4096 (length text) ≡ t
+        → length (pick t (refusedLine 1) (listed text (pick (eqb (annotateRefusal text 0 [] (length text) (length text)) 0)
+        (answerOf (sweepOf text) (contentOf text 0 (sweepOf text) []) (listingAreas (length text)))
+        (annotateRefused (annotateRefusal text 0 [] (length text) (length text)) (listingAreas (length text)))))) ≤ 150000
+    go true q = let r = refused-short 1 in omega arith
+    go false q = plain (eqb (annotateRefusal text 0 [] (length text) (length text)) 0) (ltb-false 4096 (length text) q)

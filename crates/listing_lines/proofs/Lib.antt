@@ -1,0 +1,6 @@
+pub mod Puts
+pub mod Lines
+pub mod Answers
+pub mod KeyBytes
+pub mod Bound
+pub mod Whole

@@ -1,0 +1,73 @@
+-- The areas that `list` makes, and its two answers, in the form of the needs.
+use Prim.Native.Nat.{ℕ, _+_, _-_, _*_, _≤_, _<_}
+use native.Mathlib.Omega.{arith}
+use mathlib.Core.Path.{_≡_, refl, sym, _∙_, ap}
+use mathlib.Core.List.{List, [], _∷_, _++_, append-assoc}
+use lib.ListN.{length, take, replicate, length-append, length-replicate, replicate-append-replicate}
+use lib.Seq.{take-at, length-take-le}
+use borrow.Author.Tests.{lt-ltb}
+use Rattle.base.specs.Lists.{written}
+use Rattle.base.specs.Ascii.{ascii}
+use Rattle.source.specs.Decimal.{decimal}
+use Rattle.decimal.proofs.Laws.{decimal-short}
+use Rattle.sweep.specs.Stops.{writtenAt}
+use Rattle.sweep.proofs.Laws.{written-front}
+use Rattle.lookup.proofs.Areas.{written-length}
+use Rattle.listing_lines.specs.Listing.{refusedLine, listingOf}
+use Rattle.listing_lines.specs.Writes.{Put, Room, zeroes, Ready, Listed, Counts}
+use Rattle.listing_lines.proofs.Lines.{field, refused-word}
+use Rattle.listing_lines.proofs.Bound.{listing-short}
+
+-- what `list` promises of an answer
+pub said : (text before : List ℕ) {after : List ℕ} {r : ℕ} → 150000 ≤ length before → Listed text before after r
+    → (r ≡ length (listingOf text)) × (after ≡ written (listingOf text) before) × Counts r after
+said text before {after} {r} h l =
+    let e = l .count in
+    let s = listing-short text in
+    let w : length after ≡ length before = ap length (l .area) ∙ written-length (listingOf text) before (omega arith) in
+    let f : r ≤ length after = omega arith in
+    (l .count, l .area, (f, sym (length-take-le r after f)))
+
+-- the first of some zeros
+zeroes-take : (n m : ℕ) → take n (zeroes (n + m)) ≡ zeroes n
+unfolding zeroes
+zeroes-take n m =
+    ap (take n) (sym (replicate-append-replicate n m 0)) ∙ take-at (replicate n 0) (replicate m 0) n (length-replicate n 0)
+
+module _ (n m : ℕ) (a : List ℕ) (e : a ≡ zeroes m) (h : n ≤ m) where
+  pub zeroes-cut : take n a ≡ zeroes n
+  zeroes-cut = let p : n + (m - n) ≡ m = omega arith in rw (e, ← p) (zeroes-take n (m - n))
+
+  pub zeroes-counted : n ≡ length (take n a)
+  unfolding zeroes
+  zeroes-counted = rw zeroes-cut (sym (length-replicate n 0))
+
+-- a text above 4,096 bytes
+pub long-room : (out : List ℕ) → 150000 ≤ length out → Room 0 (refused-word ++ field 1 10) out
+long-room out h = let d = decimal-short 1 in let e = length-append (decimal 1) (10 ∷ []) in omega arith
+
+module _ (text out : List ℕ) where
+  long-is : 4096 < length text → listingOf text ≡ refused-word ++ field 1 10
+  unfolding listingOf refusedLine ascii
+  long-is h = rw (lt-ltb 4096 (length text) h) (simp append-assoc refl)
+
+  pub long-listed : {out′ : List ℕ} {r : ℕ} → 4096 < length text → Put 0 (refused-word ++ field 1 10) out out′ r → Listed text out out′ r
+  long-listed h p = record {
+    count = let e = p .end in let s = ap length (long-is h) in omega arith;
+    area = p .area ∙ ap (λ (w : List ℕ). writtenAt 0 w out) (sym (long-is h)) ∙ written-front (listingOf text) out;
+  }
+
+-- any other text
+pub all-ready : (text index items groups references labels out : List ℕ) → length text ≤ 4096 → index ≡ zeroes 4096 → items ≡ zeroes 65536
+    → groups ≡ zeroes 20480 → references ≡ zeroes 4096 → labels ≡ zeroes 20480 → 150000 ≤ length out
+    → Ready text (take (length text) index) (take (16 * length text) items) (take (5 * length text) groups) (take (length text) references)
+    (take (5 * length text) labels) out
+all-ready text index items groups references labels out h a b c d e r = record {
+  short = h;
+  index-area = zeroes-cut (length text) 4096 index a h;
+  item-area = zeroes-cut (16 * length text) 65536 items b (omega arith);
+  group-area = zeroes-cut (5 * length text) 20480 groups c (omega arith);
+  reference-area = zeroes-cut (length text) 4096 references d h;
+  label-area = zeroes-cut (5 * length text) 20480 labels e (omega arith);
+  room = let l = listing-short text in omega arith;
+}

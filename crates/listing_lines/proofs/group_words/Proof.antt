@@ -1,0 +1,16 @@
+-- `listing_lines::group_words` meets its contract. Assumes nothing.
+use mathlib.Core.Path.{refl}
+use borrow.Author.Needs.{needs}
+use Rattle.listing_lines.specs.Writes.{zeroes}
+use Rattle.listing_lines.proofs.group_words.Statement.{statement}
+use Rattle.listing_lines.proofs.group_words.Tie as tie
+
+returns : tie.Need-returns
+unfolding zeroes
+returns c = refl
+
+pub group-words-spec : {M : Type 1} → statement M
+group-words-spec =
+    tie.close
+    (tie.spec
+    returns)

@@ -1,0 +1,14 @@
+-- `listing_lines::put_line` meets its contract. Assumes nothing.
+use borrow.Author.Needs.{needs}
+use Rattle.listing_lines.proofs.Lines.{line-laws}
+use Rattle.listing_lines.proofs.put_line.Statement.{statement}
+use Rattle.listing_lines.proofs.put_line.Tie as tie
+
+pub put-line-spec : {M : Type 1} → statement M
+put-line-spec =
+    tie.close
+    (tie.spec
+    (λ c κs. search (line-laws, needs))
+    (λ c κs. search (line-laws, needs))
+    (λ c. search (line-laws, needs))
+    (λ c. search (line-laws, needs)))
