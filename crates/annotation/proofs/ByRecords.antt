@@ -12,8 +12,8 @@ use Rattle.base.specs.Pick.{pick}
 use Rattle.base.specs.First.{first}
 use Rattle.base.specs.Fold.{fold}
 use Rattle.base.specs.Lists.{upFrom}
-use Rattle.base.proofs.Searches.{first-holds}
-use Rattle.index.proofs.Tokens.{first-le}
+use Rattle.base.proofs.Searches.{first-holds, first-before}
+use Rattle.base.proofs.Ups.{up-length}
 use Rattle.lookup.specs.Groups.{Group}
 use Rattle.pool.specs.Layout.{hasPool}
 use Rattle.definition.specs.Lines.{inLine, groupEnd}
@@ -46,7 +46,7 @@ module _ (text pool groups items : List ℕ) (n m : ℕ) (pooled : Bool) (source
       go : Known text items pooled m sources (sourceKey sources k) → first (test k) m 0 < m
       go (inl c) =
           let b = c .1 .at .below in
-          let h = first-le (test k) m 0 (c .0) (omega arith) (omega arith) (eq-eqb (itemField items (c .0) 12) k (c .1 .number ∙ e)) in
+          let h = first-before (test k) m 0 (c .0) (omega arith) (eq-eqb (itemField items (c .0) 12) k (c .1 .number ∙ e)) in
           omega arith
       go (inr u) = absurd (let z = u .new in omega arith)
 
@@ -144,11 +144,6 @@ ranked-length : (text : List ℕ) (groups : List Group) (pool : List ℕ) (k : �
 unfolding rankedFrom
 ranked-length text groups pool k [] = refl
 ranked-length text groups pool k (s ∷ ss) = ap suc (ranked-length text groups pool (k + 1) ss)
-
-up-length : (i n : ℕ) → length (upFrom i n) ≡ n
-unfolding upFrom
-up-length i zero = refl
-up-length i (suc n) = ap suc (up-length (suc i) n)
 
 pub references-length : (text : List ℕ) (mode : ℕ) (groups : List Group) (pool : List ℕ) (ss : List Source)
     → length (referencesOf text mode groups pool ss) ≡ length ss

@@ -12,8 +12,10 @@ use Rattle.close.specs.declared.Close.the-variants.{At, Nothing}
 use Rattle.index.specs.Entries.{opensAt}
 use Rattle.lookup.specs.Groups.{Group, Found, NoGroup, groupOf, groupAccepted, judge}
 use Rattle.lookup.specs.Resolve.{closeAsRun, groupAsRun}
+use Rattle.lookup.specs.Looks.{Inside}
+use Rattle.lookup.proofs.Steps.{run-inside}
 use Rattle.sweep.specs.Sweep.{Lent, Swept, swept, listed, nextAt, lentAfter, foundRun, buildsAt, sweepRunIn, sweepRun}
-use Rattle.sweep.proofs.Sizes.{After, run-after, size-enough-run}
+use Rattle.sweep.proofs.Sizes.{size-enough-run}
 use Rattle.annotation.specs.Steps.{SweptFits}
 
 abbrev Within : List ℕ → Group → Type 0
@@ -23,12 +25,12 @@ each-append : {A : Type 0} (P : A → Type 0) (xs ys : List A) → Each P xs →
 each-append P [] ys h k = k
 each-append P (x ∷ xs) ys h k = (h .0, each-append P xs ys (h .1) k)
 
-judged-within : (text : List ℕ) (p : ℕ) (c : Close) → After text p c → Each (Within text) (listed (judge text p c))
+judged-within : (text : List ℕ) (p : ℕ) (c : Close) → Inside text p c → Each (Within text) (listed (judge text p c))
 unfolding judge groupOf
 judged-within text p (At c) k = go (groupAccepted text p c)
   where
     go : (t : Bool) → Each (Within text) (listed (pick t (Found (groupOf text p c)) NoGroup))
-    go true = (k, tt)
+    go true = ((k .0, k .1), tt)
     go false = tt
 judged-within text p Nothing k = tt
 
@@ -37,7 +39,7 @@ unfolding foundRun groupAsRun
 found-within text p l = go (opensAt text p)
   where
     go : (t : Bool) → Each (Within text) (listed (pick t (judge text p (closeAsRun text p (l .note) (l .index))) NoGroup))
-    go true = judged-within text p (closeAsRun text p (l .note) (l .index)) (run-after text p (l .note) (l .index))
+    go true = judged-within text p (closeAsRun text p (l .note) (l .index)) (run-inside text p (l .note) (l .index))
     go false = tt
 
 sweep-within : (n : ℕ) (text : List ℕ) (at : ℕ) (so-far : List Group) (l : Lent) → Each (Within text) so-far

@@ -17,7 +17,8 @@ use Rattle.lookup.specs.Rows.{itemWidth}
 use Rattle.numbering.specs.Records.{itemField, keyIn}
 use Rattle.numbering.specs.Numbers.{sameUse, lastUse, numberIn, useIn, sourcesIn}
 use Rattle.annotation.specs.Sources.{Source, placeOf, numberOf, usesOf, useOf, used}
-use Rattle.annotation.proofs.Numbers.{same-refl, same-true, place-used, place-stays, place-there}
+use Rattle.base.proofs.Sames.{same-refl, same-true}
+use Rattle.annotation.proofs.Numbers.{place-used, place-stays, place-there}
 use Rattle.annotation.proofs.Places.{uses-used, uses-other, uses-most, uses-none, used-old, used-new, used-most, place-other}
 
 -- item record `j` is numbered and has this key

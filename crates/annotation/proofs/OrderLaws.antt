@@ -7,7 +7,7 @@ use lib.ListN.{length}
 use lib.Dec.{leb}
 use borrow.Author.Tests.{leb-true}
 use Rattle.base.specs.Lists.{written}
-use Rattle.item.proofs.Parts.{and-left, and-right}
+use Rattle.base.proofs.Bools.{and-left, and-right}
 use Rattle.numbering.specs.Numbers.{Numbered, numberAll}
 use Rattle.numbering.specs.References.{referencesIn}
 use Rattle.numbering.specs.declared.Numbering.{Numbering}

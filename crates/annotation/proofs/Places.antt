@@ -8,7 +8,7 @@ use lib.ListN.{length, getD}
 use Rattle.base.specs.Pick.{pick}
 use Rattle.base.specs.Lists.{same}
 use Rattle.annotation.specs.Sources.{Source, source, placeOf, usesOf, used}
-use Rattle.annotation.proofs.Numbers.{same-refl, same-true}
+use Rattle.base.proofs.Sames.{same-refl, same-true}
 
 -- its own uses are one more
 pub uses-used : (key : List ℕ) (ss : List Source) → usesOf key (used key ss) ≡ usesOf key ss + 1

@@ -10,39 +10,20 @@ use borrow.Author.Tests.{lt-ltb, le-ltb, ltb-false}
 use Rattle.base.specs.Pick.{pick}
 use Rattle.text.specs.Utf8.{tooLong, utf8}
 use Rattle.text.specs.Refusal.{afterText, textRefusal}
+use Rattle.text.proofs.Characters.{refused-after, accepted-after}
 use Rattle.lookup.specs.Refusals.{tooFew}
 use Rattle.pool.specs.Layout.{wellFormed}
 use Rattle.annotation.specs.Call.{annotateRefusal}
-
--- a text that is refused is refused by the same number whatever comes next
-text-refused : (s : List ℕ) (next : ℕ) → (textRefusal s ≡ 0 → ⊥) → textRefusal s ≡ afterText s next
-unfolding textRefusal afterText
-text-refused s next n = go (tooLong s) (utf8 s) n
-  where
-    go : (a b : Bool) → (pick {A = ℕ} a 1 (pick b 0 2) ≡ 0 → ⊥) → pick {A = ℕ} a 1 (pick b 0 2) ≡ pick {A = ℕ} a 1 (pick b next 2)
-    go true b e = refl
-    go false false e = refl
-    go false true e = absurd (e refl)
-
--- one that is not gives what comes next
-text-passed : (s : List ℕ) (next : ℕ) → textRefusal s ≡ 0 → afterText s next ≡ next
-unfolding textRefusal afterText
-text-passed s next z = go (tooLong s) (utf8 s) z
-  where
-    go : (a b : Bool) → pick {A = ℕ} a 1 (pick b 0 2) ≡ 0 → pick {A = ℕ} a 1 (pick b next 2) ≡ next
-    go true b e = absurd (omega arith)
-    go false false e = absurd (omega arith)
-    go false true e = refl
 
 -- `r` is what the text's own refusal gave
 module _ (s : List ℕ) (mode : ℕ) (pool : List ℕ) (n m : ℕ) {r : ℕ} (q : r ≡ textRefusal s) where
   pub refused-text : (r ≡ 0 → ⊥) → r ≡ annotateRefusal s mode pool n m
   unfolding annotateRefusal
-  refused-text z = q ∙ text-refused s _ (λ e. z (q ∙ e))
+  refused-text z = refused-after s q _ z
 
   module _ (z : r ≡ 0) where
     passed : (x : ℕ) → x ≡ afterText s x
-    passed x = sym (text-passed s x (sym q ∙ z))
+    passed x = accepted-after s q x z
 
     pub refused-mode : 1 < mode → 6 ≡ annotateRefusal s mode pool n m
     unfolding annotateRefusal

@@ -22,7 +22,7 @@ use Rattle.sweep.specs.Rows.{Placed, placed, itemCount}
 use Rattle.annotation.specs.Sources.{numberOf, usesOf, useOf, used}
 use Rattle.annotation.specs.Content.{Tally, tally, allDefined, standingOf, placedFrom, labelFor, cited, numbered, unnumbered, addItem, addGroup, tallyOf, placedOf}
 use Rattle.annotation.specs.Facts.{itemKeys, usesIn, useAfter, RecordsUsed}
-use Rattle.annotation.proofs.Numbers.{same-true}
+use Rattle.base.proofs.Sames.{same-true}
 use Rattle.annotation.proofs.Places.{uses-used, uses-other}
 
 -- one more item

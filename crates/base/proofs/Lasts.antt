@@ -1,8 +1,8 @@
 -- Where a linear search from the end ends.
-use Prim.Native.Nat.{ℕ, zero, suc, _+_, _<_}
+use Prim.Native.Nat.{ℕ, zero, suc, _+_, _-_, _≤_, _<_}
 use native.Mathlib.Omega.{arith}
 use native.Mathlib.Numerals.{add-one}
-use mathlib.Core.Path.{_≡_, refl, _∙_, ap}
+use mathlib.Core.Path.{_≡_, refl, sym, _∙_, ap}
 use mathlib.Core.Bool.{Bool, true, false}
 use Rattle.base.specs.Pick.{pick}
 use Rattle.base.specs.Last.{last}
@@ -58,4 +58,18 @@ last-alike f g n j h l = record {
 pub none-alike : (f g : ℕ → Bool) (n : ℕ) → ((i : ℕ) → i < n → g i ≡ f i) → LastNone f n → LastNone g n
 none-alike f g n h l = λ d. last-same g f n d h ∙ l d
 
-pub ruleset last-laws = (last-from, last-same, last-here, last-before, none-before, last-alike, none-alike)
+-- at a place, in the form of the needs: `w` is what the loop's invariant speaks of, and the places from `i` on were passed
+module _ (f : ℕ → Bool) (d i : ℕ) {w : ℕ} (p : w ≡ last f i d) where
+  pub last-out : i ≤ 0 → d ≡ w
+  unfolding last
+  last-out h = let z : i ≡ 0 = omega arith in sym (p ∙ rw z)
+
+  last-is : (j : ℕ) → i ≡ suc j → last f i d ≡ pick (f j) j (last f j d)
+  unfolding last
+  last-is j e = rw e refl
+
+  pub last-stop : 0 < i → f (i - 1) ≡ true → i - 1 ≡ w
+  last-stop h t = sym (p ∙ last-is (i - 1) (omega arith) ∙ rw t)
+
+  pub last-more : 0 < i → f (i - 1) ≡ false → w ≡ last f (i - 1) d
+  last-more h t = p ∙ last-is (i - 1) (omega arith) ∙ rw t

@@ -132,12 +132,12 @@ close-more (suc n) (suc m) s i d k h g =
     go false f e = f e
 
 -- a close that is found is among the bytes seen, and a `]`
-close-there : (n : ℕ) (s : List ℕ) (i : ℕ) (d : Depth) (k : ℕ) → 0 < d .nest → closeIn n s i d ≡ At k
+seen-there : (n : ℕ) (s : List ℕ) (i : ℕ) (d : Depth) (k : ℕ) → 0 < d .nest → closeIn n s i d ≡ At k
     → (i ≤ k) × (k < i + n) × (byteAt s k ≡ 93)
 unfolding closeIn
-close-there zero s i d k h e = absurd (at-nothing (sym e))
-close-there (suc n) s i d k h e =
-    go (eqb (stepOf d (byteAt s i) .nest) 0) refl (λ g w. close-there n s (i + 1) (stepOf d (byteAt s i)) k g w) e
+seen-there zero s i d k h e = absurd (at-nothing (sym e))
+seen-there (suc n) s i d k h e =
+    go (eqb (stepOf d (byteAt s i) .nest) 0) refl (λ g w. seen-there n s (i + 1) (stepOf d (byteAt s i)) k g w) e
   where
     go : (b : Bool) → eqb (stepOf d (byteAt s i) .nest) 0 ≡ b
         → (0 < stepOf d (byteAt s i) .nest → closeIn n s (i + 1) (stepOf d (byteAt s i)) ≡ At k
@@ -150,38 +150,24 @@ close-there (suc n) s i d k h e =
     go false q f w = let nz = eqb-false (stepOf d (byteAt s i) .nest) 0 q in let r = f (omega (arith, nz)) w in (omega arith, omega arith, r .2)
 
 module _ (s : List ℕ) (p k : ℕ) where
-  -- what a limit finds a further one finds
-  pub close-far : (near far : ℕ) → near ≤ far → closeWithin near s p ≡ At k → closeWithin far s p ≡ At k
-  unfolding closeWithin scanFrom
-  close-far near far f h = close-more (min near (length s - p) - 1) (min far (length s - p) - 1) s (p + 1) (depth 1 false) k h (omega arith)
-
   -- and so does the unlimited scan
   pub close-found : (limit : ℕ) → closeWithin limit s p ≡ At k → closeOf s p ≡ At k
   unfolding closeWithin closeOf scanFrom
   close-found limit h = close-more (min limit (length s - p) - 1) (length s - p - 1) s (p + 1) (depth 1 false) k h (omega arith)
 
   -- the close lies after the bracket, in the text, at a `]`
-  there : closeOf s p ≡ At k → (p < k) × (k < length s) × (byteAt s k ≡ 93)
+  pub close-there : closeOf s p ≡ At k → (p < k) × (k < length s) × (byteAt s k ≡ 93)
   unfolding closeOf scanFrom
-  there e = let r = close-there (length s - p - 1) s (p + 1) (depth 1 false) k (omega arith) e in (omega arith, omega arith, r .2)
+  close-there e = let r = seen-there (length s - p - 1) s (p + 1) (depth 1 false) k (omega arith) e in (omega arith, omega arith, r .2)
 
   pub close-after : closeOf s p ≡ At k → p < k
-  close-after e = there e .0
+  close-after e = close-there e .0
 
   pub close-inside : closeOf s p ≡ At k → k < length s
-  close-inside e = there e .1
+  close-inside e = close-there e .1
 
   pub close-byte : closeOf s p ≡ At k → byteAt s k ≡ 93
-  close-byte e = there e .2
-
-  pub within-after : (limit : ℕ) → closeWithin limit s p ≡ At k → p < k
-  within-after limit e = close-after (close-found limit e)
-
-  pub within-inside : (limit : ℕ) → closeWithin limit s p ≡ At k → k < length s
-  within-inside limit e = close-inside (close-found limit e)
-
-  pub within-byte : (limit : ℕ) → closeWithin limit s p ≡ At k → byteAt s k ≡ 93
-  within-byte limit e = close-byte (close-found limit e)
+  close-byte e = close-there e .2
 
 -- a limit that reaches the text's end changes nothing
 pub close-all : (s : List ℕ) (p limit : ℕ) → length s - p ≤ limit → closeWithin limit s p ≡ closeOf s p
@@ -195,17 +181,3 @@ close-64 s p k h = close-found s p k 64 h
 -- THEOREM `ShortNone`
 pub none-64 : ShortNone
 none-64 s p h l = sym (close-all s p 64 l) ∙ h
-
-pub ruleset close-laws = (
-  close-far,
-  close-found,
-  close-after,
-  close-inside,
-  close-byte,
-  within-after,
-  within-inside,
-  within-byte,
-  close-all,
-  close-64,
-  none-64,
-)

@@ -3,44 +3,18 @@ use Prim.Native.Nat.{ℕ, suc, _+_, _-_, _≤_, _<_}
 use native.Mathlib.Omega.{arith}
 use mathlib.Core.Path.{_≡_, refl, sym, _∙_, ap}
 use mathlib.Core.List.{List, []}
-use mathlib.Core.Bool.{Bool, true, false, _&&_, _||_, not, and-false, or-true}
-use lib.ListN.{length, take, drop}
+use mathlib.Core.Bool.{Bool, true, false, _&&_, _||_, and-false, or-true}
+use lib.ListN.{length}
 use lib.Dec.{eqb, ltb}
-use borrow.Author.Tests.{eq-eqb, ne-eqb, le-leb, lt-leb, lt-ltb, le-ltb, eqb-true, eqb-false, ltb-true, ltb-false}
-use Rattle.base.specs.First.{first}
+use borrow.Author.Tests.{eq-eqb, ne-eqb, le-leb, lt-ltb, le-ltb, eqb-true, eqb-false, ltb-true, ltb-false}
+use Rattle.base.specs.First.{first, firstOf, firstOther}
 use Rattle.base.specs.Lists.{byteAt, part}
 use Rattle.base.specs.Spans.{span}
-use Rattle.base.proofs.Searches.{first-from, first-by, first-holds}
-use Rattle.definition.specs.Bytes.{firstOf, firstOther}
+use Rattle.base.proofs.Searches.{first-from, first-by, first-holds, first-before, first-out, first-stop, first-more}
 use Rattle.definition.specs.Attributes.{endWithout}
 use Rattle.definition.specs.Lines.{breakAt, braceAt, braceOrBreak, startsLine, colonAfter, afterSpaces, bracedAt, attributesOf, bytesOf}
-use Rattle.definition.proofs.Firsts.{first-out, first-stop, first-more, first-before}
 
--- searches for a byte ------------------------------------------------------------------------------------------------------------
-
-module _ (b : ℕ) (s : List ℕ) (i e : ℕ) {w : ℕ} (p : w ≡ firstOf b s i e) where
-  pub find-out : e ≤ i → i ≡ w
-  find-out = first-out (λ k. eqb (byteAt s k) b) i e p
-
-  pub find-stop : i < e → byteAt s i ≡ b → i ≡ w
-  find-stop h q = first-stop (λ k. eqb (byteAt s k) b) i e p h (eq-eqb _ _ q)
-
-  pub find-more : i < e → (byteAt s i ≡ b → ⊥) → w ≡ firstOf b s (i + 1) e
-  find-more h q = first-more (λ k. eqb (byteAt s k) b) i e p h (ne-eqb _ _ q)
-
-pub ruleset find-laws = (find-out, find-stop, find-more)
-
-module _ (b : ℕ) (s : List ℕ) (i e : ℕ) {w : ℕ} (p : w ≡ firstOther b s i e) where
-  pub skip-out : e ≤ i → i ≡ w
-  skip-out = first-out (λ k. not (eqb (byteAt s k) b)) i e p
-
-  pub skip-stop : i < e → (byteAt s i ≡ b → ⊥) → i ≡ w
-  skip-stop h q = first-stop (λ k. not (eqb (byteAt s k) b)) i e p h (ap not (ne-eqb _ _ q))
-
-  pub skip-more : i < e → byteAt s i ≡ b → w ≡ firstOther b s (i + 1) e
-  skip-more h q = first-more (λ k. not (eqb (byteAt s k) b)) i e p h (ap not (eq-eqb _ _ q))
-
-pub ruleset skip-laws = (skip-out, skip-stop, skip-more)
+-- bytes stripped from the end ------------------------------------------------------------------------------------------------------
 
 module _ (b : ℕ) (s : List ℕ) (a i : ℕ) {w : ℕ} (p : w ≡ endWithout b s a (i - a)) where
   pub without-out : i ≤ a → a ≡ w
@@ -62,23 +36,6 @@ module _ (b : ℕ) (s : List ℕ) (a i : ℕ) {w : ℕ} (p : w ≡ endWithout b 
   without-more h q = p ∙ rw (fewer h, before h, eq-eqb _ _ q)
 
 pub ruleset without-laws = (without-out, without-stop, without-more)
-
--- parts --------------------------------------------------------------------------------------------------------------------------
-
-module _ (s : List ℕ) (a n : ℕ) where
-  pub part-in : a ≤ length s → n ≤ length s - a → take (a + n - a) (drop a s) ≡ part s a (a + n)
-  unfolding part
-  part-in p q = rw (le-leb a (a + n) (omega arith), le-leb (a + n) (length s) (omega arith)) refl
-
-  pub part-past : a ≤ length s → length s - a < n → [] ≡ part s a (a + n)
-  unfolding part
-  part-past p q = rw (le-leb a (a + n) (omega arith), lt-leb (a + n) (length s) (omega arith)) refl
-
-  pub part-outside : length s < a → [] ≡ part s a (a + n)
-  unfolding part
-  part-outside p = rw (le-leb a (a + n) (omega arith), lt-leb (a + n) (length s) (omega arith)) refl
-
-pub ruleset part-laws = (part-in, part-past, part-outside)
 
 pub part-none : (s : List ℕ) → bytesOf s (span 0 0) ≡ []
 unfolding part

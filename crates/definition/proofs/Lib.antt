@@ -1,5 +1,3 @@
-pub mod Firsts
-pub mod Sames
 pub mod Parts
 pub mod Laws
 pub mod Words

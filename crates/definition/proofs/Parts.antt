@@ -4,72 +4,14 @@ use native.Mathlib.Omega.{arith}
 use mathlib.Core.Path.{_≡_, refl, sym, _∙_, ap}
 use mathlib.Core.List.{List}
 use mathlib.Core.Bool.{Bool, true, false, not}
-use lib.ListN.{length, take, drop, length-take, length-drop}
-use lib.Seq.{take-take, take-all, getD-take, getD-drop, ext-getD}
+use lib.ListN.{length}
 use lib.Dec.{eqb}
-use borrow.Author.Tests.{le-leb}
 use Rattle.base.specs.Pick.{pick}
-use Rattle.base.specs.First.{first}
+use Rattle.base.specs.First.{first, firstOf, firstOther}
 use Rattle.base.specs.Lists.{byteAt, part}
-use Rattle.base.proofs.Searches.{first-by}
-use Rattle.definition.specs.Bytes.{firstOf, firstOther}
+use Rattle.base.proofs.Searches.{first-by, first-shift}
+use Rattle.base.proofs.Parts.{part-length, part-byte, part-part}
 use Rattle.definition.specs.Attributes.{equalsAt, endWithout, startWithout, stripped}
-
--- a part's bytes
-module _ (s : List ℕ) (a e : ℕ) (l : a ≤ e) (h : e ≤ length s) where
-  pub part-is : part s a e ≡ take (e - a) (drop a s)
-  unfolding part
-  part-is = rw (le-leb a e l, le-leb e (length s) h) refl
-
-  pub part-length : length (part s a e) ≡ e - a
-  part-length = rw part-is (simp (length-take, length-drop) (omega arith))
-
-  pub part-byte : (i : ℕ) → a + i < e → byteAt (part s a e) i ≡ byteAt s (a + i)
-  part-byte i q = rw (part-is, getD-take (e - a) (drop a s) i 0 (omega arith), getD-drop) refl
-
--- a part of a part
-module _ (s : List ℕ) (a e : ℕ) (l : a ≤ e) (h : e ≤ length s) where
-  pub part-part : (x y : ℕ) → x ≤ y → a + y ≤ e → part (part s a e) x y ≡ part s (a + x) (a + y)
-  part-part x y k m =
-      let n = part-length s a e l h in
-      let p = part-length (part s a e) x y k (omega arith) in
-      let q = part-length s (a + x) (a + y) (omega arith) (omega arith) in
-      ext-getD 0 (part (part s a e) x y) (part s (a + x) (a + y)) (p ∙ sym (q ∙ omega arith))
-      (λ i b.
-      let z : a + (x + i) ≡ a + x + i = omega arith in
-      part-byte (part s a e) x y k (omega arith) i (omega arith)
-      ∙ part-byte s a e l h (x + i) (omega arith)
-      ∙ ap (byteAt s) z
-      ∙ sym (part-byte s (a + x) (a + y) (omega arith) (omega arith) i (omega arith)))
-
-  pub take-part : (n : ℕ) → a + n ≤ e → take n (part s a e) ≡ part s a (a + n)
-  take-part n m =
-      let z : a + n - a ≡ n = omega arith in
-      rw (part-is s a e l h, part-is s a (a + n) (omega arith) (omega arith), take-take n (e - a) (drop a s) (omega arith), z) refl
-
-  pub drop-part : (n : ℕ) → a + n ≤ e → drop n (part s a e) ≡ part s (a + n) e
-  drop-part n m =
-      let k = part-length s a e l h in
-      let z : a + (e - a) ≡ e = omega arith in
-      let y : length (drop n (part s a e)) ≤ e - a - n = rw length-drop (omega arith) in
-      sym (take-all (e - a - n) (drop n (part s a e)) y)
-      ∙ sym (part-is (part s a e) n (e - a) (omega arith) (omega arith))
-      ∙ part-part n (e - a) (omega arith) (omega arith)
-      ∙ ap (part s (a + n)) z
-
--- a search for a test that holds at `x` exactly where another does at `x + d`
-pub first-shift : (f g : ℕ → Bool) (d n i : ℕ) → ((x : ℕ) → x < i + n → f x ≡ g (x + d)) → first f n i + d ≡ first g n (i + d)
-unfolding first
-first-shift f g d zero i h = refl
-first-shift f g d (suc n) i h = go (g (i + d)) (h i (omega arith)) refl (first-shift f g d n (i + 1) (λ x l. h x (omega arith)))
-  where
-    next : i + 1 + d ≡ i + d + 1
-    next = omega arith
-
-    go : (t : Bool) → f i ≡ t → g (i + d) ≡ t → first f n (i + 1) + d ≡ first g n (i + 1 + d)
-        → pick (f i) i (first f n (i + 1)) + d ≡ pick (g (i + d)) (i + d) (first g n (i + d + 1))
-    go true p q r = rw (p, q) refl
-    go false p q r = rw (p, q) (r ∙ ap (first g n) next)
 
 pub without-from : (b : ℕ) (s : List ℕ) (a n : ℕ) → a ≤ endWithout b s a n
 unfolding endWithout

@@ -17,7 +17,7 @@ use Rattle.definition.specs.declared.Year.the-variants.{InText as YearIn
 use Rattle.definition.specs.Attributes.{attrValue}
 use Rattle.definition.specs.Lines.{bytesOf}
 use Rattle.definition.specs.Parts.{valueBytes, ValueWithin, authorBytes, yearBytes, authorGiven, yearPart}
-use Rattle.definition.proofs.Parts.{part-length, part-part}
+use Rattle.base.proofs.Parts.{part-length, part-part}
 
 -- a value of the attributes, which are the `len` bytes of the text from `at` on
 pub line-within : (text : List ℕ) (at len : ℕ) {P : List ℕ} {v : Value} {p : Span} → at + len ≤ length text → P ≡ part text at (at + len)

@@ -7,20 +7,19 @@ use mathlib.Core.Bool.{Bool, true, false, not}
 use lib.ListN.{length, take, drop}
 use lib.Dec.{eqb, ltb}
 use borrow.Author.Tests.{lt-ltb, le-ltb}
-use Rattle.base.specs.First.{first}
+use Rattle.base.specs.First.{first, firstOf, firstOther}
 use Rattle.base.specs.Lists.{byteAt, part, same}
 use Rattle.base.specs.Spans.{span}
 use Rattle.base.specs.declared.Span.{Span}
-use Rattle.base.proofs.Searches.{first-from, first-by}
+use Rattle.base.proofs.Searches.{first-from, first-by, first-out, first-stop, first-more}
+use Rattle.base.proofs.Parts.{part-is, part-length, take-part, drop-part}
 use Rattle.text.specs.White.{isWhite, trimStart}
 use Rattle.text.proofs.Trims.{start-from, start-plain}
-use Rattle.definition.specs.Bytes.{firstOf, firstOther}
 use Rattle.definition.specs.declared.Value.the-variants.{Given, Missing}
 use Rattle.definition.specs.Attributes.{wordEnd, wordsIn, wordsOf, equalsAt, endWithout, stripped, bare, valueIn, attrValue}
 use Rattle.definition.specs.Lines.{bytesOf}
 use Rattle.definition.specs.Parts.{valueBytes}
-use Rattle.definition.proofs.Firsts.{first-out, first-stop, first-more}
-use Rattle.definition.proofs.Parts.{part-is, part-length, take-part, drop-part, without-from, without-by, equals-shift, stripped-shift}
+use Rattle.definition.proofs.Parts.{without-from, without-by, equals-shift, stripped-shift}
 
 -- where a word ends --------------------------------------------------------------------------------------------------------------
 
@@ -45,9 +44,6 @@ pub ruleset word-laws = (word-start, word-out, word-stop, word-more)
 module _ (b : ℕ) (s : List ℕ) (a e : ℕ) {r : ℕ} where
   pub find-ge : r ≡ firstOf b s a e → a ≤ r
   find-ge p = omega (arith, first-from (λ i. eqb (byteAt s i) b) (e - a) a)
-
-  pub skip-ge : r ≡ firstOther b s a e → a ≤ r
-  skip-ge p = omega (arith, first-from (λ i. not (eqb (byteAt s i) b)) (e - a) a)
 
   pub skip-le : r ≡ firstOther b s a e → a ≤ e → r ≤ e
   skip-le p h = omega (arith, first-by (λ i. not (eqb (byteAt s i) b)) (e - a) a)

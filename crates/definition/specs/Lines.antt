@@ -5,12 +5,11 @@ use mathlib.Core.Bool.{Bool, false, not, _&&_, _||_}
 use lib.ListN.{length}
 use lib.Dec.{eqb, ltb}
 use Rattle.base.specs.Pick.{pick}
-use Rattle.base.specs.First.{first}
+use Rattle.base.specs.First.{first, firstOf, firstOther}
 use Rattle.base.specs.Lists.{byteAt, isAt, part}
 use Rattle.base.specs.declared.Span.{Span}
 use Rattle.item.specs.declared.Item.{Item}
 use Rattle.lookup.specs.Groups.{Group}
-use Rattle.definition.specs.Bytes.{firstOf, firstOther}
 
 -- the first LF from `a` on; `e` where none stands before it
 unfoldable pub breakAt : List ℕ → ℕ → ℕ → ℕ

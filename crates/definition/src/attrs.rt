@@ -1,12 +1,12 @@
 // The attributes of a definition line (`attr_value`): words `name=value` parted by white space.
 use crate::Value;
-use crate::bytes;
 use base::Span;
+use base::bytes;
 ghost use mathlib.Core.Path.{_≡_};
-ghost use Prim.Native.Nat.{_+_, _≤_};
+ghost use Prim.Native.Nat.{_+_, _-_, _≤_};
 ghost use lib.ListN.{length};
 ghost use Rattle.base.specs.Lists.{part, same};
-ghost use Rattle.definition.specs.Attributes.{wordEnd, bare, attrValue};
+ghost use Rattle.definition.specs.Attributes.{wordEnd, endWithout, bare, attrValue};
 ghost use Rattle.definition.specs.Lines.{bytesOf};
 ghost use Rattle.definition.specs.Parts.{valueBytes, ValueWithin};
 
@@ -24,6 +24,22 @@ fn word_end(attributes: &[u8], from: usize) -> usize
     i
 }
 
+// Where the stretch from `a` to `e` ends without the bytes `b` at its end.
+fn end_without(s: &[u8], b: u8, a: usize, e: usize) -> usize
+    requires { ⌜ e ≤ length (now s) ⌝ }
+    ensures { λ r. ⌜ r ≡ endWithout b (now (s .entry)) a (e - a) ⌝ }
+{
+    let mut i = e;
+    while a < i {
+        if s[i - 1] == b {
+            i -= 1;
+        } else {
+            return i;
+        }
+    }
+    a
+}
+
 // The value from `a` to `e` without double quotes, then without single ones, at both ends.
 fn bare_value(attributes: &[u8], a: usize, e: usize) -> Span
     requires { ⌜ (a ≤ e) × (e ≤ length (now attributes)) ⌝ }
@@ -31,9 +47,9 @@ fn bare_value(attributes: &[u8], a: usize, e: usize) -> Span
     ensures within { λ r. ⌜ r .at + r .len ≤ length (now (attributes .entry)) ⌝ }
 {
     let from = bytes::skip_byte(attributes, b'"', a, e);
-    let to = bytes::end_without(attributes, b'"', from, e);
+    let to = end_without(attributes, b'"', from, e);
     let start = bytes::skip_byte(attributes, b'\'', from, to);
-    let end = bytes::end_without(attributes, b'\'', start, to);
+    let end = end_without(attributes, b'\'', start, to);
     Span {
         at: start,
         len: end - start,

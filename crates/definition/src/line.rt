@@ -1,6 +1,6 @@
 // Definition lines: where they begin, and where their attributes lie.
-use crate::bytes;
 use base::Span;
+use base::bytes;
 ghost use mathlib.Core.Path.{_≡_};
 ghost use Prim.Native.Nat.{_+_, _≤_, _<_};
 ghost use lib.ListN.{length};

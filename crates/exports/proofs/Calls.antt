@@ -28,7 +28,7 @@ use denote.Steps.{owned, nothing}
 use denote.Triple.Spec.{tripleOf}
 use denote.Triple.Statement.{Contract, Triple}
 use Rattle.pairs.proofs.Lent.{at-list, lent, back}
-use Rattle.pairs.proofs.Calling.{beside, calls-row, last-list, no-last}
+use Rattle.base.proofs.Calling.{beside, calls-row, last-list, no-last}
 use Rattle.exports.proofs.has_room as room
 use Rattle.exports.proofs.has_room.Symbol.{name as #exports·has-room}
 

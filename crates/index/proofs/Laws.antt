@@ -9,6 +9,8 @@ use lib.Dec.{eqb}
 use borrow.Author.Tests.{eq-eqb, ne-eqb, lt-ltb, le-ltb, ltb-true, eqb-true, not-true}
 use Rattle.base.specs.Pick.{pick}
 use Rattle.base.specs.Lists.{byteAt}
+use Rattle.base.proofs.Bools.{and-left, and-right}
+use Rattle.base.proofs.Picks.{pick-yes, pick-no, pick-eq, pick-ne}
 use Rattle.text.specs.White.{isWhite}
 use Rattle.text.proofs.Whites.{white-ascii}
 use Rattle.key.specs.Keys.{keyEnd}
@@ -45,7 +47,6 @@ use Rattle.index.specs.Scan.{
   partPlan,
   passPlan,
 }
-use Rattle.index.proofs.Tokens.{and-left, and-right}
 
 -- the bracket records
 module _ (b : Bracket) (r n : ℕ) where
@@ -83,19 +84,6 @@ module _ (r : Reads) where
   pub reach-comma : (r .end ≡ r .content → ⊥) → r .comma ≡ reach r
   unfolding reach
   reach-comma e = rw (ne-eqb (r .end) (r .content) e) (omega arith)
-
--- a choice by a test `b` that a call gave
-pub pick-yes : (t : Bool) (x y : ℕ) {b : Bool} → b ≡ t → b ≡ true → x ≡ pick t x y
-pick-yes t x y p q = rw (← p, q)
-
-pub pick-no : (t : Bool) (x y : ℕ) {b : Bool} → b ≡ t → b ≡ false → y ≡ pick t x y
-pick-no t x y p q = rw (← p, q)
-
-pub pick-eq : (k b x y : ℕ) {a : ℕ} → a ≡ b → a ≡ k → x ≡ pick (eqb b k) x y
-pick-eq k b x y p q = rw (← p, eq-eqb _ _ q)
-
-pub pick-ne : (k b x y : ℕ) {a : ℕ} → a ≡ b → (a ≡ k → ⊥) → y ≡ pick (eqb b k) x y
-pick-ne k b x y p q = rw (← p, ne-eqb _ _ q)
 
 -- what is known after a byte
 pub sign-here : (b : ℕ) (e : Bool) → eqb b 64 && not e ≡ true → b ≡ 64

@@ -1,17 +1,19 @@
 -- What the code's needs cite, each law in the form of a need: premises are what the loop's invariant, the callees and the branches say.
-use Prim.Native.Nat.{ℕ, zero, suc, _+_, _-_, _≤_, _<_}
+use Prim.Native.Nat.{ℕ, _+_, _-_, _≤_, _<_}
 use native.Mathlib.Omega.{arith}
 use mathlib.Core.Path.{_≡_, refl, sym, _∙_, ap}
 use mathlib.Core.List.{List}
-use mathlib.Core.Bool.{Bool, true, false, _&&_, _||_, not, or-false}
+use mathlib.Core.Bool.{Bool, true, false, _&&_, not, or-false}
 use lib.ListN.{length}
 use lib.Dec.{eqb, ltb}
 use borrow.Author.Tests.{eq-eqb, ne-eqb, lt-ltb, le-ltb, ltb-true}
 use Rattle.base.specs.Pick.{pick}
 use Rattle.base.specs.Lists.{byteAt}
-use Rattle.base.specs.First.{first}
+use Rattle.base.specs.First.{first, firstOf}
 use Rattle.base.specs.declared.Span.{Span}
 use Rattle.base.specs.Spans.{spanOf}
+use Rattle.base.proofs.Bools.{and-left}
+use Rattle.base.proofs.Searches.{first-out, first-stop, first-more}
 use Rattle.text.specs.Escape.{escapedAt}
 use Rattle.text.specs.White.{trimStart, trimEnd}
 use Rattle.text.proofs.Trims.{end-by}
@@ -20,7 +22,6 @@ use Rattle.key.proofs.Laws.{key-by}
 use Rattle.locator.specs.declared.Locator.{Locator}
 use Rattle.locator.specs.Locators.{locatorOf}
 use Rattle.item.specs.declared.Item.{Item}
-use Rattle.item.specs.declared.Parsed.{Parsed}
 use Rattle.item.specs.declared.Parsed.the-variants.{Good, Bad}
 use Rattle.item.specs.Items.{
   atSign,
@@ -36,29 +37,10 @@ use Rattle.item.specs.Items.{
   isGood,
 }
 use Rattle.item.specs.Pieces.{partsAt, integralAt, itemsStart}
-use Rattle.item.proofs.Parts.{and-left}
 
 abbrev item : Span → Span → Span → Locator → Bool → Item
 item prefix key whole locator suppressed =
     record { prefix = prefix; key = key; whole = whole; locator = locator; suppressed = suppressed }
-
--- a search from `i` to `e` at a place: `w` is what the loop's invariant speaks of, `b` what the test gave ----------------------------
-
-module _ (f : ℕ → Bool) (e i : ℕ) {w : ℕ} (p : w ≡ first f (e - i) i) where
-  pub search-out : e ≤ i → i ≡ w
-  unfolding first
-  search-out h = let z : e - i ≡ 0 = omega arith in sym (p ∙ rw z)
-
-  more : i < e → e - i ≡ suc (e - (i + 1))
-  more h = omega arith
-
-  pub search-hit : {b : Bool} → i < e → b ≡ f i → b ≡ true → i ≡ w
-  unfolding first
-  search-hit h q t = sym (p ∙ rw (more h, sym q ∙ t))
-
-  pub search-miss : {b : Bool} → i < e → b ≡ f i → b ≡ false → w ≡ first f (e - (i + 1)) (i + 1)
-  unfolding first
-  search-miss h q t = p ∙ rw (more h, sym q ∙ t)
 
 -- the leading `+` ------------------------------------------------------------------------------------------------------------------
 
@@ -77,17 +59,9 @@ module _ (s : List ℕ) (p : ℕ) {b : Bool} (q : b ≡ integralAt s p) where
 
 -- the end of a piece ---------------------------------------------------------------------------------------------------------------
 
-module _ (s : List ℕ) (e i : ℕ) {w : ℕ} (p : w ≡ first (partsAt s) (e - i) i) where
-  pub piece-out : e ≤ i → i ≡ w
-  piece-out h = search-out (partsAt s) e i p h
-
-  pub piece-here : i < e → byteAt s i ≡ 59 → i ≡ w
-  unfolding partsAt
-  piece-here h q = search-hit (partsAt s) e i p h (sym (eq-eqb _ _ q)) refl
-
-  pub piece-on : i < e → (byteAt s i ≡ 59 → ⊥) → w ≡ first (partsAt s) (e - (i + 1)) (i + 1)
-  unfolding partsAt
-  piece-on h q = search-miss (partsAt s) e i p h (sym (ne-eqb _ _ q)) refl
+pub piece-is : (s : List ℕ) (a e : ℕ) {r : ℕ} → r ≡ firstOf 59 s a e → r ≡ first (partsAt s) (e - a) a
+unfolding partsAt
+piece-is s a e p = p
 
 -- the `@` that wins ----------------------------------------------------------------------------------------------------------------
 
@@ -121,20 +95,20 @@ module _ (s : List ℕ) (e i : ℕ) where
 module _ (s : List ℕ) (e i : ℕ) {w : ℕ} (p : w ≡ winner s i e) where
   pub winner-out : e ≤ i → i ≡ w
   unfolding winner
-  winner-out h = search-out (wins s e) e i p h
+  winner-out h = first-out (wins s e) i e p h
 
   pub winner-here : {b : Bool} → i < e → b ≡ wins s e i → b ≡ true → i ≡ w
   unfolding winner
-  winner-here h q t = search-hit (wins s e) e i p h q t
+  winner-here h q t = first-stop (wins s e) i e p h (sym q ∙ t)
 
   pub winner-on : {b : Bool} → i < e → b ≡ wins s e i → b ≡ false → w ≡ winner s (i + 1) e
   unfolding winner
-  winner-on h q t = search-miss (wins s e) e i p h q t
+  winner-on h q t = first-more (wins s e) i e p h (sym q ∙ t)
 
 -- the item -------------------------------------------------------------------------------------------------------------------------
 
 -- in the trimmed stretch from `a` to `e`
-in-good : (s : List ℕ) (a e : ℕ) → isGood (itemIn s a e) ≡ ltb (winner s a e) e
+pub in-good : (s : List ℕ) (a e : ℕ) → isGood (itemIn s a e) ≡ ltb (winner s a e) e
 unfolding itemIn
 in-good s a e = go (ltb (winner s a e) e) (itemAt s a e (winner s a e) (keyEnd s (winner s a e + 1)))
   where
@@ -217,9 +191,6 @@ pub ruleset laws = (
   integral-is,
   after-plus,
   after-bracket,
-  piece-out,
-  piece-here,
-  piece-on,
   serves-none,
   serves-comma,
   serves-end,

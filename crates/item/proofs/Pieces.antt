@@ -9,8 +9,8 @@ use lib.Dec.{ltb}
 use borrow.Author.Tests.{ltb-true, ltb-false}
 use Rattle.base.specs.Pick.{pick}
 use Rattle.base.specs.First.{first}
+use Rattle.base.proofs.Bools.{and-left, and-right}
 use Rattle.base.proofs.Searches.{first-from, first-by}
-use Rattle.item.specs.declared.Item.{Item}
 use Rattle.item.specs.declared.Parsed.{Parsed}
 use Rattle.item.specs.declared.Parsed.the-variants.{Good, Bad}
 use Rattle.item.specs.Items.{itemOf, isGood}
@@ -28,7 +28,6 @@ use Rattle.item.specs.Pieces.{
   kept,
   itemsIn,
 }
-use Rattle.item.proofs.Parts.{and-left, and-right}
 
 -- a piece that began at `a` and goes on at `i`, with a `;` among the `n` bytes left
 in-more : (n : ℕ) (s : List ℕ) (a i q : ℕ) → q ≡ first (partsAt s) n i → q < i + n
@@ -93,14 +92,6 @@ module _ (s : List ℕ) (a e : ℕ) {q : ℕ} (p : q ≡ first (partsAt s) (e - 
   pub items-last : e ≤ q → itemsIn s (pieces s a e) ≡ kept (itemOf s a q) []
   unfolding itemsIn parsed
   items-last h = rw (pieces-last h)
-
-  -- where the first piece is a good item
-  module _ {it : Item} (g : itemOf s a q ≡ Good it) where
-    pub items-good-more : q < e → itemsIn s (pieces s a e) ≡ it ∷ itemsIn s (pieces s (q + 1) e)
-    items-good-more h = items-more h ∙ rw g
-
-    pub items-good-last : e ≤ q → itemsIn s (pieces s a e) ≡ it ∷ []
-    items-good-last h = items-last h ∙ rw g
 
   -- where all pieces are good, the first is, and so are those after it
   pub first-good : allGood s (pieces s a e) ≡ true → isGood (itemOf s a q) ≡ true

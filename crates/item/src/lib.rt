@@ -1,9 +1,9 @@
 // One item of a group, and the judgement on all items between a bracket and its close.
 use base::Span;
+use base::span_of;
 use key::parse_key;
 use locator::Locator;
 use locator::parse_locator;
-use locator::span_of;
 use text::byte_at;
 use text::is_escaped_at;
 use text::trim_end;
@@ -68,14 +68,7 @@ pub fn piece_end(text: &[u8], from: usize, end: usize) -> usize
     requires { ⌜ end ≤ length (now text) ⌝ }
     ensures { λ r. ⌜ r ≡ first (partsAt (now (text .entry))) (end - from) from ⌝ }
 {
-    let mut i = from;
-    while i < end {
-        if text[i] == 59 {
-            return i;
-        }
-        i += 1;
-    }
-    i
+    base::bytes::find_byte(text, b';', from, end)
 }
 
 // Whether a key from `k` up to `m` ends the trimmed item at `e` or meets `,`.

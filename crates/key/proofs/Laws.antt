@@ -5,13 +5,14 @@ use native.Mathlib.Numerals.{add-one}
 use native.Mathlib.Omega.{arith}
 use mathlib.Core.Path.{_≡_, refl, sym, _∙_}
 use mathlib.Core.List.{List, [], _∷_}
-use mathlib.Core.Bool.{Bool, true, false, _&&_, _||_, true≢false}
-use lib.ListN.{length, getD, drop, drop-of-length-le, length-drop}
+use mathlib.Core.Bool.{Bool, true, false, _||_}
+use lib.ListN.{length, drop, drop-of-length-le, length-drop}
 use lib.Seq.{drop-cons}
 use lib.Dec.{ltb}
 use borrow.Author.Tests.{lt-ltb, le-ltb, ltb-true}
 use Rattle.base.specs.Pick.{pick}
 use Rattle.base.specs.Lists.{byteAt}
+use Rattle.base.proofs.Bools.{and-left}
 use Rattle.key.specs.Keys.{isFirst, isMark, isKey, keyRun, runEnd, startsKey, keyEnd}
 
 pub key-or : (b : ℕ) {f m : Bool} → f ≡ isFirst b → m ≡ isMark b → f || m ≡ isKey b
@@ -47,10 +48,6 @@ pub ruleset laws = (key-or, run-out, run-stop, run-more, key-out, key-not, key-y
 
 -- where a key ends ---------------------------------------------------------------------------------------------------------------
 
-pub run-from : (s : List ℕ) (i : ℕ) → i ≤ runEnd s i
-unfolding runEnd
-run-from s i = omega arith
-
 run-fits : (l : List ℕ) → keyRun l ≤ length l
 unfolding keyRun
 run-fits [] = omega arith
@@ -64,43 +61,11 @@ pub run-by : (s : List ℕ) (i : ℕ) → i ≤ length s → runEnd s i ≤ leng
 unfolding runEnd
 run-by s i h = omega (arith, run-fits (drop i s), length-drop i s)
 
--- a key ends no earlier than it begins
-pub key-from : (s : List ℕ) (i : ℕ) → i ≤ keyEnd s i
-unfolding keyEnd
-key-from s i = go (startsKey s i)
-  where
-    go : (t : Bool) → i ≤ pick t (runEnd s (i + 1)) i
-    go true = omega (arith, run-from s (i + 1))
-    go false = omega arith
-
 -- and in the text
 pub key-by : (s : List ℕ) (i : ℕ) → i ≤ length s → keyEnd s i ≤ length s
 unfolding keyEnd
 key-by s i h = go (startsKey s i) refl
   where
     go : (t : Bool) → startsKey s i ≡ t → pick t (runEnd s (i + 1)) i ≤ length s
-    go true q = run-by s (i + 1) (there (ltb i (length s)) refl q)
-      where
-        there : (t : Bool) → ltb i (length s) ≡ t → t && isFirst (byteAt s i) ≡ true → i + 1 ≤ length s
-        there true p q = let l = ltb-true i (length s) p in omega arith
-        there false p q = absurd (true≢false (sym q))
+    go true q = let l = ltb-true i (length s) (and-left (ltb i (length s)) _ q) in run-by s (i + 1) (omega arith)
     go false q = h
-
--- a key has a byte exactly where one begins
-pub key-longer : (s : List ℕ) (i : ℕ) → startsKey s i ≡ true → i < keyEnd s i
-unfolding keyEnd
-key-longer s i q = rw q (omega (arith, run-from s (i + 1)))
-
-pub key-none : (s : List ℕ) (i : ℕ) → startsKey s i ≡ false → keyEnd s i ≡ i
-unfolding keyEnd
-key-none s i q = rw q
-
--- the same of what a call gave
-module _ (s : List ℕ) (i : ℕ) {r : ℕ} (p : r ≡ keyEnd s i) where
-  pub key-ge : i ≤ r
-  key-ge = omega (arith, key-from s i)
-
-  pub key-le : i ≤ length s → r ≤ length s
-  key-le h = omega (arith, key-by s i h)
-
-pub ruleset key-bounds = (key-ge, key-le)

@@ -12,13 +12,13 @@ use borrow.Author.Tests.{ltb-true, ltb-false, ne-eqb, lt-leb}
 use Rattle.base.specs.Pick.{pick}
 use Rattle.base.specs.First.{first}
 use Rattle.base.specs.Lists.{byteAt}
+use Rattle.base.proofs.Bools.{split}
 use Rattle.text.specs.White.{isWhite, trimStart, contentEnd, trimEnd}
 use Rattle.text.proofs.Whites.{white-ascii}
 use Rattle.pool.specs.Numbers.{signed}
 use Rattle.decimal.specs.Decimal.{digitCount, countIn, lastDigits, decimal}
 use Rattle.decimal.proofs.Laws.{decimal-length}
 use Rattle.source.specs.Decimal.{signedDecimal}
-use Rattle.label.proofs.Joins.{split}
 
 -- from `-` to `9`
 InDecimal : ℕ → Type 0

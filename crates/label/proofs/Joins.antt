@@ -5,39 +5,19 @@ use native.Mathlib.Numerals.{add-one}
 use mathlib.Core.Path.{_≡_, refl, sym, _∙_, ap}
 use mathlib.Core.List.{List, _∷_, _++_}
 use mathlib.Core.Logic.{_⊎_, inl, inr}
-use mathlib.Core.Bool.{Bool, true, false, not, _||_, false-and, and-false, or-false}
-use lib.ListN.{length, take, drop, length-append, length-drop, List·getD-append, List·getD-eq-default}
+use mathlib.Core.Bool.{Bool, true, false, not, _||_, or-false}
+use lib.ListN.{length, take, drop, length-append, length-drop, List·getD-append}
 use lib.Seq.{getD-append-seam, getD-append-add, take-append-le, drop-append-le, take-append-add, drop-append-add}
 use lib.Dec.{ltb}
-use borrow.Author.Tests.{ne-eqb, lt-ltb, le-ltb, lt-leb, ltb-true, ltb-false}
-use Rattle.base.specs.Pick.{pick}
+use borrow.Author.Tests.{lt-ltb, le-ltb, ltb-true, ltb-false}
 use Rattle.base.specs.First.{first}
 use Rattle.base.specs.Lists.{byteAt, part}
-use Rattle.text.specs.White.{whiteOne, whiteTwo, whiteThree, spaceWidth, isWhite, trimStart, contentEnd, trimEnd, trim}
-use Rattle.text.proofs.Whites.{white-ascii}
-use Rattle.text.proofs.Trims.{start-by, end-from, end-by}
-use Rattle.definition.proofs.Parts.{part-is, first-shift}
-
--- the width of a White_Space character, by its bytes
-unfoldable widthBy : ℕ → ℕ → ℕ → ℕ
-widthBy a b c = pick (whiteOne a) 1 (pick (whiteTwo a b) 2 (pick (whiteThree a b c) 3 0))
-
-width-is : (s : List ℕ) (i : ℕ) → spaceWidth s i ≡ widthBy (byteAt s i) (byteAt s (i + 1)) (byteAt s (i + 2))
-unfolding spaceWidth widthBy
-width-is s i = refl
-
--- a byte below 128 is no later byte of a white character
-width-second : (a b c : ℕ) → b < 128 → widthBy a b c ≡ pick (whiteOne a) 1 0
-unfolding widthBy
-width-second a b c h = simp (ne-eqb b 0x85 (omega arith), ne-eqb b 0xA0 (omega arith), ne-eqb b 0x9A (omega arith), ne-eqb b 0x80 (omega arith), ne-eqb b 0x81 (omega arith), and-false)
-
-width-third : (a b c : ℕ) → c < 128 → widthBy a b c ≡ pick (whiteOne a) 1 (pick (whiteTwo a b) 2 0)
-unfolding widthBy
-width-third a b c h = simp (ne-eqb c 0x80 (omega arith), ne-eqb c 0xA8 (omega arith), ne-eqb c 0xA9 (omega arith), ne-eqb c 0xAF (omega arith), ne-eqb c 0x9F (omega arith), lt-leb 0x80 c (omega arith), false-and, and-false, or-false)
-
-pub split : (t : Bool) → (t ≡ true) ⊎ (t ≡ false)
-split true = inl refl
-split false = inr refl
+use Rattle.base.proofs.Bools.{split}
+use Rattle.base.proofs.Searches.{first-near, first-far, first-shift}
+use Rattle.base.proofs.Parts.{byte-past, part-is}
+use Rattle.text.specs.White.{spaceWidth, isWhite, trimStart, contentEnd, trimEnd, trim}
+use Rattle.text.proofs.Whites.{widthBy, width-is, width-second, width-third, second-by, white-ascii}
+use Rattle.text.proofs.Trims.{start-by, end-from, end-by, content-after, content-before, content-shift}
 
 -- the tests of `isWhite` at the start of a list, where the places before stop at 0
 test-first : (w : ℕ) → (ltb 0 w || ltb 1 w || ltb 2 w) ≡ ltb 0 w
@@ -69,9 +49,6 @@ module _ (A Y : List ℕ) where
   byte-right : (i j : ℕ) → i ≡ length A + suc j → byteAt Join i ≡ byteAt Y j
   byte-right i j e = rw e (getD-append-add A (32 ∷ Y) (suc j) 0)
 
-  byte-none : (i : ℕ) → length A ≤ i → byteAt A i ≡ 0
-  byte-none i h = List·getD-eq-default A 0 h
-
   -- in the first list
   width-left : (i : ℕ) → i < length A → spaceWidth Join i ≡ spaceWidth A i
   width-left i h = go (split (ltb (i + 1) (length A))) (split (ltb (i + 2) (length A)))
@@ -80,12 +57,12 @@ module _ (A Y : List ℕ) where
           → spaceWidth Join i ≡ spaceWidth A i
       go (inr p) r =
           let q = ltb-false (i + 1) (length A) p in
-          rw (width-is Join i, width-is A i, byte-left i h, byte-space (i + 1) (omega arith), byte-none (i + 1) (omega arith))
+          rw (width-is Join i, width-is A i, byte-left i h, byte-space (i + 1) (omega arith), ← byte-past A (i + 1) (omega arith))
           (width-second (byteAt A i) 32 (byteAt Join (i + 2)) (omega arith) ∙ sym (width-second (byteAt A i) 0 (byteAt A (i + 2)) (omega arith)))
       go (inl p) (inr r) =
           let q = ltb-true (i + 1) (length A) p in
           let z = ltb-false (i + 2) (length A) r in
-          rw (width-is Join i, width-is A i, byte-left i h, byte-left (i + 1) q, byte-space (i + 2) (omega arith), byte-none (i + 2) (omega arith))
+          rw (width-is Join i, width-is A i, byte-left i h, byte-left (i + 1) q, byte-space (i + 2) (omega arith), ← byte-past A (i + 2) (omega arith))
           (width-third (byteAt A i) (byteAt A (i + 1)) 32 (omega arith) ∙ sym (width-third (byteAt A i) (byteAt A (i + 1)) 0 (omega arith)))
       go (inl p) (inl r) =
           let q = ltb-true (i + 1) (length A) p in
@@ -108,14 +85,8 @@ module _ (A Y : List ℕ) where
   width-before : (i : ℕ) → i ≡ length A - 1 → spaceWidth Join i ≤ 1
   width-before i e = go (split (ltb i (length A)))
     where
-      small : (t : Bool) → pick t 1 0 ≤ 1
-      small true = omega arith
-      small false = omega arith
-
       go : (ltb i (length A) ≡ true) ⊎ (ltb i (length A) ≡ false) → spaceWidth Join i ≤ 1
-      go (inl p) =
-          let q = ltb-true i (length A) p in
-          rw (width-is Join i, byte-space (i + 1) (omega arith), width-second (byteAt Join i) 32 (byteAt Join (i + 2)) (omega arith)) (small (whiteOne (byteAt Join i)))
+      go (inl p) = let q = ltb-true i (length A) p in second-by Join i (rw (byte-space (i + 1) (omega arith)) (omega arith))
       go (inr p) = let q = ltb-false i (length A) p in rw (width-space i (omega arith)) (omega arith)
 
   -- in the second list
@@ -132,70 +103,6 @@ module _ (A Y : List ℕ) where
       (sym (test-second (ltb 0 (spaceWidth Y 1)) (spaceWidth Y 0)))
   white-right i (suc (suc j)) e =
       rw (width-right i (suc (suc j)) e, width-right (i - 1) (suc (suc j) - 1) (omega arith), width-right (i - 2) (suc (suc j) - 2) (omega arith)) refl
-
--- searches, cut in two
-first-before : (f : ℕ → Bool) (n m i : ℕ) → first f n i < i + n → first f (n + m) i ≡ first f n i
-unfolding first
-first-before f zero m i h = absurd (omega arith)
-first-before f (suc n) m i h = let z : suc n + m ≡ suc (n + m) = omega arith in rw z (go (f i) h (first-before f n m (i + 1)))
-  where
-    go : (t : Bool) → pick t i (first f n (i + 1)) < i + suc n → (first f n (i + 1) < i + 1 + n → first f (n + m) (i + 1) ≡ first f n (i + 1))
-        → pick t i (first f (n + m) (i + 1)) ≡ pick t i (first f n (i + 1))
-    go true q rec = refl
-    go false q rec = rec (omega arith)
-
-first-after : (f : ℕ → Bool) (n m i : ℕ) → i + n ≤ first f n i → first f (n + m) i ≡ first f m (i + n)
-unfolding first
-first-after f zero m i h = let z : 0 + m ≡ m = omega arith in let y : i + 0 ≡ i = omega arith in rw (z, y) refl
-first-after f (suc n) m i h = let z : suc n + m ≡ suc (n + m) = omega arith in rw z (go (f i) h (first-after f n m (i + 1)))
-  where
-    y : i + 1 + n ≡ i + suc n
-    y = omega arith
-
-    go : (t : Bool) → i + suc n ≤ pick t i (first f n (i + 1)) → (i + 1 + n ≤ first f n (i + 1) → first f (n + m) (i + 1) ≡ first f m (i + 1 + n))
-        → pick t i (first f (n + m) (i + 1)) ≡ first f m (i + suc n)
-    go true q rec = absurd (omega arith)
-    go false q rec = rec (omega arith) ∙ ap (first f m) y
-
--- the end of the content, cut in two
-content-after : (s : List ℕ) (a n m : ℕ) → a + n < contentEnd s (a + n) m → contentEnd s a (n + m) ≡ contentEnd s (a + n) m
-unfolding contentEnd
-content-after s a n zero h = absurd (omega arith)
-content-after s a n (suc m) h = let z : n + suc m ≡ suc (n + m) = omega arith in rw (z, y) (go (isWhite s (a + n + m)) h (content-after s a n m))
-  where
-    y : a + (n + m) ≡ a + n + m
-    y = omega arith
-
-    go : (t : Bool) → a + n < pick t (contentEnd s (a + n) m) (suc (a + n + m)) → (a + n < contentEnd s (a + n) m → contentEnd s a (n + m) ≡ contentEnd s (a + n) m)
-        → pick t (contentEnd s a (n + m)) (suc (a + n + m)) ≡ pick t (contentEnd s (a + n) m) (suc (a + n + m))
-    go true q rec = rec q
-    go false q rec = refl
-
-content-before : (s : List ℕ) (a n m : ℕ) → contentEnd s (a + n) m ≤ a + n → contentEnd s a (n + m) ≡ contentEnd s a n
-unfolding contentEnd
-content-before s a n zero h = let z : n + 0 ≡ n = omega arith in rw z refl
-content-before s a n (suc m) h = let z : n + suc m ≡ suc (n + m) = omega arith in rw (z, y) (go (isWhite s (a + n + m)) h (content-before s a n m))
-  where
-    y : a + (n + m) ≡ a + n + m
-    y = omega arith
-
-    go : (t : Bool) → pick t (contentEnd s (a + n) m) (suc (a + n + m)) ≤ a + n → (contentEnd s (a + n) m ≤ a + n → contentEnd s a (n + m) ≡ contentEnd s a n)
-        → pick t (contentEnd s a (n + m)) (suc (a + n + m)) ≡ contentEnd s a n
-    go true q rec = rec q
-    go false q rec = absurd (omega arith)
-
--- the same bytes are white in two stretches, the one in `s` being `d` places further
-content-shift : (s t : List ℕ) (d x n : ℕ) → ((j : ℕ) → j < x + n → isWhite t j ≡ isWhite s (j + d)) → contentEnd t x n + d ≡ contentEnd s (x + d) n
-unfolding contentEnd
-content-shift s t d x zero h = refl
-content-shift s t d x (suc n) h = rw (y, h (x + n) (omega arith)) (go (isWhite s (x + n + d)) (content-shift s t d x n (λ j l. h j (omega arith))))
-  where
-    y : x + d + n ≡ x + n + d
-    y = omega arith
-
-    go : (b : Bool) → contentEnd t x n + d ≡ contentEnd s (x + d) n → pick b (contentEnd t x n) (suc (x + n)) + d ≡ pick b (contentEnd s (x + d) n) (suc (x + n + d))
-    go true r = r
-    go false r = omega arith
 
 module _ (A Y : List ℕ) where
   left : (j : ℕ) → j < length A → isWhite A j ≡ isWhite (Join A Y) (j + 0)
@@ -217,7 +124,7 @@ module _ (A Y : List ℕ) where
   start-first h =
       let z : length (Join A Y) - 0 ≡ length A + (1 + length Y) = omega (arith, join-length A Y) in
       let f = first-left in
-      rw z (first-before (λ i. not (isWhite (Join A Y) i)) (length A) (1 + length Y) 0 (omega arith) ∙ f)
+      rw z (first-near (λ i. not (isWhite (Join A Y) i)) (length A) (1 + length Y) 0 (omega arith) ∙ f)
 
   first-space : first (λ i. not (isWhite (Join A Y) i)) (1 + length Y) (length A) ≡ first (λ i. not (isWhite (Join A Y) i)) (length Y) (length A + 1)
   unfolding first
@@ -232,7 +139,7 @@ module _ (A Y : List ℕ) where
       let x : 0 + length A ≡ length A = omega arith in
       let w : length A + 1 ≡ 0 + (length A + 1) = omega arith in
       rw (z, y)
-      (first-after (λ i. not (isWhite (Join A Y) i)) (length A) (1 + length Y) 0 (omega arith)
+      (first-far (λ i. not (isWhite (Join A Y) i)) (length A) (1 + length Y) 0 (omega arith)
       ∙ ap (first (λ i. not (isWhite (Join A Y) i)) (1 + length Y)) x
       ∙ first-space
       ∙ ap (first (λ i. not (isWhite (Join A Y) i)) (length Y)) w

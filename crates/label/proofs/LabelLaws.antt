@@ -1,5 +1,5 @@
 -- The label by author and year, trimmed piece by piece, in the form of the needs.
-use Prim.Native.Nat.{ℕ, zero, suc, _+_, _-_, _≤_, _<_}
+use Prim.Native.Nat.{ℕ, _+_, _-_, _≤_, _<_}
 use native.Mathlib.Omega.{arith}
 use mathlib.Core.Path.{_≡_, refl, ap, sym, _∙_}
 use mathlib.Core.List.{List, [], _∷_, _++_}
@@ -9,11 +9,11 @@ use lib.ListN.{length, take, drop, length-append, length-drop}
 use lib.Dec.{ltb}
 use lib.Seq.{take-all, take-length, length-take-le}
 use borrow.Author.Tests.{eq-eqb, ne-eqb, ltb-true, ltb-false}
-use Rattle.base.specs.Pick.{pick}
 use Rattle.base.specs.Lists.{part}
 use Rattle.base.specs.declared.Span.{Span}
+use Rattle.base.proofs.Parts.{part-is, part-length}
 use Rattle.text.specs.White.{isWhite, trimStart, contentEnd, trimEnd, trim}
-use Rattle.text.proofs.Trims.{start-by, start-plain, end-from, end-by}
+use Rattle.text.proofs.Trims.{start-by, start-plain, end-from, end-by, content-behind}
 use Rattle.pool.specs.Numbers.{signed}
 use Rattle.pool.specs.Entries.{bytesOr}
 use Rattle.source.specs.Text.{isEmpty}
@@ -22,7 +22,6 @@ use Rattle.definition.specs.declared.Author.{Author}
 use Rattle.definition.specs.declared.Year.{Year}
 use Rattle.definition.specs.declared.Year.the-variants.{InText, InPool, Number, Missing}
 use Rattle.definition.specs.Parts.{authorGiven, yearBytes, yearPart}
-use Rattle.definition.proofs.Parts.{part-is, part-length}
 use Rattle.label.specs.Areas.{fitted}
 use Rattle.label.specs.Labels.{orNumber, authorYear, yearOnly, labelBy}
 use Rattle.label.proofs.Joins.{trim-both, trim-first, trim-second}
@@ -40,24 +39,13 @@ some-left : (s : List ℕ) → 0 < length s → isEmpty s ≡ false
 some-left [] h = absurd (omega arith)
 some-left (x ∷ xs) h = refl
 
--- content that begins with a byte that is not white has that byte
-content-some : (s : List ℕ) (a n : ℕ) → isWhite s a ≡ false → 0 < n → a < contentEnd s a n
-unfolding contentEnd
-content-some s a zero p h = absurd (omega arith)
-content-some s a (suc zero) p h = let z : a + 0 ≡ a = omega arith in rw (z, p) (omega arith)
-content-some s a (suc (suc n)) p h = go (isWhite s (a + suc n)) (content-some s a (suc n) p (omega arith))
-  where
-    go : (t : Bool) → a < contentEnd s a (suc n) → a < pick t (contentEnd s a (suc n)) (suc (a + suc n))
-    go true r = r
-    go false r = omega arith
-
 -- bytes that are not all white, trimmed
 module _ (s : List ℕ) {k : ℕ} (p : k ≡ trimStart s 0 (length s)) (h : k < length s) where
   content-from : k < trimEnd s k (length s)
   unfolding trimEnd
   content-from =
       let w : isWhite s k ≡ false = rw p (start-plain s 0 (length s) (rw p at h)) in
-      content-some s k (length s - k) w (omega arith)
+      content-behind s k (length s - k) k (omega arith) (omega arith) w
 
   trimmed-is : part s (trimStart s 0 (length s)) (trimEnd s (trimStart s 0 (length s)) (length s)) ≡ part s k (trimEnd s k (length s))
   trimmed-is = rw (← p) refl

@@ -38,39 +38,15 @@ fn write_number(number: u64, out: &mut [u8]) -> usize
     n
 }
 
-// How many bytes a number with its sign has.
-fn signed_len(negative: bool, magnitude: u64) -> usize
-    ensures { λ r. ⌜ (r ≡ length (signedDecimal (signed negative magnitude))) × (r ≤ 21) ⌝ }
-{
-    let n = decimal::digit_count(magnitude);
-    if negative {
-        return n + 1;
-    }
-    n
-}
-
-// A number with its sign, for which there is room.
-fn put_signed(negative: bool, magnitude: u64, out: &mut [u8])
-    requires { ⌜ length (signedDecimal (signed negative magnitude)) ≤ length (now out) ⌝ }
-    ensures { λ _. ⌜ now (out .exit) ≡ written (signedDecimal (signed negative magnitude)) (now (out .entry)) ⌝ }
-{
-    if negative {
-        out[0] = 45;
-        decimal::write_decimal(&mut out[1..], magnitude);
-    } else {
-        decimal::write_decimal(out, magnitude);
-    }
-}
-
 // A number with its sign, where it fits. Its length.
 fn write_signed(negative: bool, magnitude: u64, out: &mut [u8]) -> usize
     ensures { λ r. ⌜ (r ≡ length (signedDecimal (signed negative magnitude))) × (now (out .exit) ≡ fitted (signedDecimal (signed negative magnitude)) (now (out .entry))) ⌝ }
 {
-    let n = signed_len(negative, magnitude);
+    let n = source::signed_len(negative, magnitude);
     if out.len() < n {
         return n;
     }
-    put_signed(negative, magnitude, out);
+    source::write_signed(negative, magnitude, out);
     n
 }
 
@@ -103,12 +79,12 @@ fn write_both_signed(author: &[u8], negative: bool, magnitude: u64, out: &mut [u
     ensures { λ r. ⌜ (r ≡ length (now (author .entry) ++ (32 ∷ signedDecimal (signed negative magnitude)))) × (now (out .exit) ≡ fitted (now (author .entry) ++ (32 ∷ signedDecimal (signed negative magnitude))) (now (out .entry))) ⌝ }
 {
     let k = author.len() + 1;
-    let n = k + signed_len(negative, magnitude);
+    let n = k + source::signed_len(negative, magnitude);
     if out.len() < n {
         return n;
     }
     put_author(author, out);
-    put_signed(negative, magnitude, &mut out[k..]);
+    source::write_signed(negative, magnitude, &mut out[k..]);
     n
 }
 

@@ -3,17 +3,18 @@ use Prim.Native.Nat.{ℕ, _+_, _≤_}
 use native.Mathlib.Omega.{arith}
 use mathlib.Core.Path.{_≡_, refl, sym, _∙_}
 use mathlib.Core.List.{List, [], _∷_}
-use mathlib.Core.Bool.{Bool, true, false, _&&_}
+use mathlib.Core.Bool.{Bool, true, false, _&&_, and-false, true≢false}
 use lib.ListN.{length, getD}
 use lib.Dec.{eqb, leb, ltb}
 use borrow.Author.Tests.{leb-true, ltb-true, lt-leb, ne-eqb}
 use Rattle.base.specs.Pick.{pick}
 use Rattle.base.specs.Ascii.{ascii}
 use Rattle.base.specs.Lists.{byteAt}
+use Rattle.base.proofs.Bools.{and-left, and-right}
 use Rattle.locator.specs.declared.Label.{Label}
 use Rattle.locator.specs.Matchers.{Matcher, matchers, no-code, code-page}
 use Rattle.locator.specs.Locators.{isDigit, lower, fits, mayFollow, label, stands, matchIn, orPage, labelOf}
-use Rattle.locator.proofs.Words.{false-true, and-left, and-right, and-not, fits-by}
+use Rattle.locator.proofs.Words.{fits-by}
 
 -- a digit is its own small form, and below every letter and sign
 digit-by : (b : ℕ) → isDigit b ≡ true → b ≤ 57
@@ -30,11 +31,11 @@ beginsAbove (m ∷ ms) = ltb 57 (getD (m .word) 0 0) && beginsAbove ms
 
 fits-no-digit : (w s : List ℕ) (i e : ℕ) → ltb 57 (getD w 0 0) ≡ true → isDigit (byteAt s i) ≡ true → fits w s i e ≡ false
 unfolding fits
-fits-no-digit [] s i e h t = absurd (false-true h)
+fits-no-digit [] s i e h t = absurd (true≢false (sym h))
 fits-no-digit (x ∷ xs) s i e h t =
     let g = ltb-true 57 x h in
     let d = digit-by (byteAt s i) t in
-    rw (digit-lower (byteAt s i) t, ne-eqb (byteAt s i) x (λ q. omega arith), and-not (ltb i e)) refl
+    rw (digit-lower (byteAt s i) t, ne-eqb (byteAt s i) x (λ q. omega arith), and-false (ltb i e)) refl
 
 match-no-digit
     : (ms : List Matcher) (s : List ℕ) (i e : ℕ) → beginsAbove ms ≡ true → isDigit (byteAt s i) ≡ true → matchIn ms s i e ≡ label no-code i
@@ -59,7 +60,7 @@ module _ (s : List ℕ) (i e : ℕ) where
   unfolding labelOf orPage
   label-other q f p =
       let d : isDigit (byteAt s i) ≡ false = sym q ∙ f in
-      rw (d, and-not (eqb (matchIn matchers s i e .code) no-code)) p
+      rw (d, and-false (eqb (matchIn matchers s i e .code) no-code)) p
 
 -- what follows a label begins by the end
 stands-by-end : (m : Matcher) (s : List ℕ) (i e : ℕ) → i ≤ e → stands m s i e ≡ true → i + length (m .word) ≤ e

@@ -5,13 +5,14 @@ use mathlib.Core.Path.{_≡_, refl}
 use mathlib.Core.List.{List, [], _∷_}
 use mathlib.Core.Bool.{Bool, true, false, _&&_}
 use lib.ListN.{length}
-use lib.Dec.{eqb, leb, ltb}
-use borrow.Author.Tests.{leb-true, ltb-true, eqb-true, eqb-false, ne-eqb}
+use lib.Dec.{eqb, leb}
+use borrow.Author.Tests.{leb-true}
 use Rattle.base.specs.Pick.{pick}
 use Rattle.base.specs.Ascii.{ascii}
 use Rattle.base.specs.Lists.{byteAt}
-use Rattle.base.specs.declared.Span.{Span}
-use Rattle.base.specs.Spans.{span, missing, spanOf, presentOf, InOrder}
+use Rattle.base.specs.Spans.{missing, spanOf}
+use Rattle.base.proofs.Bools.{and-left, and-right}
+use Rattle.base.proofs.Spans.{span-there}
 use Rattle.locator.specs.declared.Locator.{Locator}
 use Rattle.locator.specs.declared.Locator.the-variants.{Nothing, Plain, Labelled}
 use Rattle.locator.specs.Matchers.{Matcher, matchers, no-code, code-page}
@@ -29,8 +30,6 @@ use Rattle.locator.specs.Locators.{
   locatorOf,
 }
 use Rattle.locator.specs.Answers.{codeOf, valueOf, suffixOf}
-use Rattle.locator.proofs.Words.{and-left, and-right}
-use Rattle.locator.proofs.Parts.{locator-in-order}
 
 -- codes: one test over the table
 codesBy : ℕ → List Matcher → Bool
@@ -59,15 +58,6 @@ label-code s i e = go (eqb (matchIn matchers s i e .code) no-code && isDigit (by
     go : (t : Bool) → matchIn matchers s i e .code ≤ 16 → pick t (label code-page i) (matchIn matchers s i e) .code ≤ 16
     go true p = omega arith
     go false p = p
-
--- a span that is there has a byte or more
-span-there : (x y : ℕ) → spanOf x y .len ≡ 0 → spanOf x y ≡ missing
-unfolding spanOf
-span-there x y = go (ltb x y) refl
-  where
-    go : (t : Bool) → ltb x y ≡ t → pick t (span x (y - x)) missing .len ≡ 0 → pick t (span x (y - x)) missing ≡ missing
-    go true q z = let h = ltb-true x y q in absurd (omega arith)
-    go false q z = refl
 
 -- what holds of nothing, of a plain locator and of a labelled one holds of every locator
 by-cases
@@ -100,46 +90,3 @@ module _ (s : List ℕ) (a e : ℕ) where
   suffix-missing q =
       rw q
       (by-cases (λ l. suffixOf l .len ≡ 0 → suffixOf l ≡ missing) s a e (λ h. refl) (λ i. span-there i e) (λ i x y z. span-there z e))
-
--- spans in order, one by one
-first-in : (p r : Span) (lo hi : ℕ) → InOrder lo hi (presentOf (p ∷ r ∷ [])) → (p .len ≡ 0 → ⊥) → (lo ≤ p .at) × (p .at + p .len ≤ hi)
-unfolding presentOf
-first-in p r lo hi o n = let w = rw (ne-eqb (p .len) 0 n) at o in (w .0, w .1)
-
-last-in : (p r : Span) (lo hi : ℕ) → InOrder lo hi (presentOf (p ∷ r ∷ [])) → (r .len ≡ 0 → ⊥) → (lo ≤ r .at) × (r .at + r .len ≤ hi)
-unfolding presentOf
-last-in p r lo hi o n = go (eqb (p .len) 0) (rw (ne-eqb (r .len) 0 n) at o)
-  where
-    go : (t : Bool) → InOrder lo hi (pick t (r ∷ []) (p ∷ r ∷ [])) → (lo ≤ r .at) × (r .at + r .len ≤ hi)
-    go true w = (w .0, w .1)
-    go false w = (omega (arith, w .0, w .2 .0), w .2 .1)
-
--- a span that is there ends by `e`, and one that is missing is 0 0
-ends-by : (p : Span) (e : ℕ) → (p .len ≡ 0 → p ≡ missing) → ((p .len ≡ 0 → ⊥) → p .at + p .len ≤ e) → p .at + p .len ≤ e
-ends-by p e m h = go (eqb (p .len) 0) refl
-  where
-    go : (t : Bool) → eqb (p .len) 0 ≡ t → p .at + p .len ≤ e
-    go true q = rw (m (eqb-true (p .len) 0 q)) (omega arith)
-    go false q = h (eqb-false (p .len) 0 q)
-
-module _ (s : List ℕ) (a e : ℕ) where
-  -- where a part that is there begins
-  pub value-begins : {l : Locator} → l ≡ locatorOf s a e → (valueOf l .len ≡ 0 → ⊥) → a ≤ valueOf l .at
-  value-begins q n = rw q (first-in (valueOf (locatorOf s a e)) (suffixOf (locatorOf s a e)) a e (locator-in-order s a e) (rw q at n) .0)
-
-  pub suffix-begins : {l : Locator} → l ≡ locatorOf s a e → (suffixOf l .len ≡ 0 → ⊥) → a ≤ suffixOf l .at
-  suffix-begins q n = rw q (last-in (valueOf (locatorOf s a e)) (suffixOf (locatorOf s a e)) a e (locator-in-order s a e) (rw q at n) .0)
-
-  -- where a part ends, present or missing
-  pub value-ends : {l : Locator} → l ≡ locatorOf s a e → valueOf l .at + valueOf l .len ≤ e
-  value-ends q =
-      let v = valueOf (locatorOf s a e) in
-      rw q (ends-by v e (value-missing s a e refl) (λ n. first-in v (suffixOf (locatorOf s a e)) a e (locator-in-order s a e) n .1))
-
-  pub suffix-ends : {l : Locator} → l ≡ locatorOf s a e → suffixOf l .at + suffixOf l .len ≤ e
-  suffix-ends q =
-      let w = suffixOf (locatorOf s a e) in
-      rw q (ends-by w e (suffix-missing s a e refl) (λ n. last-in (valueOf (locatorOf s a e)) w a e (locator-in-order s a e) n .1))
-
-pub ruleset laws =
-    (code-small, value-missing, suffix-missing, value-begins, suffix-begins, value-ends, suffix-ends)

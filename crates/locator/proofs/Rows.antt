@@ -4,27 +4,18 @@ use native.Mathlib.Numerals.{add-one}
 use native.Mathlib.Omega.{arith}
 use mathlib.Core.Path.{_≡_, refl, sym, _∙_, ap}
 use mathlib.Core.List.{List, [], _∷_}
-use mathlib.Core.Bool.{Bool, true, false, _&&_}
+use mathlib.Core.Bool.{Bool, true, false, _&&_, true≢false}
 use lib.ListN.{length, getD, drop, drop-of-length-le}
 use lib.Seq.{drop-cons, length-slice}
 use lib.Dec.{eqb, leb, ltb}
 use borrow.Author.Tests.{leb-true, ltb-true, eqb-true}
 use Rattle.base.specs.Lists.{same}
+use Rattle.base.proofs.Bools.{and-left, and-right}
+use Rattle.base.proofs.Sames.{same-true}
 use Rattle.locator.specs.declared.Label.{Label}
 use Rattle.locator.specs.Matchers.{Matcher, matchers, row, no-code}
 use Rattle.locator.specs.Table.{startIn, endIn, codeIn, wordAt, isRow, isTable}
 use Rattle.locator.specs.Locators.{label, stands, matchIn}
-use Rattle.locator.proofs.Words.{and-left, and-right, false-true}
-
-pub same-is : (a b : List ℕ) → same a b ≡ true → a ≡ b
-unfolding same
-same-is [] [] t = refl
-same-is [] (y ∷ ys) t = absurd (false-true t)
-same-is (x ∷ xs) [] t = absurd (false-true t)
-same-is (x ∷ xs) (y ∷ ys) t =
-    let p = eqb-true x y (and-left (eqb x y) (same xs ys) t) in
-    let q = same-is xs ys (and-right (eqb x y) (same xs ys) t) in
-    cc
 
 -- a row and its matcher
 record Says (words r : List ℕ) (m : Matcher) : Type 0 where
@@ -45,7 +36,7 @@ says words r m t =
     record {
       order = ltb-true _ _ (and-left a b ab);
       room = leb-true _ _ (and-right a b ab);
-      spelt = same-is _ _ (and-right (a && b) d abd);
+      spelt = same-true _ _ (and-right (a && b) d abd);
       coded = eqb-true _ _ (and-right (a && b && d) f t);
     }
 
@@ -58,15 +49,15 @@ at-row : (words : List ℕ) (rows : List (List ℕ)) (ms : List Matcher) → isT
 unfolding isTable
 at-row words [] [] t k h = absurd (omega arith)
 at-row words [] (m ∷ ms) t k h = absurd (omega arith)
-at-row words (r ∷ rs) [] t k h = absurd (false-true t)
+at-row words (r ∷ rs) [] t k h = absurd (true≢false (sym t))
 at-row words (r ∷ rs) (m ∷ ms) t zero h = and-left (isRow words r m) (isTable words rs ms) t
 at-row words (r ∷ rs) (m ∷ ms) t (suc k) h = at-row words rs ms (and-right (isRow words r m) (isTable words rs ms) t) k (omega arith)
 
 as-many : (words : List ℕ) (rows : List (List ℕ)) (ms : List Matcher) → isTable words rows ms ≡ true → length rows ≡ length ms
 unfolding isTable
 as-many words [] [] t = refl
-as-many words [] (m ∷ ms) t = absurd (false-true t)
-as-many words (r ∷ rs) [] t = absurd (false-true t)
+as-many words [] (m ∷ ms) t = absurd (true≢false (sym t))
+as-many words (r ∷ rs) [] t = absurd (true≢false (sym t))
 as-many words (r ∷ rs) (m ∷ ms) t = ap suc (as-many words rs ms (and-right (isRow words r m) (isTable words rs ms) t))
 
 -- a matcher stands where its word does, whatever its code

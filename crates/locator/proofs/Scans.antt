@@ -6,22 +6,8 @@ use mathlib.Core.List.{List}
 use mathlib.Core.Bool.{Bool, true, false, not}
 use Rattle.base.specs.First.{first}
 use Rattle.base.specs.Lists.{byteAt}
+use Rattle.base.proofs.Searches.{first-out, first-stop, first-more}
 use Rattle.locator.specs.Locators.{isBlank, skipBlanks, isValue, valueRun, isLoose, strip}
-
-here : (f : ℕ → Bool) (n i : ℕ) → 0 < n → f i ≡ true → first f n i ≡ i
-unfolding first
-here f zero i h t = absurd (omega arith)
-here f (suc n) i h t = rw t refl
-
-next : (f : ℕ → Bool) (n i : ℕ) → 0 < n → f i ≡ false → first f n i ≡ first f (n - 1) (i + 1)
-unfolding first
-next f zero i h t = absurd (omega arith)
-next f (suc n) i h t = let p : suc n - 1 ≡ n = omega arith in rw (p, t) refl
-
-over : (f : ℕ → Bool) (n i : ℕ) → n ≤ 0 → first f n i ≡ i
-unfolding first
-over f zero i h = refl
-over f (suc n) i h = absurd (omega arith)
 
 -- the end of a run of bytes that pass a test
 abbrev runOf : (ℕ → Bool) → List ℕ → ℕ → ℕ → ℕ
@@ -29,15 +15,13 @@ runOf p s i e = first (λ k. not (p (byteAt s k))) (e - i) i
 
 module _ (p : ℕ → Bool) (s : List ℕ) (i e : ℕ) where
   stop : {r : ℕ} {b : Bool} → r ≡ runOf p s i e → i < e → b ≡ p (byteAt s i) → b ≡ false → i ≡ r
-  stop q h t f = sym (q ∙ here (λ k. not (p (byteAt s k))) (e - i) i (omega arith) (ap not (sym t ∙ f)))
+  stop q h t f = first-stop (λ k. not (p (byteAt s k))) i e q h (ap not (sym t ∙ f))
 
   more : {r : ℕ} {b : Bool} → r ≡ runOf p s i e → i < e → b ≡ p (byteAt s i) → b ≡ true → r ≡ runOf p s (i + 1) e
-  more q h t f =
-      let d : e - i - 1 ≡ e - (i + 1) = omega arith in
-      q ∙ rw d at (next (λ k. not (p (byteAt s k))) (e - i) i (omega arith) (ap not (sym t ∙ f)))
+  more q h t f = first-more (λ k. not (p (byteAt s k))) i e q h (ap not (sym t ∙ f))
 
   out : {r : ℕ} → r ≡ runOf p s i e → e ≤ i → i ≡ r
-  out q h = sym (q ∙ over (λ k. not (p (byteAt s k))) (e - i) i (omega arith))
+  out q h = first-out (λ k. not (p (byteAt s k))) i e q h
 
 module _ (s : List ℕ) (i e : ℕ) where
   pub skip-stop : {r : ℕ} {b : Bool} → r ≡ skipBlanks s i e → i < e → b ≡ isBlank (byteAt s i) → b ≡ false → i ≡ r

@@ -1,34 +1,19 @@
--- A matcher's word at a place, what may follow it, and spans: in the form of the needs. `b` is what a call of a test gave.
+-- A matcher's word at a place, what may follow it: in the form of the needs. `b` is what a call of a test gave.
 use Prim.Native.Nat.{ℕ, _+_, _-_, _≤_, _<_}
 use native.Mathlib.Numerals.{add-one}
 use native.Mathlib.Omega.{arith}
 use mathlib.Core.Path.{_≡_, refl, sym, _∙_}
 use mathlib.Core.List.{List, [], _∷_}
-use mathlib.Core.Bool.{Bool, true, false, _&&_, _||_}
+use mathlib.Core.Bool.{Bool, true, false, _&&_, _||_, and-false}
 use lib.ListN.{length, getD, take, length-take, drop-of-length-le}
 use lib.Seq.{slice, slice-cons, length-slice}
 use lib.Dec.{eqb, leb, ltb}
 use borrow.Author.Tests.{lt-ltb, le-ltb, le-leb, lt-leb, eq-eqb, ne-eqb, leb-true, ltb-true}
 use Rattle.base.specs.Lists.{byteAt, within}
-use Rattle.base.specs.Spans.{span, missing, spanOf}
+use Rattle.base.proofs.Bools.{and-left, and-right}
 use Rattle.locator.specs.Matchers.{row, no-code}
 use Rattle.locator.specs.Table.{wordAt}
 use Rattle.locator.specs.Locators.{isBlank, isDigit, lower, fits, isSign, mayFollow, stands}
-
-pub false-true : false ≡ true → ⊥
-false-true t = let z : _≡_ {A = ℕ} 0 1 = cc in omega arith
-
-pub and-left : (a b : Bool) → (a && b) ≡ true → a ≡ true
-and-left true b t = refl
-and-left false b t = t
-
-pub and-right : (a b : Bool) → (a && b) ≡ true → b ≡ true
-and-right true b t = t
-and-right false b t = absurd (false-true t)
-
-pub and-not : (a : Bool) → (a && false) ≡ false
-and-not true = refl
-and-not false = refl
 
 module _ (b : ℕ) where
   pub lower-up : within 65 90 b ≡ true → b + 32 ≡ lower b
@@ -41,15 +26,6 @@ module _ (b : ℕ) where
 
   pub lower-room : within 65 90 b ≡ true → b ≤ 90
   lower-room t = leb-true b 90 (and-right (leb 65 b) (leb b 90) t)
-
-module _ (a e : ℕ) where
-  pub span-some : a < e → span a (e - a) ≡ spanOf a e
-  unfolding spanOf
-  span-some h = rw (lt-ltb a e h) refl
-
-  pub span-none : e ≤ a → missing ≡ spanOf a e
-  unfolding spanOf
-  span-none h = rw (le-ltb a e h) refl
 
 module _ (s : List ℕ) (k e : ℕ) where
   pub sign-in
@@ -118,7 +94,7 @@ module _ (words : List ℕ) (from to : ℕ) (s : List ℕ) (i e : ℕ) where
       → false ≡ stands (row (wordAt words from to) no-code) s i e
   unfolding stands fits wordAt
   stands-first q n h g =
-      rw (slice-cons from to words 0 h g, ← q, ne-eqb _ _ (λ t. n (sym t)), and-not (ltb i e)) refl
+      rw (slice-cons from to words 0 h g, ← q, ne-eqb _ _ (λ t. n (sym t)), and-false (ltb i e)) refl
 
   pub stands-not : {b : Bool} → b ≡ fits (wordAt words from to) s i e → b ≡ false → false ≡ stands (row (wordAt words from to) no-code) s i e
   unfolding stands wordAt
@@ -127,8 +103,6 @@ module _ (words : List ℕ) (from to : ℕ) (s : List ℕ) (i e : ℕ) where
 pub ruleset words = (
   lower-up,
   lower-kept,
-  span-some,
-  span-none,
   sign-in,
   sign-out,
   follow-end,

@@ -9,15 +9,15 @@ use lib.Dec.{eqb, leb, ltb}
 use borrow.Author.Tests.{lt-ltb, le-ltb, le-leb, lt-leb, eq-eqb, ne-eqb, ltb-true, eqb-true}
 use Rattle.base.specs.Pick.{pick}
 use Rattle.base.specs.Lists.{byteAt, isAt}
+use Rattle.base.proofs.Bools.{and-left, and-right}
 use Rattle.close.specs.declared.Close.{Close}
 use Rattle.close.specs.declared.Close.the-variants.{At, Nothing}
 use Rattle.close.specs.Scan.{closeWithin}
-use Rattle.close.proofs.Laws.{within-after, within-inside as within-in, within-byte}
+use Rattle.close.proofs.Laws.{close-found, close-there}
 use Rattle.item.specs.declared.Judged.{Judged}
 use Rattle.item.specs.declared.Judged.the-variants.{Good, Bad}
 use Rattle.item.specs.Pieces.{itemsOf}
 use Rattle.item.specs.Judge.{judgedOf}
-use Rattle.item.proofs.Parts.{and-left, and-right}
 use Rattle.item.proofs.Judge.{good-all, good-count, bad-some}
 use Rattle.index.specs.Entries.{goodItems}
 use Rattle.lookup.specs.declared.Look.{Look}
@@ -156,7 +156,7 @@ pub within-inside : (limit : ℕ) (s : List ℕ) (p : ℕ) → Inside s p (close
 within-inside limit s p = go (closeWithin limit s p) refl
   where
     go : (d : Close) → closeWithin limit s p ≡ d → Inside s p d
-    go (At c) e = (within-after s p c limit e, within-in s p c limit e, within-byte s p c limit e)
+    go (At c) e = close-there s p c (close-found s p c limit e)
     go Nothing e = tt
 
 -- and the one that a look gives
@@ -189,8 +189,6 @@ unfolding closeAfter
 after-inside s p index (LookAt c) i = i
 after-inside s p index LookNothing i = tt
 after-inside s p index Build i = stored-inside s p index
-
-pub ruleset inside-laws = (stored-inside, within-inside, look-inside, after-inside)
 
 -- what a caller knows of a group that was found ------------------------------------------------------------------------------------
 

@@ -9,12 +9,13 @@ use lib.Dec.{eqb, ltb}
 use borrow.Author.Tests.{lt-ltb, le-ltb, eq-eqb, ne-eqb, ltb-true, ltb-false}
 use Rattle.base.specs.Pick.{pick}
 use Rattle.base.specs.Lists.{byteAt, isAt}
+use Rattle.base.proofs.Bools.{and-left}
 use Rattle.text.specs.Utf8.{tooLong, utf8}
 use Rattle.text.specs.Escape.{escapedAt}
 use Rattle.text.specs.Refusal.{afterText, textRefusal}
+use Rattle.text.proofs.Characters.{refused-after, accepted-after}
 use Rattle.locator.specs.declared.Locator.{Locator}
 use Rattle.locator.specs.Locators.{locatorOf}
-use Rattle.item.proofs.Parts.{and-left}
 use Rattle.index.specs.Entries.{opensAt}
 use Rattle.lookup.specs.declared.Size.the-variants.{Accepted as Sized', Refused as Unsized}
 use Rattle.lookup.specs.declared.LocatorAnswer.the-variants.{Accepted as Located', Refused as Unlocated}
@@ -22,59 +23,38 @@ use Rattle.lookup.specs.Refusals.{tooFew, lookUpRefusal}
 use Rattle.lookup.specs.Others.{located, notLocated, locatorCall, sizeCall}
 use Rattle.lookup.specs.Values.{locatorValues, locatorNumbers, sizeValues, sizeNumbers}
 
--- a text that is not refused is short enough and UTF-8
-text-passes : (s : List ℕ) → textRefusal s ≡ 0 → (tooLong s ≡ false) × (utf8 s ≡ true)
-unfolding textRefusal afterText
-text-passes s z = go (tooLong s) (utf8 s) z
-  where
-    go : (a b : Bool) → pick {A = ℕ} a 1 (pick b 0 2) ≡ 0 → (a ≡ false) × (b ≡ true)
-    go true b e = absurd (omega arith)
-    go false false e = absurd (omega arith)
-    go false true e = (refl, refl)
-
--- one that is, is refused by the same number whatever comes next
-text-refused : (s : List ℕ) (next : ℕ) → (textRefusal s ≡ 0 → ⊥) → textRefusal s ≡ afterText s next
-unfolding textRefusal afterText
-text-refused s next n = go (tooLong s) (utf8 s) n
-  where
-    go : (a b : Bool) → (pick {A = ℕ} a 1 (pick b 0 2) ≡ 0 → ⊥) → pick {A = ℕ} a 1 (pick b 0 2) ≡ pick {A = ℕ} a 1 (pick b next 2)
-    go true b e = refl
-    go false false e = refl
-    go false true e = absurd (e refl)
-
 -- `r` is what the text's own refusal gave
 module _ (s : List ℕ) (at n m : ℕ) {r : ℕ} (q : r ≡ textRefusal s) where
   pub refused-text : (r ≡ 0 → ⊥) → r ≡ lookUpRefusal s at n m
   unfolding lookUpRefusal
-  refused-text z = q ∙ text-refused s _ (λ e. z (q ∙ e))
+  refused-text z = refused-after s q _ z
 
   module _ (z : r ≡ 0) where
-    passed : (x : ℕ) → afterText s x ≡ x
-    unfolding afterText
-    passed x = let k = text-passes s (sym q ∙ z) in rw (k .0, k .1)
+    passed : (x : ℕ) → x ≡ afterText s x
+    passed x = accepted-after s q x z
 
     pub refused-past : length s ≤ at → 3 ≡ lookUpRefusal s at n m
     unfolding lookUpRefusal
-    refused-past h = rw (le-ltb at (length s) h) (sym (passed 3))
+    refused-past h = rw (le-ltb at (length s) h) (passed 3)
 
     module _ (h : at < length s) where
       pub refused-other : (byteAt s at ≡ 91 → ⊥) → 3 ≡ lookUpRefusal s at n m
       unfolding lookUpRefusal
-      refused-other f = rw (lt-ltb at (length s) h, ne-eqb _ _ f) (sym (passed 3))
+      refused-other f = rw (lt-ltb at (length s) h, ne-eqb _ _ f) (passed 3)
 
       module _ (e : byteAt s at ≡ 91) {b : Bool} (d : b ≡ escapedAt s at) where
         pub refused-escaped : b ≡ true → 4 ≡ lookUpRefusal s at n m
         unfolding lookUpRefusal
-        refused-escaped t = rw (lt-ltb at (length s) h, eq-eqb _ _ e, sym d ∙ t) (sym (passed 4))
+        refused-escaped t = rw (lt-ltb at (length s) h, eq-eqb _ _ e, sym d ∙ t) (passed 4)
 
         module _ (f : b ≡ false) where
           pub refused-few : (ltb n (length s) || ltb m (length s)) ≡ true → 9 ≡ lookUpRefusal s at n m
           unfolding lookUpRefusal tooFew
-          refused-few t = rw (lt-ltb at (length s) h, eq-eqb _ _ e, sym d ∙ f, t) (sym (passed 9))
+          refused-few t = rw (lt-ltb at (length s) h, eq-eqb _ _ e, sym d ∙ f, t) (passed 9)
 
           pub refused-not : (ltb n (length s) || ltb m (length s)) ≡ false → 0 ≡ lookUpRefusal s at n m
           unfolding lookUpRefusal tooFew
-          refused-not t = rw (lt-ltb at (length s) h, eq-eqb _ _ e, sym d ∙ f, t) (sym (passed 0))
+          refused-not t = rw (lt-ltb at (length s) h, eq-eqb _ _ e, sym d ∙ f, t) (passed 0)
 
 pub ruleset refusal-laws = (refused-text, refused-past, refused-other, refused-escaped, refused-few, refused-not)
 

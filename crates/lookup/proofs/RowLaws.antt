@@ -1,34 +1,26 @@
 -- Item records, in the form of the needs of the code that writes them.
 use Prim.Native.Nat.{ℕ, suc, _+_, _-_, _*_, _≤_, _<_}
 use native.Mathlib.Omega.{arith}
-use mathlib.Core.Path.{_≡_, refl, sym, _∙_, ap, subst}
+use mathlib.Core.Path.{_≡_, refl, sym, _∙_, ap}
 use mathlib.Core.List.{List, [], _∷_, _++_, append-nil}
 use mathlib.Core.Bool.{Bool, true, false, true≢false}
-use lib.ListN.{length, take, drop, set, length-append, length-take, length-drop}
-use lib.Dec.{eqb, leb, ltb}
-use borrow.Author.Tests.{ltb-true, eqb-true}
+use lib.ListN.{length, take, drop, set, length-append}
 use Rattle.base.specs.Pick.{pick}
 use Rattle.base.specs.First.{first}
 use Rattle.base.specs.Lists.{written}
-use Rattle.base.specs.Sorted.{Each}
 use Rattle.base.specs.declared.Span.{Span}
-use Rattle.base.specs.Spans.{span, missing, spanOf, pairOf, presentOf, InOrder}
-use Rattle.locator.specs.declared.Label.{Label}
+use Rattle.base.specs.Spans.{pairOf}
+use Rattle.base.proofs.Areas.{rest-room, came-back, back-length, back-next}
 use Rattle.locator.specs.declared.Locator.{Locator}
-use Rattle.locator.specs.declared.Locator.the-variants.{Nothing, Plain}
-use Rattle.locator.specs.Matchers.{no-code}
-use Rattle.locator.specs.Locators.{skipBlanks, labelOf, valued, labelled, locatorFrom, locatorOf}
 use Rattle.locator.specs.Answers.{codeOf, valueOf, suffixOf}
 use Rattle.item.specs.declared.Item.{Item}
 use Rattle.item.specs.declared.Parsed.{Parsed}
 use Rattle.item.specs.declared.Parsed.the-variants.{Good, Bad}
-use Rattle.item.specs.Facts.{partsOf}
-use Rattle.item.specs.Items.{winner, itemAt, itemIn, itemOf, isGood}
+use Rattle.item.specs.Items.{itemOf, isGood}
 use Rattle.item.specs.Pieces.{partsAt, pieces, integralAt, itemsStart, piecesOf, allGood, kept, itemsIn, itemsOf}
-use Rattle.item.proofs.Parts.{item-in-order}
+use Rattle.item.proofs.Bounds.{parsed-within}
 use Rattle.item.proofs.Pieces.{items-more, items-last, first-good, rest-good}
 use Rattle.index.specs.Entries.{goodItems}
-use Rattle.key.specs.Keys.{keyEnd}
 use Rattle.lookup.specs.Groups.{Group, groupOf}
 use Rattle.lookup.specs.Rows.{
   marksOf,
@@ -43,7 +35,7 @@ use Rattle.lookup.specs.Rows.{
   NarrowItem,
   Writable,
 }
-use Rattle.lookup.proofs.Areas.{put-written, back-length, back-next, back-last}
+use Rattle.lookup.proofs.Areas.{put-written}
 
 -- a record has 16 numbers ----------------------------------------------------------------------------------------------------------
 
@@ -109,76 +101,19 @@ pub ruleset row-laws = (pair-put, marks-put, parts-are, locator-is, row-is, narr
 
 -- an item's places fit a record ----------------------------------------------------------------------------------------------------
 
--- an empty span is the missing one
-abbrev Tidy : Span → Type 0
-Tidy p = p .len ≡ 0 → p .at ≡ 0
-
-tidy-span : (a e : ℕ) → Tidy (spanOf a e)
-unfolding spanOf
-tidy-span a e = go (ltb a e) refl
-  where
-    go : (t : Bool) → ltb a e ≡ t → Tidy (pick t (span a (e - a)) missing)
-    go true q z = let h = ltb-true a e q in absurd (omega arith)
-    go false q z = refl
-
-tidy-locator : (s : List ℕ) (a e : ℕ) → Tidy (valueOf (locatorOf s a e)) × Tidy (suffixOf (locatorOf s a e))
-unfolding locatorOf locatorFrom labelled valued valueOf suffixOf
-tidy-locator s a e = go (leb e i) (eqb (l .code) no-code)
-  where
-    i : ℕ
-    i = skipBlanks s a e
-
-    l : Label
-    l = labelOf s i e
-
-    v : Locator
-    v = valued s (l .code) (skipBlanks s (l .after) e) e
-
-    go : (t u : Bool) → Tidy (valueOf (pick t Nothing (pick u (Plain (spanOf i e)) v))) × Tidy (suffixOf (pick t Nothing (pick u (Plain (spanOf i e)) v)))
-    go true u = (λ z. refl, λ z. refl)
-    go false true = (λ z. refl, tidy-span i e)
-    go false false = (tidy-span _ _, tidy-span _ _)
-
-tidy-item : (s : List ℕ) (a e i m : ℕ) → Each Tidy (partsOf (itemAt s a e i m))
-unfolding partsOf itemAt
-tidy-item s a e i m =
-    let t = tidy-locator s _ e in
-    (tidy-span a _, (tidy-span (i + 1) m, (tidy-span _ e, (t .0, (t .1, tt)))))
-
-tidy-in : (s : List ℕ) (a e : ℕ) (it : Item) → itemIn s a e ≡ Good it → Each Tidy (partsOf it)
-unfolding itemIn
-tidy-in s a e it = go (ltb w e)
-  where
-    w : ℕ
-    w = winner s a e
-
-    at : Item
-    at = itemAt s a e w (keyEnd s (w + 1))
-
-    go : (t : Bool) → pick t (Good at) Bad ≡ Good it → Each Tidy (partsOf it)
-    go true h = let g : at ≡ it = cc in subst (λ (x : Item). Each Tidy (partsOf x)) g (tidy-item s a e w (keyEnd s (w + 1)))
-    go false h = let y : _≡_ {A = ℕ} 0 1 = cc in absurd (omega (arith, y))
-
-tidy-parsed : (s : List ℕ) (a e : ℕ) (it : Item) → itemOf s a e ≡ Good it → Each Tidy (partsOf it)
-unfolding itemOf
-tidy-parsed s a e it h = tidy-in s _ _ it h
-
-narrow : (lo hi : ℕ) (l : List Span) → hi ≤ 65535 → Each Tidy l → InOrder lo hi (presentOf l) → Each Narrow l
-unfolding presentOf
-narrow lo hi [] h t o = tt
-narrow lo hi (p ∷ ps) h t o = go (eqb (p .len) 0) refl (λ x k. narrow x hi ps h (t .1) k) o
-  where
-    go : (b : Bool) → eqb (p .len) 0 ≡ b → ((x : ℕ) → InOrder x hi (presentOf ps) → Each Narrow ps)
-        → InOrder lo hi (pick b (presentOf ps) (p ∷ presentOf ps)) → Narrow p × Each Narrow ps
-    go true q rest o = let z = eqb-true (p .len) 0 q in let y = t .0 z in ((omega arith, omega arith), rest lo o)
-    go false q rest o = ((omega (arith, o .1), omega (arith, o .1)), rest (p .at) (o .2))
+narrow-within : {p : Span} → p .at + p .len ≤ 65535 → Narrow p
+narrow-within h = (omega arith, omega arith)
 
 pub item-narrow : (s : List ℕ) (a e : ℕ) {r : Parsed} {it : Item} → r ≡ itemOf s a e → r ≡ Good it → e ≤ length s → length s ≤ 65535 → NarrowItem it
-unfolding partsOf
-item-narrow s a e {it = it} q g h k =
-    let f = sym q ∙ g in
-    let n = narrow a e (partsOf it) (omega arith) (tidy-parsed s a e it f) (item-in-order s a e it f) in
-    record { prefix = n .0; key = n .1 .0; whole = n .1 .1 .0; locator = record { value = n .1 .1 .1 .0; suffix = n .1 .1 .1 .1 .0 } }
+item-narrow s a e q g h k =
+    let w = parsed-within s a e 65535 q g h k in
+    let l = w .locator in
+    record {
+      prefix = narrow-within (w .prefix);
+      key = narrow-within (w .key);
+      whole = narrow-within (w .whole);
+      locator = record { value = narrow-within (l .value); suffix = narrow-within (l .suffix) };
+    }
 
 module _ (s : List ℕ) (a e : ℕ) (b : Bool) (row : List ℕ) {r : Parsed} (q : r ≡ itemOf s a e) where
   pub piece-good : {it : Item} {out : List ℕ} → r ≡ Good it → out ≡ written (rowOf b it) row → out ≡ written (pieceRow b (itemOf s a e)) row
@@ -245,14 +180,11 @@ module _ {s : List ℕ} {p c : ℕ} {items₀ : List ℕ} {b : Bool} {items : Li
       let k = kept-length (itemOf s from q) [] piece-good-is in
       omega (arith, w .room)
 
-  part-room : n + 16 ≤ length items → 16 ≤ length (take (length items - n) (drop n items))
-  part-room h = simp (length-take, length-drop) (omega arith)
-
   pub next-room : q < c → 16 ≤ length (take (length items - n) (drop n items))
-  next-room h = part-room (omega (arith, more-room h))
+  next-room h = rest-room items n 16 (omega (arith, more-room h))
 
   pub end-room : c ≤ q → 16 ≤ length (take (length items - n) (drop n items))
-  end-room h = part-room (last-room h)
+  end-room h = rest-room items n 16 (last-room h)
 
   -- the rest of the area came back with the record of the piece
   module _ {x : List ℕ} (o : x ≡ written (pieceRow b (itemOf s from q)) (take (length items - n) (drop n items))) where
@@ -276,10 +208,8 @@ module _ {s : List ℕ} {p c : ℕ} {items₀ : List ℕ} {b : Bool} {items : Li
     unfolding rowsIn
     writing-end h =
         let r = pieceRow b (itemOf s from q) in
-        let l = piece-row-length in
-        let k = last-room h in
         let g = rw (items-last s from c d h, kept-rows b (itemOf s from q) [], append-nil r) at (w .gives) in
-        back-last n items r (omega arith) o g
+        came-back n items r o ∙ sym g
 
     pub end-length : c ≤ q → length (take n items ++ (x ++ drop (length items - n) (drop n items))) ≡ length items₀
     end-length h =

@@ -9,9 +9,9 @@ use lib.Dec.{eqb, leb, ltb}
 use borrow.Author.Tests.{lt-ltb, le-ltb, leb-true, leb-false, eq-eqb, ne-eqb, eqb-true}
 use Rattle.base.specs.Pick.{pick}
 use Rattle.base.specs.Lists.{written}
+use Rattle.base.proofs.Bools.{and-left}
 use Rattle.close.specs.declared.Close.{Close}
 use Rattle.close.specs.declared.Close.the-variants.{At, Nothing}
-use Rattle.item.proofs.Parts.{and-left}
 use Rattle.index.specs.declared.Bracket.{Bracket}
 use Rattle.index.specs.Built.{builtIndex, builtRecords}
 use Rattle.lookup.specs.declared.Look.{Look}
@@ -237,21 +237,18 @@ answered-values NoGroup note items = refl
 -- `w` is whether the index was built, and `after` what it is then
 module _ (s : List ℕ) (at note : ℕ) (index : List ℕ) (records : List Bracket) (items : List ℕ) {w : Bool} {after : List ℕ}
     (q : w ≡ buildWanted (preparedOf s at note index (length records))) (e : after ≡ pick w (builtIndex s index) index) where
+  abbrev r : ℕ
+  r = lookUpRefusal s at (length index) (length records)
+
+  abbrev P : Bool → Prepared
+  P t = pick t (Ready (lookOf s at note index)) (NotReady r)
+
   pub finished-values
       : lookUpValues (finishedOf s at note (preparedOf s at note index (length records)) after items)
       ≡ lookUpNumbers (lookUpRun s at note index records items)
   unfolding preparedOf buildWanted finishedOf lookUpRun ranWith lookedUp lookUpNumbers lookUpValues groupAsRun lookUpBuilds lookUpRefused noteAfter
   finished-values = rw (e, q) (go (eqb (lookUpRefusal s at (length index) (length records)) 0))
     where
-      r : ℕ
-      r = lookUpRefusal s at (length index) (length records)
-
-      l : Look
-      l = lookOf s at note index
-
-      P : Bool → Prepared
-      P t = pick t (Ready l) (NotReady r)
-
       go : (t : Bool) → lookUpValues (finishedOf s at note (P t) (pick (buildWanted (P t)) (builtIndex s index) index) items)
           ≡ pick t (lookUpAnswers (groupAsRun s at note index) items) (lookUpRefused r items) .number
           ∷ pick t (lookUpAnswers (groupAsRun s at note index) items) (lookUpRefused r items) .close
@@ -265,15 +262,6 @@ module _ (s : List ℕ) (at note : ℕ) (index : List ℕ) (records : List Brack
   unfolding preparedOf buildWanted finishedItems lookUpRun ranWith lookedUp groupAsRun lookUpRefused
   finished-items = rw (e, q) (go (eqb (lookUpRefusal s at (length index) (length records)) 0))
     where
-      r : ℕ
-      r = lookUpRefusal s at (length index) (length records)
-
-      l : Look
-      l = lookOf s at note index
-
-      P : Bool → Prepared
-      P t = pick t (Ready l) (NotReady r)
-
       go : (t : Bool) → finishedItems s at (P t) (pick (buildWanted (P t)) (builtIndex s index) index) items
           ≡ pick t (lookUpAnswers (groupAsRun s at note index) items) (lookUpRefused r items) .items
       go true = ap (λ (c : Close). lookUpAnswers (judge s at c) items .items) (look-close s at note index)
@@ -287,5 +275,3 @@ module _ (s : List ℕ) (at note : ℕ) (index : List ℕ) (records : List Brack
   pub ran-records : {rs : List Bracket} → rs ≡ pick w (builtRecords s records) records → rs ≡ lookUpRun s at note index records items .records
   unfolding lookUpRun ranWith recordsAfter
   ran-records o = o ∙ rw (q, prepared-builds s at note index (length records))
-
-pub ruleset step-laws = (prepared-fine, prepared-builds, builds-short, builds-wide, builds-long, finished-values, finished-items, ran-index, ran-records)

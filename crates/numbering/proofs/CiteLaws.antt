@@ -10,7 +10,7 @@ use borrow.Author.Tests.{le-leb, lt-leb, leb-true, leb-false, not-true, not-fals
 use Rattle.base.specs.Pick.{pick}
 use Rattle.base.specs.Lists.{written}
 use Rattle.pool.specs.Layout.{hasPool}
-use Rattle.source.proofs.WriteLaws.{written-after, written-length}
+use Rattle.base.proofs.Areas.{written-after, written-length}
 use Rattle.label.specs.Labels.{labelText}
 use Rattle.label.specs.Areas.{fitted}
 use Rattle.numbering.specs.declared.Numbering.{Numbering}

@@ -1,59 +1,26 @@
 -- Attributes of a line whose close, or whose next group, lies past the text.
-use Prim.Native.Nat.{ℕ, zero, suc, _+_, _-_, _≤_, _<_}
+use Prim.Native.Nat.{ℕ, _+_, _-_, _≤_, _<_}
 use native.Mathlib.Omega.{arith}
 use mathlib.Core.Path.{_≡_, refl, sym, _∙_}
 use mathlib.Core.List.{List, []}
 use mathlib.Core.Bool.{Bool, true, false, not, _&&_, and-false}
-use lib.ListN.{length, List·getD-eq-default}
+use lib.ListN.{length}
 use lib.Dec.{eqb, ltb}
 use borrow.Author.Tests.{lt-ltb, le-ltb, ltb-true, ltb-false, ne-eqb}
 use Rattle.base.specs.Pick.{pick}
-use Rattle.base.specs.First.{first}
+use Rattle.base.specs.First.{firstOf, firstOther}
 use Rattle.base.specs.Lists.{byteAt, isAt, part}
-use Rattle.base.proofs.Searches.{first-from, first-by}
-use Rattle.definition.specs.Bytes.{firstOf, firstOther}
+use Rattle.base.proofs.Searches.{first-from, first-by, first-beyond}
+use Rattle.base.proofs.Parts.{byte-past}
 use Rattle.definition.specs.Lines.{breakAt, braceAt, afterSpaces, bracedAt, attributesOf}
 
--- a search for what never comes
-never : (f : ℕ → Bool) (m i : ℕ) → ((x : ℕ) → i ≤ x → f x ≡ false) → i + m ≡ first f m i
-unfolding first
-never f zero i h = omega arith
-never f (suc m) i h =
-    let z : i + suc m ≡ i + 1 + m = omega arith in
-    rw (h i (omega arith)) (z ∙ never f m (i + 1) (λ x l. h x (omega arith)))
-
--- a search among `n` places, and among `m`, where the test holds at none of those between
-longer : (f : ℕ → Bool) (n m i : ℕ) → n ≤ m → ((x : ℕ) → i + n ≤ x → f x ≡ false) → pick (ltb (first f n i) (i + n)) (first f n i) (i + m) ≡ first f m i
-unfolding first
-longer f zero m i l h = rw (le-ltb i (i + 0) (omega arith)) (never f m i (λ x l. h x (omega arith)))
-longer f (suc n) zero i l h = absurd (omega arith)
-longer f (suc n) (suc m) i l h = go (f i) (longer f n m (i + 1) (omega arith) (λ x l. h x (omega arith)))
-  where
-    a : i + 1 + n ≡ i + suc n
-    a = omega arith
-
-    b : i + 1 + m ≡ i + suc m
-    b = omega arith
-
-    go : (t : Bool) → pick (ltb (first f n (i + 1)) (i + 1 + n)) (first f n (i + 1)) (i + 1 + m) ≡ first f m (i + 1)
-        → pick (ltb (pick t i (first f n (i + 1))) (i + suc n)) (pick t i (first f n (i + 1))) (i + suc m) ≡ pick t i (first f m (i + 1))
-    go true r = rw (lt-ltb i (i + suc n) (omega arith)) refl
-    go false r = rw (a, b) at r
-
--- the same by where the places end
-beyond : (f : ℕ → Bool) (a e x : ℕ) → a ≤ e → e ≤ x → ((k : ℕ) → e ≤ k → f k ≡ false) → pick (ltb (first f (e - a) a) e) (first f (e - a) a) x ≡ first f (x - a) a
-beyond f a e x l h n =
-    let p : a + (e - a) ≡ e = omega arith in
-    let q : a + (x - a) ≡ x = omega arith in
-    rw (p, q) at (longer f (e - a) (x - a) a (omega arith) (λ k l. n k (omega arith)))
-
 past : (s : List ℕ) (b : ℕ) → 0 < b → (k : ℕ) → length s ≤ k → eqb (byteAt s k) b ≡ false
-past s b n k h = rw (List·getD-eq-default s 0 {n = k} h) (ne-eqb 0 b (λ e. omega arith))
+past s b n k h = rw (← byte-past s k h) (ne-eqb 0 b (λ e. omega arith))
 
 module _ (s : List ℕ) (a x : ℕ) (h : length s < x) (k : a < length s) where
   brace-clip : bracedAt s a x ≡ bracedAt s a (length s)
   unfolding bracedAt braceAt
-  brace-clip = go (ltb z (length s)) refl (beyond (λ i. eqb (byteAt s i) 125) a (length s) x (omega arith) (omega arith) (past s 125 (omega arith)))
+  brace-clip = go (ltb z (length s)) refl (first-beyond (λ i. eqb (byteAt s i) 125) a (length s) x (omega arith) (omega arith) (past s 125 (omega arith)))
     where
       z : ℕ
       z = firstOf 125 s a (length s)
@@ -71,7 +38,7 @@ module _ (s : List ℕ) (a x : ℕ) (h : length s < x) (k : a < length s) where
 
   break-clip : bracedAt s a (breakAt s a x) ≡ bracedAt s a (breakAt s a (length s))
   unfolding breakAt
-  break-clip = go (ltb y (length s)) refl (beyond (λ i. eqb (byteAt s i) 10) a (length s) x (omega arith) (omega arith) (past s 10 (omega arith)))
+  break-clip = go (ltb y (length s)) refl (first-beyond (λ i. eqb (byteAt s i) 10) a (length s) x (omega arith) (omega arith) (past s 10 (omega arith)))
     where
       y : ℕ
       y = firstOf 10 s a (length s)

@@ -31,7 +31,7 @@ use Rattle.definition.specs.declared.Author.the-variants.{InPool, Missing as No
 use Rattle.definition.specs.declared.Year.the-variants.{InPool as YearInPool, Number, Missing as NoYear}
 use Rattle.definition.specs.Parts.{authorBytes, yearBytes}
 use Rattle.definition.specs.Defs.{Def, entryDef, entryDefines, firstEntry}
-use Rattle.definition.proofs.Firsts.{first-out, first-stop, first-more}
+use Rattle.base.proofs.Searches.{first-out, first-stop, first-more}
 use Rattle.numbering.specs.Defined.{entryAt, entryHas, entryIn, GivesAuthor, GivesYear}
 
 -- ids ----------------------------------------------------------------------------------------------------------------------------

@@ -1,23 +1,20 @@
 -- Readers of the records, in the form of the needs.
-use Prim.Native.Nat.{ℕ, zero, suc, _+_, _-_, _*_, _%_, _≤_, _<_}
+use Prim.Native.Nat.{ℕ, _+_, _-_, _*_, _%_, _≤_, _<_}
 use native.Mathlib.Omega.{arith}
-use mathlib.Core.Path.{_≡_, refl, sym, _∙_, ap}
-use mathlib.Core.List.{List, [], _∷_}
+use mathlib.Core.Path.{_≡_, refl, sym, _∙_}
+use mathlib.Core.List.{List}
 use mathlib.Core.Bool.{_&&_}
-use lib.ListN.{length, getD, set, List·getD-eq-default}
+use lib.ListN.{length, getD, set}
+use lib.Seq.{set-out}
 use lib.Dec.{eqb}
 use borrow.Author.Tests.{lt-ltb, le-ltb}
 use Rattle.base.specs.Lists.{part}
+use Rattle.base.proofs.Parts.{byte-past}
 use Rattle.numbering.specs.Records.{itemField, groupField, keyIn, suppressedIn, bareIn, closeOfRecord, nextIn}
 
--- what is past the end of an area counts as 0, and a store there changes nothing
-pub number-past : (area : List ℕ) (i : ℕ) → length area ≤ i → 0 ≡ getD area i 0
-number-past area i h = sym (List·getD-eq-default area 0 {n = i} h)
-
+-- a store past the end of an area changes nothing
 pub set-past : (area : List ℕ) (i v : ℕ) → length area ≤ i → area ≡ set area i v
-set-past [] i v h = refl
-set-past (x ∷ xs) zero v h = absurd (omega arith)
-set-past (x ∷ xs) (suc i) v h = ap (λ (l : List ℕ). x ∷ l) (set-past xs i v (omega arith))
+set-past area i v h = sym (set-out area i v h)
 
 pub item-at : (items : List ℕ) (k c : ℕ) {r : ℕ} → r ≡ getD items (16 * k + c) 0 → r ≡ itemField items k c
 unfolding itemField
@@ -58,4 +55,4 @@ pub next-none : (text groups : List ℕ) (n g : ℕ) → n ≤ g + 1 → length 
 unfolding nextIn
 next-none text groups n g h = rw (le-ltb (g + 1) n h) refl
 
-pub ruleset laws = (number-past, set-past, item-at, group-at, key-at, suppressed-at, bare-at, close-none, close-at, next-there, next-none)
+pub ruleset laws = (byte-past, set-past, item-at, group-at, key-at, suppressed-at, bare-at, close-none, close-at, next-there, next-none)

@@ -11,7 +11,7 @@ use Rattle.base.specs.Lists.{same}
 use Rattle.definition.specs.Lines.{startsLine, colonAfter}
 use Rattle.definition.proofs.Laws.{colon-cut}
 use Rattle.numbering.specs.Records.{groupField, keyIn, bareIn, closeOfRecord, definesIn, definesKeyIn, lineIn}
-use Rattle.numbering.proofs.Search.{last-none, last-here, last-before}
+use Rattle.base.proofs.Lasts.{last-out, last-stop, last-more}
 
 -- past the text no line starts, and no colon stands
 pub starts-past : (text : List ℕ) (at : ℕ) → length text < at → false ≡ startsLine text at
@@ -61,14 +61,14 @@ module _ (text groups items key : List ℕ) (n i : ℕ) where
   line-start = refl
 
   pub line-none : {w : ℕ} → w ≡ last (definesKeyIn text groups items key) i n → i ≤ 0 → n ≡ w
-  line-none p = last-none (definesKeyIn text groups items key) n i p
+  line-none p = last-out (definesKeyIn text groups items key) n i p
 
   pub line-here : {w : ℕ} {b : Bool} → w ≡ last (definesKeyIn text groups items key) i n → 0 < i → b ≡ definesKeyIn text groups items key (i - 1)
       → b ≡ true → i - 1 ≡ w
-  line-here p h q t = last-here (definesKeyIn text groups items key) n i p h (sym q ∙ t)
+  line-here p h q t = last-stop (definesKeyIn text groups items key) n i p h (sym q ∙ t)
 
   pub line-before : {w : ℕ} {b : Bool} → w ≡ last (definesKeyIn text groups items key) i n → 0 < i → b ≡ definesKeyIn text groups items key (i - 1)
       → b ≡ false → w ≡ last (definesKeyIn text groups items key) (i - 1) n
-  line-before p h q t = last-before (definesKeyIn text groups items key) n i p h (sym q ∙ t)
+  line-before p h q t = last-more (definesKeyIn text groups items key) n i p h (sym q ∙ t)
 
 pub ruleset line-laws = (line-start, line-none, line-here, line-before)

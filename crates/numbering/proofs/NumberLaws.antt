@@ -7,7 +7,7 @@ use mathlib.Core.Bool.{Bool, true, false, not, and-false}
 use lib.ListN.{length, set}
 use borrow.Author.Tests.{le-leb, eq-eqb, ne-eqb, not-true, not-false}
 use Rattle.base.specs.Pick.{pick}
-use Rattle.source.proofs.WriteLaws.{written-none}
+use Rattle.base.proofs.Areas.{written-none}
 use Rattle.numbering.specs.declared.Numbering.{Numbering}
 use Rattle.numbering.specs.Records.{groupField}
 use Rattle.numbering.specs.Numbers.{Numbered, citeIn, citeFrom, standsNumbered, isNumbered, numberGroup, numberFrom, numberAll, definedFrom}

@@ -17,13 +17,13 @@ use Rattle.base.specs.Lists.{written, upFrom}
 use Rattle.base.specs.declared.Span.{Span}
 use Rattle.base.proofs.Searches.{first-by}
 use Rattle.pool.specs.Entries.{bytesOr}
-use Rattle.source.proofs.WriteLaws.{written-front, written-none, written-byte}
+use Rattle.base.proofs.Areas.{written-front, written-none, written-byte}
 use Rattle.definition.specs.declared.Author.{Author}
 use Rattle.definition.specs.declared.Author.the-variants.{InText, InPool, Missing}
 use Rattle.definition.specs.Parts.{authorBytes, authorGiven}
 use Rattle.definition.specs.Defs.{defAuthor}
-use Rattle.definition.proofs.Firsts.{first-out, first-stop, first-more}
-use Rattle.definition.proofs.Parts.{first-shift}
+use Rattle.base.proofs.Searches.{first-out, first-stop, first-more}
+use Rattle.base.proofs.Searches.{first-shift}
 use Rattle.numbering.specs.declared.Defined.{Defined}
 use Rattle.numbering.specs.Records.{itemField, keyIn, definitionIn}
 use Rattle.numbering.specs.Defined.{definedAs}

@@ -15,8 +15,8 @@ use Rattle.base.specs.Lists.{written}
 use Rattle.base.specs.Sorted.{Each}
 use Rattle.base.proofs.Alls.{each-map}
 use Rattle.base.proofs.Searches.{first-by, first-holds}
-use Rattle.source.proofs.WriteLaws.{written-front}
-use Rattle.definition.proofs.Firsts.{first-before}
+use Rattle.base.proofs.Areas.{written-front}
+use Rattle.base.proofs.Searches.{first-before}
 use Rattle.numbering.specs.Order.{less}
 use Rattle.numbering.specs.Ordered.{insertBy, insertedFrom, greaterAt, Rising, SortedBy}
 use Rattle.numbering.specs.References.{rankIn}

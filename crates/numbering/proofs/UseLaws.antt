@@ -14,7 +14,7 @@ use Rattle.base.specs.Lists.{same}
 use Rattle.numbering.specs.Records.{itemField, keyIn}
 use Rattle.numbering.specs.Numbers.{sameUse, lastUse, numberIn, useIn, sourcesIn, setLast}
 use Rattle.numbering.specs.Progress.{Counts}
-use Rattle.numbering.proofs.Search.{last-none, last-here, last-before}
+use Rattle.base.proofs.Lasts.{last-out, last-stop, last-more}
 
 module _ (text items key : List ℕ) (j : ℕ) {n : ℕ} (p : n ≡ itemField items j 12) where
   pub use-none : n ≡ 0 → false ≡ (ltb 0 (itemField items j 12) && same (keyIn text items j) key)
@@ -31,7 +31,7 @@ module _ (text items : List ℕ) (k i : ℕ) where
   use-start = refl
 
   pub use-end : {w : ℕ} → w ≡ last (sameUse text items k) i k → i ≤ 0 → k ≡ w
-  use-end p = last-none (sameUse text items k) k i p
+  use-end p = last-out (sameUse text items k) k i p
 
   module _ {w : ℕ} {b : Bool} {key : List ℕ} (p : w ≡ last (sameUse text items k) i k) (l : 0 < i) (e : key ≡ keyIn text items k)
       (q : b ≡ (ltb 0 (itemField items (i - 1) 12) && same (keyIn text items (i - 1)) key)) where
@@ -40,10 +40,10 @@ module _ (text items : List ℕ) (k i : ℕ) where
     tested = q ∙ rw e refl
 
     pub use-here : b ≡ true → i - 1 ≡ w
-    use-here t = last-here (sameUse text items k) k i p l (sym tested ∙ t)
+    use-here t = last-stop (sameUse text items k) k i p l (sym tested ∙ t)
 
     pub use-before : b ≡ false → w ≡ last (sameUse text items k) (i - 1) k
-    use-before t = last-before (sameUse text items k) k i p l (sym tested ∙ t)
+    use-before t = last-more (sameUse text items k) k i p l (sym tested ∙ t)
 
 pub ruleset use-laws = (use-none, use-same, use-start, use-end, use-here, use-before)
 

@@ -56,7 +56,7 @@ fn defines_key_in(text: &[u8], groups: &[u16], items: &[u16], g: usize, key: &[u
 {
     let k = records::group_field(groups, g, 2);
     let own = records::key_in(text, items, k);
-    if definition::bytes::is_same(own, key) {
+    if base::bytes::is_same(own, key) {
         defines_in(text, groups, items, g)
     } else {
         false

@@ -26,11 +26,11 @@ fn is_id(pool: &[u8], id: Span, key: &[u8]) -> bool
 {
     let at = id.at;
     let len = id.len;
-    let own = definition::bytes::part_of(pool, at, len);
+    let own = base::bytes::part_of(pool, at, len);
     if own.len() == 0 {
         return false;
     }
-    definition::bytes::is_same(own, key)
+    base::bytes::is_same(own, key)
 }
 
 // Whether entry `i` has the id `key`.

@@ -58,7 +58,7 @@ pub fn key_in<'a>(text: &'a [u8], items: &[u16], k: usize) -> &'a [u8]
 {
     let at = item_field(items, k, 2);
     let len = item_field(items, k, 3);
-    definition::bytes::part_of(text, at, len)
+    base::bytes::part_of(text, at, len)
 }
 
 // Whether item record `k` is marked as suppressed.

@@ -26,7 +26,7 @@ fn is_use(text: &[u8], items: &[u16], j: usize, key: &[u8]) -> bool
     if number == 0 {
         return false;
     }
-    definition::bytes::is_same(records::key_in(text, items, j), key)
+    base::bytes::is_same(records::key_in(text, items, j), key)
 }
 
 // The last item record before `k` that is numbered and has the key of record `k`; `k` where there is none.

@@ -3,29 +3,17 @@ use Prim.Native.Nat.{ℕ, suc, _+_, _-_, _*_, _≤_, _<_}
 use native.Mathlib.Omega.{arith}
 use mathlib.Core.Path.{_≡_, refl, sym, _∙_}
 use mathlib.Core.List.{List}
-use mathlib.Core.Bool.{Bool, true, false, _&&_}
+use mathlib.Core.Bool.{Bool, true, false, _&&_, true≢false}
 use lib.ListN.{length, take, drop}
 use lib.Dec.{eqb, leb}
 use borrow.Author.Tests.{lt-ltb, le-ltb, leb-true, le-leb, lt-leb, eq-eqb, ne-eqb}
 use Rattle.base.specs.Lists.{byteAt, part}
+use Rattle.base.proofs.Parts.{part-is, part-length}
 use Rattle.text.specs.Utf8.{utf8}
 use Rattle.pool.specs.Fields.{fieldEnd, fieldAt, fieldsOf, fill, follows, contentGood, fieldsGood, entryGood}
 use Rattle.pool.specs.Layout.{countOf, offsetOf, endOf, entriesGood, laidOut, wellFormed}
 use Rattle.pool.specs.Steps.{fieldGood, goodFrom, pairGood}
-use Rattle.pool.proofs.PartLaws.{part-in, part-length}
 use Rattle.pool.proofs.FieldLaws.{field-after, field-shrinks, fields-next, fill-next, fields-end, fill-end}
-
-pub differ : false ≡ true → ⊥
-differ h = let z : _≡_ {A = ℕ} 0 1 = cc in omega arith
-
-pub both : (a b : Bool) → (a && b) ≡ true → (a ≡ true) × (b ≡ true)
-both true b h = (refl, h)
-both false b h = absurd (differ h)
-
-pub three : (a b c : Bool) → (a && b && c) ≡ true → (a ≡ true) × (b ≡ true) × (c ≡ true)
-three true true c h = (refl, refl, h)
-three true false c h = absurd (differ h)
-three false b c h = absurd (differ h)
 
 -- the content of a field
 module _ (s : List ℕ) (tag a e : ℕ) where
@@ -40,7 +28,7 @@ module _ (s : List ℕ) (tag a e : ℕ) where
   pub content-text : {r : Bool} → a ≤ e → e ≤ length s → (tag ≡ 2 → ⊥) → (tag ≡ 6 → ⊥) → r ≡ utf8 (take (e - a) (drop a s))
       → r ≡ contentGood tag (part s a e)
   unfolding contentGood
-  content-text p q n m u = rw (ne-eqb tag 2 n, ne-eqb tag 6 m, ← part-in s a e p q) u
+  content-text p q n m u = rw (ne-eqb tag 2 n, ne-eqb tag 6 m, part-is s a e p q) u
 
 pub ruleset content-laws = (content-name, content-year, content-text)
 
@@ -89,8 +77,8 @@ module _ (s : List ℕ) (last at e : ℕ) where
     where
       go : (a b c : Bool) → leb (fieldEnd s at) e ≡ b → (a && (b && c)) ≡ true → fieldEnd s at ≤ e
       go true true c q h = leb-true _ _ q
-      go true false c q h = absurd (differ h)
-      go false b c q h = absurd (differ h)
+      go true false c q h = absurd (true≢false (sym h))
+      go false b c q h = absurd (true≢false (sym h))
 
   pub field-room : {r : Bool} → r ≡ fieldGood last s at e → r ≡ true → e ≤ length s → at + 3 ≤ length s
   unfolding fieldGood
@@ -98,7 +86,7 @@ module _ (s : List ℕ) (last at e : ℕ) where
     where
       go : (a c : Bool) → leb (at + 3) e ≡ a → (a && c) ≡ true → at + 3 ≤ length s
       go true c q h = omega (arith, leb-true (at + 3) e q, l)
-      go false c q h = absurd (differ h)
+      go false c q h = absurd (true≢false (sym h))
 
   pub entry-next : {k t : ℕ} {r w : Bool} → w ≡ goodFrom last s at e → at < e → r ≡ fieldGood last s at e → r ≡ true
       → t ≡ byteAt s at → k ≡ fieldEnd s at → w ≡ goodFrom t s k e

@@ -1,5 +1,4 @@
 pub mod NumberLaws
-pub mod PartLaws
 pub mod FieldLaws
 pub mod LayoutLaws
 pub mod ReaderLaws

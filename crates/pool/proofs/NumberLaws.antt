@@ -7,8 +7,8 @@ use mathlib.Core.List.{List}
 use mathlib.Core.Bool.{true, false}
 use lib.ListN.{length}
 use borrow.Author.Tests.{lt-ltb, le-ltb}
-use Rattle.pool.proofs.PartLaws.{part-byte}
 use Rattle.base.specs.Lists.{byteAt, part}
+use Rattle.base.proofs.Parts.{part-byte}
 use Rattle.pool.specs.Numbers.{leAt, u16At, signed, signedOf}
 
 -- a number of `w` bytes is below 256 ^ w
@@ -59,7 +59,7 @@ unfolding leAt
 le-part zero s a e i p q h = refl
 le-part (suc w) s a e i p q h =
     let r : a + (i + 1) ≡ a + i + 1 = omega arith in
-    rw (part-byte s a e i p q (omega arith), le-part w s a e (i + 1) p q (omega arith), r) refl
+    rw (part-byte s a e p q i (omega arith), le-part w s a e (i + 1) p q (omega arith), r) refl
 
 -- its sign
 module _ (n m : ℕ) where

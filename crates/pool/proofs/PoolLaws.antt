@@ -3,7 +3,7 @@ use Prim.Native.Nat.{ℕ, zero, suc, _+_, _-_, _*_, _≤_, _<_}
 use native.Mathlib.Omega.{arith}
 use mathlib.Core.Path.{_≡_, refl, sym, _∙_, ap}
 use mathlib.Core.List.{List, [], _∷_}
-use mathlib.Core.Bool.{Bool, true, false, _&&_}
+use mathlib.Core.Bool.{Bool, true, false, _&&_, true≢false}
 use mathlib.Core.Option.{Option, some}
 use lib.ListN.{length, getD, List·getD-eq-default}
 use lib.Dec.{eqb, leb}
@@ -16,10 +16,10 @@ use Rattle.pool.specs.Entries.{fieldWith, inName, nameAfter, yearIn, Ent
 use Rattle.pool.specs.Layout.{countOf, offsetOf, endOf, entriesGood, laidOut, wellFormed, entriesIn, entriesOf}
 use Rattle.pool.specs.Places.{Reads, ReadsName, EntryIn}
 use Rattle.base.specs.declared.Span.{Span}
+use Rattle.base.proofs.Bools.{and-right, and-three}
+use Rattle.base.proofs.Parts.{part-length}
 use Rattle.pool.specs.declared.Found.the-variants.{At}
 use Rattle.pool.proofs.NumberLaws.{le-part}
-use Rattle.pool.proofs.PartLaws.{part-length}
-use Rattle.pool.proofs.LayoutLaws.{differ, both, three}
 
 -- the parts of a name
 pub name-reads : (s : List ℕ) (fs : List Field) {a b c : Found} → Reads s a (inName 3 fs) → Reads s b (inName 4 fs) → Reads s c (inName 5 fs)
@@ -41,9 +41,9 @@ laid s h = go (leb (length s) 32768) (leb 2 (length s)) (leb (2 + 4 * countOf s)
     go : (a b c d : Bool) → leb (length s) 32768 ≡ a → leb (2 + 4 * countOf s) (length s) ≡ c → entriesGood (countOf s) s 0 (2 + 4 * countOf s) ≡ d
         → (a && b && c && d) ≡ true → Laid s
     go true true true d p q r h = record { small = leb-true _ _ p; pairs = leb-true _ _ q; entries = r ∙ h }
-    go true true false d p q r h = absurd (differ h)
-    go true false c d p q r h = absurd (differ h)
-    go false b c d p q r h = absurd (differ h)
+    go true true false d p q r h = absurd (true≢false (sym h))
+    go true false c d p q r h = absurd (true≢false (sym h))
+    go false b c d p q r h = absurd (true≢false (sym h))
 
 module _ (s : List ℕ) (w : wellFormed s ≡ true) where
   pub laid-out : 0 < length s → Laid s
@@ -89,9 +89,9 @@ stands n s i at h = go (eqb (offsetOf s i) at) (leb (endOf s i) (length s)) (ent
     go : (a b c d : Bool) → eqb (offsetOf s i) at ≡ a → leb (endOf s i) (length s) ≡ b → entryGood s at (endOf s i) ≡ c → entriesGood n s (i + 1) (endOf s i) ≡ d
         → (a && b && c && d) ≡ true → Stands s i × (entriesGood n s (i + 1) (endOf s i) ≡ true)
     go true true true d p q r t h = (record { good = ap (λ (k : ℕ). entryGood s k (endOf s i)) (eqb-true (offsetOf s i) at p) ∙ r; inside = leb-true _ _ q }, t ∙ h)
-    go true true false d p q r t h = absurd (differ h)
-    go true false c d p q r t h = absurd (differ h)
-    go false b c d p q r t h = absurd (differ h)
+    go true true false d p q r t h = absurd (true≢false (sym h))
+    go true false c d p q r t h = absurd (true≢false (sym h))
+    go false b c d p q r t h = absurd (true≢false (sym h))
 
 each-stands : (n : ℕ) (s : List ℕ) (i at j : ℕ) → entriesGood n s i at ≡ true → j < n → Stands s (i + j)
 each-stands zero s i at j h l = absurd (omega arith)
@@ -132,7 +132,7 @@ year-long : (last : ℕ) (fs : List Field) (b : List ℕ) → fieldsGood last fs
 unfolding fieldsGood fieldWith contentGood
 year-long last [] b g h = let z : _≡_ {A = ℕ} 0 1 = cc in absurd (omega arith)
 year-long last (f ∷ fs) b g h =
-    go (eqb (f .tag) 6) refl h (three (follows last (f .tag)) (contentGood (f .tag) (f .bytes)) (fieldsGood (f .tag) fs) g)
+    go (eqb (f .tag) 6) refl h (and-three (follows last (f .tag)) (contentGood (f .tag) (f .bytes)) (fieldsGood (f .tag) fs) g)
     (λ p q. year-long (f .tag) fs b p q)
   where
     six : contentGood (f .tag) (f .bytes) ≡ true → f .tag ≡ 6 → length (f .bytes) ≡ 8
@@ -147,7 +147,7 @@ year-long last (f ∷ fs) b g h =
 pub year-eight : (s : List ℕ) (at e : ℕ) {p : Span} → EntryIn s at e → Reads s (At p) (fieldWith 6 (fieldsOf s at e)) → p .len ≡ 8
 unfolding entryGood
 year-eight s at e {p} g r =
-    let l = year-long 0 (fieldsOf s at e) _ (both (fill s at e) _ (g .good) .1) (sym (r .bytes)) in
+    let l = year-long 0 (fieldsOf s at e) _ (and-right (fill s at e) _ (g .good)) (sym (r .bytes)) in
     let n = part-length s (p .at) (p .at + p .len) (omega arith) (r .inside) in
     omega arith
 

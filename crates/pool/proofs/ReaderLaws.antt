@@ -11,22 +11,22 @@ use borrow.Author.Tests.{leb-true, leb-false, le-leb, lt-leb, eq-eqb, ne-eqb, eq
 use Rattle.base.specs.Pick.{pick}
 use Rattle.base.specs.Lists.{byteAt, within}
 use Rattle.base.specs.Spans.{span}
+use Rattle.base.proofs.Bools.{and-left, and-three}
 use Rattle.pool.specs.declared.Found.{Found}
 use Rattle.pool.specs.declared.Found.the-variants.{At, Missing}
 use Rattle.pool.specs.Fields.{fieldEnd, fieldAt, fieldsOf, fill, entryGood}
 use Rattle.pool.specs.Entries.{fieldWith, inName}
 use Rattle.pool.specs.Places.{Reads, FieldsIn, EntryIn}
 use Rattle.pool.proofs.FieldLaws.{field-after, field-shrinks, fields-next, fill-next, fields-end, fill-end}
-use Rattle.pool.proofs.LayoutLaws.{both, three}
 
 -- an entry is made of fields
 pub fields-of-entry : (s : List ℕ) (at e : ℕ) → EntryIn s at e → FieldsIn s at e
 unfolding entryGood
-fields-of-entry s at e h = record { filled = both (fill s at e) _ (h .good) .0; inside = h .inside }
+fields-of-entry s at e h = record { filled = and-left (fill s at e) _ (h .good); inside = h .inside }
 
 module _ (s : List ℕ) (i e : ℕ) where
   split : FieldsIn s i e → i < e → (leb (i + 3) e ≡ true) × (leb (fieldEnd s i) e ≡ true) × (fill s (fieldEnd s i) e ≡ true)
-  split f h = three (leb (i + 3) e) (leb (fieldEnd s i) e) (fill s (fieldEnd s i) e) (sym (fill-next s i e h) ∙ f .filled)
+  split f h = and-three (leb (i + 3) e) (leb (fieldEnd s i) e) (fill s (fieldEnd s i) e) (sym (fill-next s i e h) ∙ f .filled)
 
   -- fields do not end before they begin
   pub fields-order : FieldsIn s i e → i ≤ e

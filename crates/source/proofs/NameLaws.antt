@@ -9,15 +9,15 @@ use mir.Syntax.{w64}
 use lib.ListN.{length, take, drop, length-append}
 use Rattle.base.specs.Lists.{part, written}
 use Rattle.base.specs.declared.Span.{Span}
+use Rattle.base.proofs.Parts.{part-length}
+use Rattle.base.proofs.Areas.{written-after, written-none}
 use Rattle.pool.specs.declared.Found.{Found}
 use Rattle.pool.specs.declared.Found.the-variants.{At, Missing}
 use Rattle.pool.specs.declared.NameParts.{NameParts}
 use Rattle.pool.specs.Entries.{bytesOr}
 use Rattle.pool.specs.Places.{bytesAt, Inside, nameAtParts}
-use Rattle.pool.proofs.PartLaws.{part-length}
 use Rattle.source.specs.Text.{nameBy, nameOf}
 use Rattle.source.specs.Lengths.{lenOf, givenPart, givenLen, familyPart, familyLen, nameLenBy, nameLen}
-use Rattle.source.proofs.WriteLaws.{written-after, written-none}
 
 pub found-length : (s : List ℕ) (f : Found) → Inside s f → lenOf f ≡ length (bytesOr (bytesAt s f) [])
 found-length s (At p) h = let l = part-length s (p .at) (p .at + p .len) (omega arith) h in omega arith

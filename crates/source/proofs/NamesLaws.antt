@@ -13,6 +13,8 @@ use borrow.Author.Tests.{eq-eqb, ne-eqb}
 use Rattle.base.specs.Pick.{pick}
 use Rattle.base.specs.Fold.{fold}
 use Rattle.base.specs.Lists.{byteAt, written}
+use Rattle.base.proofs.Folds.{fold-append}
+use Rattle.base.proofs.Areas.{written-none, written-kept, written-over, written-front, written-length, rest-room}
 use Rattle.pool.specs.declared.Found.{Found}
 use Rattle.pool.specs.declared.Found.the-variants.{At, Missing}
 use Rattle.pool.specs.declared.NameParts.{NameParts}
@@ -24,13 +26,8 @@ use Rattle.pool.proofs.ReaderLaws.{fields-of-entry, fields-order, fields-head, 
 use Rattle.source.specs.Text.{beside, nameOf, addName, namesOf}
 use Rattle.source.specs.Lengths.{besideLen, opened, lenOf, familyLen, nameLenBy, nameLen, givenLen, addLen}
 use Rattle.source.specs.Room.{Fit, NameFits, NextFits}
-use Rattle.source.proofs.WriteLaws.{beside-length, beside-more, written-none, written-kept, written-over, written-front, written-length, rest-room, fit-total, fit-opened, fit-rest, fit-written}
+use Rattle.source.proofs.WriteLaws.{beside-length, beside-more, fit-total, fit-opened, fit-rest, fit-written}
 use Rattle.source.proofs.NameLaws.{name-length}
-
-fold-append : {S A : Type 0} (f : S → A → S) (s : S) (a b : List A) → fold f s (a ++ b) ≡ fold f (fold f s a) b
-unfolding fold
-fold-append f s [] b = refl
-fold-append f s (x ∷ xs) b = fold-append f (f s x) xs b
 
 names-length : (a : List ℕ) (ns : List Name) → length (fold addName a ns) ≡ fold addLen (length a) ns
 unfolding fold addName addLen

@@ -9,8 +9,8 @@ use mir.Syntax.{w64}
 use lib.ListN.{length, take, drop, length-append}
 use lib.Seq.{length-take-le}
 use Rattle.base.specs.Lists.{written}
+use Rattle.base.proofs.Areas.{written-kept, written-after, written-front, written-length, written-over, rest-room}
 use Rattle.pool.specs.declared.Found.{Found}
-use Rattle.pool.specs.declared.Found.the-variants.{At, Missing}
 use Rattle.pool.specs.Fields.{fieldsOf}
 use Rattle.pool.specs.Entries.{bytesOr, fieldWith, entryOf}
 use Rattle.pool.specs.Places.{bytesAt, Inside, Reads, EntryIn}
@@ -23,7 +23,7 @@ use Rattle.source.specs.Room.{Fit}
 use Rattle.source.proofs.NameLaws.{found-length}
 use Rattle.source.proofs.YearLaws.{parens-length, parens-at-most}
 use Rattle.source.proofs.NamesLaws.{beside-at-most, inside-small}
-use Rattle.source.proofs.WriteLaws.{beside-length, written-kept, written-after, written-front, written-length, written-over, rest-room, first-room, second-fits, second-count, second-written}
+use Rattle.source.proofs.WriteLaws.{beside-length, first-room, second-fits, second-count, second-written}
 
 -- the year of an entry
 module _ (s : List ℕ) (y : Year) (o : Option (List ℕ)) where

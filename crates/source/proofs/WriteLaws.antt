@@ -1,4 +1,4 @@
--- Writing into the rest of an area, piece by piece, in the form of the needs.
+-- Parts written beside each other in an area, piece by piece, in the form of the needs.
 use Prim.Native.Nat.{ℕ, suc, _+_, _-_, _≤_, _<_}
 use native.Mathlib.Omega.{arith}
 use mathlib.Core.Path.{_≡_, refl, ap, sym, _∙_}
@@ -7,13 +7,13 @@ use mathlib.Core.Bool.{Bool, true, false}
 use mathlib.Core.Logic.{_⊎_, inl, inr}
 use mir.Val.{Fits}
 use mir.Syntax.{w64}
-use lib.ListN.{length, take, drop, take-append-drop, set, length-append, length-take, length-drop, drop-of-length-le}
+use lib.ListN.{length, take, drop, length-append}
 use lib.Dec.{eqb}
-use lib.Seq.{take-all, take-length, take-at, drop-at, drop-drop, drop-append-add, drop-cons, set-at, length-take-le}
+use lib.Seq.{length-take-le}
 use borrow.Author.Tests.{eq-eqb, ne-eqb, eqb-true}
 use Rattle.base.specs.Pick.{pick}
-use Rattle.base.specs.Lists.{part, written}
-use Rattle.pool.proofs.PartLaws.{part-in}
+use Rattle.base.specs.Lists.{written}
+use Rattle.base.proofs.Areas.{written-length, written-front, written-kept, written-over, written-after, rest-room}
 use Rattle.source.specs.Text.{isEmpty, beside}
 use Rattle.source.specs.Lengths.{besideLen, opened}
 use Rattle.source.specs.Room.{Fit}
@@ -33,73 +33,8 @@ module _ (a sep b : ℕ) where
 
 pub ruleset joined-laws = (joined-second, joined-first, joined-both)
 
--- an area that was written is as long as it was
-pub written-length : (out s : List ℕ) → length out ≤ length s → length (written out s) ≡ length s
-unfolding written
-written-length out s h = simp (length-append, length-drop) (omega arith)
-
-pub written-front : (out s : List ℕ) (k : ℕ) → k ≡ length out → take k (written out s) ≡ out
-unfolding written
-written-front out s k e = take-at out (drop (length out) s) k (sym e)
-
-pub written-none : (s : List ℕ) → s ≡ written [] s
-unfolding written
-written-none s = refl
-
--- what was copied
-pub copied : (b s : List ℕ) {out : List ℕ} → out ≡ take (length b) b ++ drop (length b) s → out ≡ written b s
-unfolding written
-copied b s e = e ∙ rw take-length refl
-
--- the area is `s`, with `out` at the front of `s₀`; its rest from `k` on was lent, and came back with `b` at its front
-pub written-after : (s₀ s out b p : List ℕ) (k : ℕ) → s ≡ written out s₀ → k ≡ length out → length out + length b ≤ length s₀
-    → p ≡ written b (take (length s - k) (drop k s)) → take k s ++ (p ++ drop (length s - k) (drop k s)) ≡ written (out ++ b) s₀
-unfolding written
-written-after s₀ s out b p k e q h g =
-    let d : drop k s ≡ drop (length out) s₀ = rw e (drop-at out (drop (length out) s₀) k (sym q)) in
-    let t : take k s ≡ out = rw e (take-at out (drop (length out) s₀) k (sym q)) in
-    let l : length (drop k s) ≤ length s - k = rw length-drop (omega arith) in
-    let f : take (length s - k) (drop k s) ≡ drop k s = take-all (length s - k) (drop k s) l in
-    let z : drop (length s - k) (drop k s) ≡ [] = drop-of-length-le (drop k s) {i = length s - k} l in
-    let n : drop (length b) (drop (length out) s₀) ≡ drop (length (out ++ b)) s₀ = drop-drop (length b) (length out) s₀ ∙ rw length-append refl in
-    let r : p ≡ b ++ drop (length (out ++ b)) s₀ = g ∙ rw (f, d, n) refl in
-    rw (t, z, r, append-nil) (sym (append-assoc out b (drop (length (out ++ b)) s₀)))
-
--- one byte more
-pub written-byte : (s₀ s out : List ℕ) (k x : ℕ) → s ≡ written out s₀ → k ≡ length out → length out < length s₀ → set s k x ≡ written (out ++ (x ∷ [])) s₀
-unfolding written
-written-byte s₀ s out k x e q h =
-    let l : length (out ++ (x ∷ [])) ≡ suc (length out) = simp length-append (omega arith) in
-    rw (e, drop-cons s₀ (length out) 0 h, set-at out _ (drop (suc (length out)) s₀) x k (sym q), l) (sym (append-assoc out (x ∷ []) (drop (suc (length out)) s₀)))
-
--- a part of the pool
-pub part-copied : (pool s : List ℕ) (a n : ℕ) {out : List ℕ} → a + n ≤ length pool → out ≡ written (take (a + n - a) (drop a pool)) s
-    → out ≡ written (part pool a (a + n)) s
-part-copied pool s a n h e = rw (part-in pool a (a + n) (omega arith) h) at e
-
--- the rest of an area has room for what it and the front have room for together
-pub rest-room : (s : List ℕ) (k n : ℕ) → k + n ≤ length s → n ≤ length (take (length s - k) (drop k s))
-rest-room s k n h = simp (length-take, length-drop) (omega arith)
-
--- the front of an area is there already
-pub written-kept : (s : List ℕ) (k : ℕ) → k ≤ length s → s ≡ written (take k s) s
-unfolding written
-written-kept s k h = rw (length-take-le k s h) (sym (take-append-drop k s))
-
--- what is written over a shorter front
-pub written-over : (a b s : List ℕ) → length a ≤ length b → written b (written a s) ≡ written b s
-unfolding written
-written-over a b s h =
-    let d : length b ≡ length a + (length b - length a) = omega arith in
-    let p : drop (length b) (a ++ drop (length a) s) ≡ drop (length b) s =
-    rw d (drop-append-add a (drop (length a) s) (length b - length a) ∙ drop-drop (length b - length a) (length a) s) in
-    rw p refl
-
 -- a separator after the first `k` bytes, before `m` more
 module _ (s sep : List ℕ) (k m : ℕ) where
-  kept : k ≤ length s → s ≡ written (take k s) s
-  kept h = written-kept s k h
-
   opened-kept : k ≤ length s → (k ≡ 0) ⊎ (m ≡ 0) → opened sep (take k s) m ≡ take k s
   unfolding opened
   opened-kept h (inl e) = rw (length-take-le k s h, eq-eqb k 0 e) refl
@@ -117,13 +52,13 @@ module _ (s sep : List ℕ) (k m : ℕ) where
   start-count h e = rw (opened-kept h (inl e), length-take-le k s h) (sym e)
 
   pub start-area : k ≤ length s → k ≡ 0 → s ≡ written (opened sep (take k s) m) s
-  start-area h e = rw (opened-kept h (inl e)) (kept h)
+  start-area h e = rw (opened-kept h (inl e)) (written-kept s k h)
 
   pub end-count : k ≤ length s → m ≡ 0 → k ≡ length (opened sep (take k s) m)
   end-count h e = rw (opened-kept h (inr e), length-take-le k s h) refl
 
   pub end-area : k ≤ length s → m ≡ 0 → s ≡ written (opened sep (take k s) m) s
-  end-area h e = rw (opened-kept h (inr e)) (kept h)
+  end-area h e = rw (opened-kept h (inr e)) (written-kept s k h)
 
   pub sep-room : k ≤ length s → (k ≡ 0 → ⊥) → (m ≡ 0 → ⊥) → length (opened sep (take k s) m) ≤ length s → length sep ≤ length (take (length s - k) (drop k s))
   sep-room h n z l = rest-room s k (length sep) (omega (arith, simp (length-append, length-take-le k s h) at (rw (opened-sep h n z) at l)))
@@ -137,7 +72,7 @@ module _ (s sep : List ℕ) (k m : ℕ) where
   sep-area {p} h n z l e =
       let q = length-take-le k s h in
       let r = rw (opened-sep h n z, length-append) at l in
-      rw (opened-sep h n z) (written-after s s (take k s) sep p k (kept h) (sym q) (omega arith) e)
+      rw (opened-sep h n z) (written-after s s (take k s) sep p k (written-kept s k h) (sym q) (omega arith) e)
 
 pub ruleset separate-laws = (start-count, start-area, end-count, end-area, sep-room, sep-count, sep-area)
 
@@ -253,5 +188,3 @@ module _ (s₀ sep a b : List ℕ) where
 
     pub second-written : {out : List ℕ} → out ≡ written (beside sep (take k one) b) one → out ≡ written (beside sep a b) s₀
     second-written h = rw front at h ∙ ap (written (beside sep a b)) o ∙ written-over a (beside sep a b) s₀ (beside-more sep a b)
-
-pub ruleset second-laws = (first-room, second-fits, second-count, second-written)

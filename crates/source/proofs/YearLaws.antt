@@ -10,13 +10,14 @@ use mir.Syntax.{w64}
 use lib.ListN.{length, take, drop, length-append}
 use Rattle.base.specs.Lists.{part, written}
 use Rattle.base.specs.declared.Span.{Span}
+use Rattle.base.proofs.Parts.{part-length}
+use Rattle.base.proofs.Areas.{written-after, written-none, written-length, rest-room}
 use Rattle.pool.specs.declared.Found.{Found}
 use Rattle.pool.specs.declared.Found.the-variants.{At, Missing}
 use Rattle.pool.specs.Numbers.{leAt, signed, signedOf}
 use Rattle.pool.specs.Fields.{fieldsOf}
 use Rattle.pool.specs.Entries.{fieldWith, yearIn, entryOf}
 use Rattle.pool.specs.Places.{bytesAt, Reads, EntryIn}
-use Rattle.pool.proofs.PartLaws.{part-length}
 use Rattle.pool.proofs.PoolLaws.{year-eight, year-is}
 use Rattle.decimal.specs.Decimal.{decimal}
 use Rattle.decimal.proofs.Laws.{decimal-short}
@@ -25,7 +26,6 @@ use Rattle.source.specs.declared.Year.the-variants.{Number, At as YearAt
 use Rattle.source.specs.Decimal.{signedDecimal}
 use Rattle.source.specs.Text.{yearBy, yearOf, inParens}
 use Rattle.source.specs.Years.{yearBytes, YearInside, ReadsYear, yearLen, parensLen, yearText}
-use Rattle.source.proofs.WriteLaws.{written-after, written-none, written-length, rest-room}
 
 -- the date literal
 module _ (s : List ℕ) (f : Found) (o : Option (List ℕ)) where

@@ -2,15 +2,16 @@
 use Prim.Native.Nat.{ℕ, suc, _+_, _-_, _*_, _≤_}
 use native.Mathlib.Omega.{arith}
 use mathlib.Core.Path.{_≡_, refl, sym, _∙_, ap}
-use mathlib.Core.List.{List, [], _∷_, _++_, append-nil, append-assoc}
+use mathlib.Core.List.{List, [], _∷_, _++_, append-assoc}
 use mathlib.Core.Bool.{Bool, true, false, _&&_, and-false}
-use lib.ListN.{length, take, drop, set, take-append-drop, length-append, length-drop, drop-of-length-le}
+use lib.ListN.{length, take, drop, set, take-append-drop, length-append, length-drop}
 use lib.Dec.{leb}
-use lib.Seq.{sets-eq, take-all, take-at, drop-at, drop-drop, length-take-le}
+use lib.Seq.{sets-eq, take-at, drop-at, drop-drop, length-take-le}
 use borrow.Author.Tests.{leb-true, le-leb}
 use Rattle.base.specs.Pick.{pick}
 use Rattle.base.specs.Lists.{written}
-use Rattle.item.proofs.Parts.{and-left, and-right}
+use Rattle.base.proofs.Bools.{and-left, and-right}
+use Rattle.base.proofs.Areas.{came-back}
 use Rattle.lookup.specs.Groups.{Group}
 use Rattle.lookup.specs.Rows.{rowsOf, rowsLength}
 use Rattle.lookup.proofs.RowLaws.{rows-length}
@@ -64,13 +65,7 @@ written-front out area = let z : 0 + length out ≡ length out = omega arith in 
 pub written-part : (n : ℕ) (area out back : List ℕ) → n ≤ length area → back ≡ written out (take (length area - n) (drop n area))
     → take n area ++ (back ++ drop (length area - n) (drop n area)) ≡ writtenAt n out area
 unfolding written writtenAt
-written-part n area out back h e =
-    let l : length (drop n area) ≤ length area - n = rw length-drop (omega arith) in
-    let f : take (length area - n) (drop n area) ≡ drop n area = take-all (length area - n) (drop n area) l in
-    let z : drop (length area - n) (drop n area) ≡ [] = drop-of-length-le (drop n area) {i = length area - n} l in
-    let d : drop (length out) (drop n area) ≡ drop (n + length out) area = drop-drop (length out) n area in
-    let b : back ≡ out ++ drop (n + length out) area = e ∙ rw (f, d) refl in
-    rw (z, b, append-nil) refl
+written-part n area out back h e = came-back n area out e ∙ rw drop-drop refl
 
 -- five numbers, one after the other
 pub five-written : (area : List ℕ) (k a b c d e : ℕ) → k + 5 ≤ length area
@@ -117,14 +112,6 @@ module _ (text : List ℕ) where
   unfolding insideAfter endAfter
   inside-append before from [] hs = refl
   inside-append before from (g ∷ gs) hs = inside-append (inLine text before from g) (groupEnd g) gs hs
-
-  pub swept-append : (before : Bool) (from : ℕ) (gs hs : List Group)
-      → sweptFrom text before from (gs ++ hs)
-      ≡ sweptFrom text before from gs ++ sweptFrom text (insideAfter text before from gs) (endAfter from gs) hs
-  unfolding sweptFrom insideAfter endAfter
-  swept-append before from [] hs = refl
-  swept-append before from (g ∷ gs) hs =
-      ap (λ (ps : List Placed). placed g (pick (inLine text before from g) 0 1) ∷ ps) (swept-append (inLine text before from g) (groupEnd g) gs hs)
 
   pub group-rows-append : (n : ℕ) (before : Bool) (from : ℕ) (gs hs : List Group)
       → groupRows n (sweptFrom text before from (gs ++ hs))
@@ -287,26 +274,6 @@ module _ {text : List ℕ} {gs : List Group} {items groups : List ℕ} {r : Swee
 
   pub all-group-rows : r .fits ≡ true → groups' ≡ written (groupRows 0 (sweptFrom text false 0 gs)) groups
   all-group-rows h = a .group-rows h ∙ written-front (groupRows 0 (sweptFrom text false 0 gs)) groups
-
-  -- 3 bytes an item
-  pub all-items-by : {n m : ℕ} → Counted text r n m → 3 * itemCount gs ≤ length text
-  all-items-by c =
-      let x = all-items-count in
-      let y = c .items-by in
-      let z = c .at-by in
-      omega arith
-
-  pub all-groups-by : {n m : ℕ} → Counted text r n m → length gs ≤ length text
-  all-groups-by c =
-      let x = all-groups-count in
-      let y = c .groups-by in
-      let z = c .at-by in
-      omega arith
-
--- what a next sweep asks of the state that one left
-pub swept-counted : {text : List ℕ} {note : ℕ} {index : List ℕ} {s : SweepState} {items groups : List ℕ} {r : SweepState} {items' groups' : List ℕ}
-    → SweptTo text note index s items groups r items' groups' → Counted text r (length items') (length groups')
-swept-counted a = rw (a .records .item-area, a .records .group-area) (a .counted)
 
 -- Two sweeps: the first with the index and the note as they were lent, the second, from where it stopped, with those after the build, if
 -- one was wanted. They record the groups of the sweep as run.

@@ -9,12 +9,12 @@ use lib.Dec.{eqb, leb, ltb}
 use borrow.Author.Tests.{lt-ltb, le-ltb, leb-true, leb-false, ltb-true, ltb-false}
 use Rattle.base.specs.First.{first}
 use Rattle.base.proofs.Searches.{first-by}
+use Rattle.base.proofs.Bools.{and-right}
 use Rattle.item.specs.declared.Item.{Item}
 use Rattle.item.specs.declared.Parsed.{Parsed}
 use Rattle.item.specs.declared.Parsed.the-variants.{Good, Bad}
 use Rattle.item.specs.Items.{itemOf, isGood}
 use Rattle.item.specs.Pieces.{partsAt, pieces, itemsStart, piecesOf, allGood, kept, itemsIn, itemsOf}
-use Rattle.item.proofs.Parts.{and-right}
 use Rattle.item.proofs.Pieces.{piece-by, pieces-more, pieces-last, items-more, items-last, first-good, rest-good, items-count}
 use Rattle.index.specs.Entries.{goodItems}
 use Rattle.lookup.specs.Groups.{groupOf, barred, groupAccepted}

@@ -11,8 +11,8 @@ use mir.Syntax.{w64}
 use mir.Val.{Fits}
 use Rattle.base.specs.Pick.{pick}
 use Rattle.base.specs.Lists.{written}
+use Rattle.base.proofs.Bools.{and-left, and-right}
 use Rattle.item.specs.Pieces.{itemsOf}
-use Rattle.item.proofs.Parts.{and-left, and-right}
 use Rattle.index.specs.Entries.{goodItems}
 use Rattle.lookup.specs.Groups.{groupOf, barred, groupAccepted}
 use Rattle.lookup.specs.Rows.{rowsOf, rowsLength}

@@ -1,82 +1,30 @@
 -- What a place of the sweep gives, and the sweep from there on, in the form of the code's needs.
-use Prim.Native.Nat.{ℕ, _-_, _<_}
+use Prim.Native.Nat.{ℕ, _<_}
 use native.Mathlib.Omega.{arith}
 use mathlib.Core.Path.{_≡_, refl, sym, _∙_, ap}
 use mathlib.Core.List.{List}
-use mathlib.Core.Bool.{Bool, true, false, _&&_, not}
+use mathlib.Core.Bool.{Bool, true, false, not}
 use lib.ListN.{length}
-use lib.Dec.{leb, ltb}
-use borrow.Author.Tests.{lt-ltb, eq-eqb, leb-true, leb-false, le-ltb}
+use borrow.Author.Tests.{lt-ltb, eq-eqb}
 use Rattle.base.specs.Pick.{pick}
 use Rattle.base.specs.Lists.{byteAt}
 use Rattle.text.specs.Escape.{escapedAt}
-use Rattle.close.specs.declared.Close.{Close}
-use Rattle.close.specs.declared.Close.the-variants.{At, Nothing}
+use Rattle.close.specs.declared.Close.the-variants.{At}
 use Rattle.index.specs.Entries.{opensAt}
-use Rattle.index.specs.Built.{builtIndex}
 use Rattle.lookup.specs.declared.Look.{Look}
 use Rattle.lookup.specs.declared.Look.the-variants.{At as LookAt, Nothing as LookNothing, Build as LookBuild}
 use Rattle.lookup.specs.declared.Matched.{Matched}
 use Rattle.lookup.specs.declared.Matched.the-variants.{Group as MatchedGroup, Nothing as NotMatched}
 use Rattle.lookup.specs.Groups.{GroupAnswer, Found, NoGroup, judge}
-use Rattle.lookup.specs.Resolve.{isBuilt, storedClose, shortLook, orElse, isNothing, closeAsRun, groupAsRun, wantsBuild}
-use Rattle.lookup.specs.Looks.{settled, shortened, lookOf, isBuild, matched, Inside}
+use Rattle.lookup.specs.Resolve.{closeAsRun, groupAsRun, wantsBuild}
+use Rattle.lookup.specs.Looks.{lookOf, isBuild, closeAfter, matched, Inside}
 use Rattle.lookup.proofs.Laws.{look-inside}
+use Rattle.lookup.proofs.Steps.{look-wants, look-close}
 use Rattle.sweep.specs.declared.Step.the-variants.{Next, Group as StepGroup, Build}
-use Rattle.sweep.specs.Stops.{foundWith, wantsAt, after}
+use Rattle.sweep.specs.Stops.{foundWith, wantsAt}
 use Rattle.sweep.specs.Steps.{stepOf, stepAt}
 
 -- what a look says -----------------------------------------------------------------------------------------------------------------
-
--- the close that a look gives where it wants no build
-abbrev closeBy : Look → Close
-closeBy (LookAt c) = At c
-closeBy LookNothing = Nothing
-closeBy LookBuild = Nothing
-
-module _ (s : List ℕ) (p note : ℕ) (index : List ℕ) where
-  not-less : ltb 64 (length s - p) ≡ not (leb (length s - p) 64)
-  not-less = go (leb (length s - p) 64) refl
-    where
-      go : (t : Bool) → leb (length s - p) 64 ≡ t → ltb 64 (length s - p) ≡ not t
-      go true h = le-ltb 64 (length s - p) (leb-true (length s - p) 64 h)
-      go false h = lt-ltb 64 (length s - p) (leb-false (length s - p) 64 h)
-
-  pub look-wants : isBuild (lookOf s p note index) ≡ wantsBuild s p note
-  unfolding lookOf shortened wantsBuild
-  look-wants = rw not-less (go (isBuilt note) (storedClose s p index) (shortLook s p) (leb (length s - p) 64))
-    where
-      built : (c : Close) → isBuild (settled c) ≡ false
-      built (At x) = refl
-      built Nothing = refl
-
-      go : (b : Bool) (c d : Close) (t : Bool)
-          → isBuild (pick b (settled c) (shortened s p d)) ≡ (not b && isNothing d && not (leb (length s - p) 64))
-      go true c d t = built c
-      go false c (At x) t = refl
-      go false c Nothing t = end (leb (length s - p) 64)
-        where
-          end : (t : Bool) → isBuild (pick t LookNothing LookBuild) ≡ not t
-          end true = refl
-          end false = refl
-
-  pub look-close : isBuild (lookOf s p note index) ≡ false → closeBy (lookOf s p note index) ≡ closeAsRun s p note index
-  unfolding lookOf shortened closeAsRun
-  look-close = go (isBuilt note) (storedClose s p index) (shortLook s p) (storedClose s p (builtIndex s index))
-    where
-      built : (c : Close) → closeBy (settled c) ≡ c
-      built (At x) = refl
-      built Nothing = refl
-
-      end : (t : Bool) (e : Close) → isBuild (pick t LookNothing LookBuild) ≡ false → closeBy (pick t LookNothing LookBuild) ≡ pick t Nothing e
-      end true e h = refl
-      end false e h = let z : _≡_ {A = ℕ} 0 1 = cc in absurd (omega (arith, z))
-
-      go : (b : Bool) (c d e : Close) → isBuild (pick b (settled c) (shortened s p d)) ≡ false
-          → closeBy (pick b (settled c) (shortened s p d)) ≡ pick b c (orElse d (pick (leb (length s - p) 64) Nothing e))
-      go true c d e h = built c
-      go false c (At x) e h = refl
-      go false c Nothing e h = end (leb (length s - p) 64) e h
 
 -- a close that it gives lies after the bracket, in the text, at a `]`
 module _ (s : List ℕ) (p note : ℕ) (index : List ℕ) {l : Look} {c : ℕ} (k : l ≡ lookOf s p note index) (z : l ≡ LookAt c) where
@@ -127,21 +75,23 @@ module _ (s : List ℕ) (note : ℕ) (index : List ℕ) (p : ℕ) where
           let x : wantsBuild s p note ≡ w = sym (look-wants s p note index) ∙ ap isBuild (sym k) ∙ z in
           rw (o, x)
 
-      judged : (isBuild l ≡ false) → stepAt s note index p ≡ stepOf (judge s p (closeBy l))
+      judged : (isBuild l ≡ false) → stepAt s note index p ≡ stepOf (judge s p (closeAfter s p index l))
       judged z =
-          at-bracket false z
-          ∙ ap (λ (c : Close). stepOf (judge s p c)) (sym (look-close s p note index (ap isBuild (sym k) ∙ z)) ∙ ap closeBy (sym k))
+          let n : isBuild (lookOf s p note index) ≡ false = ap isBuild (sym k) ∙ z in
+          let c : closeAfter s p index (lookOf s p note index) ≡ closeAsRun s p note index = rw n at (look-close s p note index) in
+          at-bracket false z ∙ rw (k, ← c)
 
       pub step-build : l ≡ LookBuild → Build ≡ stepAt s note index p
       step-build z = sym (at-bracket true (ap isBuild z))
 
       pub step-none : l ≡ LookNothing → Next ≡ stepAt s note index p
-      unfolding judge
+      unfolding judge closeAfter
       step-none z = sym (judged (ap isBuild z) ∙ rw z)
 
       module _ {c : ℕ} {m : Matched} (z : l ≡ LookAt c) (j : m ≡ matched (judge s p (At c))) where
         by-match : stepAt s note index p ≡ stepOf (judge s p (At c))
-        by-match = judged (ap isBuild z) ∙ ap (λ (x : Look). stepOf (judge s p (closeBy x))) z
+        unfolding closeAfter
+        by-match = judged (ap isBuild z) ∙ ap (λ (x : Look). stepOf (judge s p (closeAfter s p index x))) z
 
         pub step-group : {close count : ℕ} → m ≡ MatchedGroup close count → StepGroup close count ≡ stepAt s note index p
         unfolding matched

@@ -2,7 +2,7 @@
 use Prim.Native.Nat.{ℕ, zero, suc, _+_, _-_, _≤_, _<_}
 use native.Mathlib.Omega.{arith}
 use mathlib.Core.Path.{_≡_, refl, sym, _∙_, ap}
-use mathlib.Core.List.{List, [], _∷_, _++_, append-nil, append-assoc}
+use mathlib.Core.List.{List, [], _++_, append-nil, append-assoc}
 use mathlib.Core.Bool.{Bool, true, false, _&&_, not}
 use lib.ListN.{length}
 use lib.Dec.{eqb, leb, ltb}
@@ -14,13 +14,14 @@ use Rattle.index.specs.Entries.{opensAt}
 use Rattle.index.specs.Built.{builtIndex}
 use Rattle.lookup.specs.Groups.{Group, GroupAnswer, Found, NoGroup, groupOf, groupAccepted, judge}
 use Rattle.lookup.specs.Resolve.{storedClose, shortLook, orElse, isNothing, closeAsRun, groupAsRun, wantsBuild, noteAfter, indexAfter, recordsAfter}
-use Rattle.sweep.specs.Sweep.{Lent, Swept, swept, listed, nextAt, lentAfter, foundRun, buildsAt, sweepRunIn, sweepRun}
+use Rattle.sweep.specs.Sweep.{Lent, swept, listed, nextAt, lentAfter, foundRun, buildsAt, sweepRunIn, sweepRun}
 use Rattle.sweep.specs.Stops.{Stop, stop, foundWith, wantsAt, after, stopIn, stopFrom}
 use Rattle.sweep.specs.Facts.{goneOn, SweepInTwo}
-use Rattle.sweep.proofs.Sizes.{After, run-after}
+use Rattle.lookup.specs.Looks.{Inside}
+use Rattle.lookup.proofs.Steps.{run-inside}
 
 -- a sweep goes on by a byte or more
-next-judged : (s : List ℕ) (p : ℕ) (c : Close) → After s p c → p < nextAt p (judge s p c)
+next-judged : (s : List ℕ) (p : ℕ) (c : Close) → Inside s p c → p < nextAt p (judge s p c)
 unfolding judge groupOf
 next-judged s p (At c) h = go (groupAccepted s p c)
   where
@@ -35,7 +36,7 @@ module _ (text : List ℕ) where
   next-more note index at = go (opensAt text at)
     where
       go : (t : Bool) → at < nextAt at (pick t (judge text at (closeAsRun text at note index)) NoGroup)
-      go true = next-judged text at (closeAsRun text at note index) (run-after text at note index)
+      go true = next-judged text at (closeAsRun text at note index) (run-inside text at note index)
       go false = omega arith
 
   -- the sweep is at its end

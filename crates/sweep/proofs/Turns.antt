@@ -8,7 +8,7 @@ use lib.ListN.{length}
 use lib.Dec.{eqb}
 use borrow.Author.Tests.{lt-ltb, eqb-true}
 use Rattle.base.specs.Pick.{pick}
-use Rattle.base.specs.First.{first}
+use Rattle.base.specs.First.{first, firstOf}
 use Rattle.base.specs.Lists.{byteAt}
 use Rattle.base.proofs.Searches.{first-from, first-by, first-holds}
 use Rattle.close.specs.declared.Close.{Close}
@@ -17,14 +17,14 @@ use Rattle.item.specs.Pieces.{itemsOf}
 use Rattle.index.specs.Entries.{opensAt}
 use Rattle.lookup.specs.Groups.{Group, GroupAnswer, Found, NoGroup, groupOf, groupAccepted, judge}
 use Rattle.lookup.specs.Resolve.{closeAsRun, groupAsRun}
-use Rattle.definition.specs.Bytes.{firstOf}
+use Rattle.lookup.specs.Looks.{Inside}
+use Rattle.lookup.proofs.Steps.{run-inside}
 use Rattle.sweep.specs.declared.SweepState.{SweepState}
 use Rattle.sweep.specs.declared.Step.{Step}
 use Rattle.sweep.specs.declared.Step.the-variants.{Next, Group as StepGroup, Build}
 use Rattle.sweep.specs.Sweep.{listed, nextAt}
 use Rattle.sweep.specs.Stops.{stop, foundWith, wantsAt, after, stopIn, stopFrom, Counted, Recorded, SweptTo}
 use Rattle.sweep.specs.Steps.{stepOf, stepAt, GroupFrom, Recordable, movedTo, RecordedOne, Onward, Turned}
-use Rattle.sweep.proofs.Sizes.{After, run-after}
 use Rattle.sweep.proofs.Stops.{stop-end, stop-enough}
 use Rattle.sweep.proofs.Laws.{recorded-none, recorded-both}
 use Rattle.sweep.proofs.Steps.{none-wants, none-found}
@@ -112,7 +112,7 @@ module _ (text : List ℕ) (note : ℕ) (index : List ℕ) (at : ℕ) where
   unfolding stepAt foundWith groupAsRun judge groupOf
   step-found close count = go (wantsAt text note at) refl
     where
-      good : (c : ℕ) → After text at (At c) → (t : Bool) → groupAccepted text at c ≡ t
+      good : (c : ℕ) → Inside text at (At c) → (t : Bool) → groupAccepted text at c ≡ t
           → wantsAt text note at ≡ false → foundWith text note index at ≡ pick t (Found (groupOf text at c)) NoGroup
           → stepOf (pick t (Found (groupOf text at c)) NoGroup) ≡ StepGroup close count → StepFound text note index at close count
       good c i true a w f e =
@@ -130,7 +130,7 @@ module _ (text : List ℕ) (note : ℕ) (index : List ℕ) (at : ℕ) where
           }
       good c i false a w f e = let z : _≡_ {A = ℕ} 0 1 = cc in absurd (omega (arith, z))
 
-      closed : (c : Close) → closeAsRun text at note index ≡ c → After text at c
+      closed : (c : Close) → closeAsRun text at note index ≡ c → Inside text at c
           → wantsAt text note at ≡ false → foundWith text note index at ≡ judge text at c
           → stepOf (judge text at c) ≡ StepGroup close count → StepFound text note index at close count
       closed (At c) q i w f e = good c i (groupAccepted text at c) refl w f e
@@ -140,7 +140,7 @@ module _ (text : List ℕ) (note : ℕ) (index : List ℕ) (at : ℕ) where
           → foundWith text note index at ≡ pick o (judge text at (closeAsRun text at note index)) NoGroup
           → stepOf (pick o (judge text at (closeAsRun text at note index)) NoGroup) ≡ StepGroup close count
           → StepFound text note index at close count
-      opened true q w f e = closed (closeAsRun text at note index) refl (run-after text at note index) w f e
+      opened true q w f e = closed (closeAsRun text at note index) refl (run-inside text at note index) w f e
       opened false q w f e = let z : _≡_ {A = ℕ} 0 1 = cc in absurd (omega (arith, z))
 
       go : (w : Bool) → wantsAt text note at ≡ w

@@ -1,6 +1,6 @@
 // The sweep: left to right, each unescaped `[`; the records of the groups found.
+use base::bytes::find_byte;
 use close::Close;
-use definition::bytes::find_byte;
 use definition::line::break_at;
 use definition::line::colon_after;
 use definition::line::starts_line;

@@ -4,13 +4,14 @@ use native.Mathlib.Omega.{arith}
 use native.Mathlib.Numerals.{add-one}
 use mathlib.Core.Path.{_≡_, refl, sym, _∙_, ap}
 use mathlib.Core.List.{List}
-use mathlib.Core.Bool.{Bool, true, false, _&&_, _||_, not, true≢false, and-false}
-use lib.ListN.{length, getD}
-use lib.Dec.{eqb, ltb, leb}
-use borrow.Author.Tests.{eq-eqb, ne-eqb, le-leb, lt-leb, lt-ltb, le-ltb, leb-true, ltb-false}
+use mathlib.Core.Bool.{Bool, true, false, _&&_, and-false}
+use lib.ListN.{length}
+use lib.Dec.{eqb, leb}
+use borrow.Author.Tests.{eq-eqb, ne-eqb, le-leb, lt-leb, lt-ltb, le-ltb, leb-true}
 use Rattle.base.specs.Pick.{pick}
-use Rattle.base.specs.Lists.{byteAt, within}
-use Rattle.text.specs.Utf8.{tooLong, isTail, twoBytes, threeBytes, fourBytes, charWidth, utf8In, utf8}
+use Rattle.base.specs.Lists.{byteAt}
+use Rattle.base.proofs.Bools.{and-left, and-right}
+use Rattle.text.specs.Utf8.{tooLong, twoBytes, threeBytes, fourBytes, charWidth, utf8In, utf8}
 use Rattle.text.specs.Blocks.{allAscii, asciiStep}
 use Rattle.text.specs.Refusal.{afterText, textRefusal}
 
@@ -107,14 +108,6 @@ module _ (s : List ℕ) (at : ℕ) {w : Bool} (rest : Rest s at w) where
   rest-ascii h l = rest-next {x = 1} h (char-1 s at l) (λ z. omega arith)
 
 -- a run of ASCII bytes, gone by at once
-and-left : (a b : Bool) → a && b ≡ true → a ≡ true
-and-left true b h = refl
-and-left false b h = h
-
-and-right : (a b : Bool) → a && b ≡ true → b ≡ true
-and-right true b h = h
-and-right false b h = absurd (true≢false (sym h))
-
 rest-run : (s : List ℕ) (at n : ℕ) {w : Bool} → Rest s at w → at + n ≤ length s → allAscii n s at ≡ true → Rest s (at + n) w
 unfolding allAscii
 rest-run s at zero rest h q = let e : at + 0 ≡ at = omega arith in rw e rest
@@ -200,7 +193,7 @@ module _ (s : List ℕ) where
 
 pub ruleset refusal-laws = (refused-long, refused-not, refused-bytes)
 
--- what a call's answer `r` tells: the text is one, or `r` is the number of every call that asks for one
+-- what a call's answer `r` tells a call that asks for more: what comes next, or `r` itself
 refusal-cases : (l u : Bool) (next : ℕ) → pick l 1 (pick u next 2) ≡ pick (eqb (pick l 1 (pick u 0 2)) 0) next (pick l 1 (pick u 0 2))
 refusal-cases true u next = refl
 refusal-cases false true next = refl
@@ -214,22 +207,3 @@ module _ (s : List ℕ) {r : ℕ} (p : r ≡ textRefusal s) where
   pub accepted-after : (next : ℕ) → r ≡ 0 → next ≡ afterText s next
   unfolding textRefusal afterText
   accepted-after next z = sym (refusal-cases (tooLong s) (utf8 s) next ∙ rw (← p, eq-eqb r 0 z))
-
-  pub accepted-fits : r ≡ 0 → length s ≤ 65535
-  unfolding textRefusal afterText
-  accepted-fits z = go (tooLong s) refl (sym p ∙ z)
-    where
-      go : (l : Bool) → tooLong s ≡ l → _≡_ {A = ℕ} (pick l 1 (pick (utf8 s) 0 2)) 0 → length s ≤ 65535
-      go true q h = absurd (omega arith)
-      go false q h = ltb-false 65535 (length s) q
-
-  pub accepted-utf8 : r ≡ 0 → utf8 s ≡ true
-  unfolding textRefusal afterText
-  accepted-utf8 z = go (tooLong s) (utf8 s) (sym p ∙ z)
-    where
-      go : (l u : Bool) → _≡_ {A = ℕ} (pick l 1 (pick u 0 2)) 0 → u ≡ true
-      go true u h = absurd (omega arith)
-      go false true h = refl
-      go false false h = absurd (omega arith)
-
-pub ruleset accept-laws = (refused-after, accepted-after, accepted-fits, accepted-utf8)

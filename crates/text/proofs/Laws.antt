@@ -1,22 +1,20 @@
 -- What the code's needs cite, each law in the form of a need: premises are what the loop's invariant, the callees and the branches say.
-use Prim.Native.Nat.{ℕ, zero, suc, _+_, _-_, _%_, _≤_, _<_}
+use Prim.Native.Nat.{ℕ, suc, _+_, _-_, _%_, _≤_, _<_}
 use native.Mathlib.Omega.{arith}
 use native.Mathlib.Numerals.{add-one}
 use mathlib.Core.Path.{_≡_, refl, sym, _∙_, ap}
 use mathlib.Core.List.{List}
-use mathlib.Core.Bool.{Bool, true, false, _&&_, _||_, not}
-use lib.ListN.{length, getD, List·getD-eq-default}
-use lib.Dec.{eqb, ltb, leb}
+use mathlib.Core.Bool.{Bool, true, false, _&&_, not}
+use lib.ListN.{length, List·getD-eq-default}
+use lib.Dec.{eqb, ltb}
 use borrow.Author.Tests.{eq-eqb, ne-eqb, eqb-true, eqb-false, lt-ltb, le-ltb}
 use Rattle.base.specs.Pick.{pick}
 use Rattle.base.specs.Lists.{byteAt}
-use Rattle.base.specs.First.{first}
+use Rattle.base.proofs.Searches.{first-out, first-stop, first-more}
+use Rattle.base.proofs.Parts.{byte-past}
 use Rattle.text.specs.Escape.{slashes, escapedAt}
 use Rattle.text.specs.White.{whiteOne, whiteTwo, whiteThree, spaceWidth, isWhite, trimStart, contentEnd, trimEnd}
 use Rattle.text.proofs.Whites.{white-ascii, width-low}
-
-pub byte-past : (s : List ℕ) (i : ℕ) → length s ≤ i → 0 ≡ byteAt s i
-byte-past s i h = sym (List·getD-eq-default s 0 h)
 
 -- escape -------------------------------------------------------------------------------------------------------------------------
 
@@ -62,10 +60,6 @@ escaped-next s i = rw add-one (go (eqb (byteAt s i) 92))
     go : (t : Bool) → eqb (pick t (suc (slashes s i)) 0 % 2) 1 ≡ (t && not (eqb (slashes s i % 2) 1))
     go true = odd (slashes s i) (eqb (slashes s i % 2) 1) refl
     go false = refl
-
-pub escaped-start : (s : List ℕ) → escapedAt s 0 ≡ false
-unfolding escapedAt slashes
-escaped-start s = refl
 
 pub ruleset escape-laws = (slash-start, slash-out, slash-stop, slash-more, escaped-odd)
 
@@ -123,19 +117,16 @@ pub ruleset white-laws = (white-low, white-first, white-second, white-third)
 
 module _ (s : List ℕ) (i e : ℕ) {w : ℕ} (p : w ≡ trimStart s i e) where
   pub start-out : e ≤ i → i ≡ w
-  unfolding trimStart first
-  start-out h = let z : e - i ≡ 0 = omega arith in sym (p ∙ rw z)
-
-  more : i < e → e - i ≡ suc (e - (i + 1))
-  more h = omega arith
+  unfolding trimStart
+  start-out = first-out (λ k. not (isWhite s k)) i e p
 
   pub start-stop : {b : Bool} → i < e → b ≡ isWhite s i → b ≡ false → i ≡ w
-  unfolding trimStart first
-  start-stop h q f = sym (p ∙ rw (more h, sym q ∙ f))
+  unfolding trimStart
+  start-stop h q f = first-stop (λ k. not (isWhite s k)) i e p h (ap not (sym q ∙ f))
 
   pub start-more : {b : Bool} → i < e → b ≡ isWhite s i → b ≡ true → w ≡ trimStart s (i + 1) e
-  unfolding trimStart first
-  start-more h q t = p ∙ rw (more h, sym q ∙ t)
+  unfolding trimStart
+  start-more h q t = first-more (λ k. not (isWhite s k)) i e p h (ap not (sym q ∙ t))
 
 module _ (s : List ℕ) (a i : ℕ) {w : ℕ} (p : w ≡ trimEnd s a i) where
   pub end-out : i ≤ a → a ≡ w

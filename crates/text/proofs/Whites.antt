@@ -1,50 +1,46 @@
 -- White space: how wide a character is, and that a byte below 128 is white space just by itself.
-use Prim.Native.Nat.{ℕ, zero, suc, _+_, _-_, _≤_, _<_}
+use Prim.Native.Nat.{ℕ, _+_, _-_, _≤_, _<_}
 use native.Mathlib.Omega.{arith}
-use mathlib.Core.Path.{_≡_, refl, sym, _∙_}
+use mathlib.Core.Path.{_≡_, refl}
 use mathlib.Core.List.{List}
 use mathlib.Core.Logic.{_⊎_, inl, inr}
-use mathlib.Core.Bool.{Bool, true, false, _&&_, _||_, false-and, and-false, or-false}
-use lib.ListN.{length, getD}
-use lib.Dec.{eqb, ltb, leb}
+use mathlib.Core.Bool.{Bool, true, false, false-and, and-false, or-false}
+use lib.Dec.{ltb}
 use borrow.Author.Tests.{ne-eqb, le-ltb, ltb-true, ltb-false, lt-leb}
 use Rattle.base.specs.Pick.{pick}
-use Rattle.base.specs.Lists.{byteAt, within}
+use Rattle.base.specs.Lists.{byteAt}
+use Rattle.base.proofs.Bools.{split}
 use Rattle.text.specs.White.{whiteOne, whiteTwo, whiteThree, spaceWidth, isWhite}
 
-split : (t : Bool) → (t ≡ true) ⊎ (t ≡ false)
-split true = inl refl
-split false = inr refl
+-- the width by the bytes
+unfoldable pub widthBy : ℕ → ℕ → ℕ → ℕ
+widthBy a b c = pick (whiteOne a) 1 (pick (whiteTwo a b) 2 (pick (whiteThree a b c) 3 0))
 
--- a White_Space character has at most three bytes
-pub width-by : (s : List ℕ) (i : ℕ) → spaceWidth s i ≤ 3
-unfolding spaceWidth
-width-by s i = go (whiteOne (byteAt s i)) (whiteTwo (byteAt s i) (byteAt s (i + 1))) (whiteThree (byteAt s i) (byteAt s (i + 1)) (byteAt s (i + 2)))
-  where
-    go : (x y z : Bool) → pick x 1 (pick y 2 (pick z 3 0)) ≤ 3
-    go true y z = omega arith
-    go false true z = omega arith
-    go false false true = omega arith
-    go false false false = omega arith
+pub width-is : (s : List ℕ) (i : ℕ) → spaceWidth s i ≡ widthBy (byteAt s i) (byteAt s (i + 1)) (byteAt s (i + 2))
+unfolding spaceWidth widthBy
+width-is s i = refl
 
 -- a byte below 128 is no later byte of a white character
-width-second : (s : List ℕ) (i : ℕ) → byteAt s (i + 1) < 128 → spaceWidth s i ≤ 1
-unfolding spaceWidth
-width-second s i h =
-    let b = byteAt s (i + 1) in
+pub width-second : (a b c : ℕ) → b < 128 → widthBy a b c ≡ pick (whiteOne a) 1 0
+unfolding widthBy
+width-second a b c h =
     simp (ne-eqb b 0x85 (omega arith), ne-eqb b 0xA0 (omega arith), ne-eqb b 0x9A (omega arith), ne-eqb b 0x80 (omega arith), ne-eqb b 0x81 (omega arith), and-false)
-    (go (whiteOne (byteAt s i)))
+
+pub width-third : (a b c : ℕ) → c < 128 → widthBy a b c ≡ pick (whiteOne a) 1 (pick (whiteTwo a b) 2 0)
+unfolding widthBy
+width-third a b c h =
+    simp (ne-eqb c 0x80 (omega arith), ne-eqb c 0xA8 (omega arith), ne-eqb c 0xA9 (omega arith), ne-eqb c 0xAF (omega arith), ne-eqb c 0x9F (omega arith), lt-leb 0x80 c (omega arith), false-and, and-false, or-false)
+
+pub second-by : (s : List ℕ) (i : ℕ) → byteAt s (i + 1) < 128 → spaceWidth s i ≤ 1
+second-by s i h = rw (width-is s i, width-second (byteAt s i) (byteAt s (i + 1)) (byteAt s (i + 2)) h) (go (whiteOne (byteAt s i)))
   where
     go : (t : Bool) → pick t 1 0 ≤ 1
     go true = omega arith
     go false = omega arith
 
-width-third : (s : List ℕ) (i : ℕ) → byteAt s (i + 2) < 128 → spaceWidth s i ≤ 2
-unfolding spaceWidth
-width-third s i h =
-    let b = byteAt s (i + 2) in
-    simp (ne-eqb b 0x80 (omega arith), ne-eqb b 0xA8 (omega arith), ne-eqb b 0xA9 (omega arith), ne-eqb b 0xAF (omega arith), ne-eqb b 0x9F (omega arith), lt-leb 0x80 b (omega arith), false-and, and-false, or-false)
-    (go (whiteOne (byteAt s i)) (whiteTwo (byteAt s i) (byteAt s (i + 1))))
+third-by : (s : List ℕ) (i : ℕ) → byteAt s (i + 2) < 128 → spaceWidth s i ≤ 2
+third-by s i h =
+    rw (width-is s i, width-third (byteAt s i) (byteAt s (i + 1)) (byteAt s (i + 2)) h) (go (whiteOne (byteAt s i)) (whiteTwo (byteAt s i) (byteAt s (i + 1))))
   where
     go : (t u : Bool) → pick t 1 (pick u 2 0) ≤ 2
     go true u = omega arith
@@ -64,10 +60,10 @@ module _ (s : List ℕ) (i : ℕ) (h : byteAt s i < 128) (w : whiteOne (byteAt s
   width-here j e = rw e (width-low s i (omega arith) w)
 
   width-one : (j : ℕ) → j + 1 ≡ i → spaceWidth s j ≤ 1
-  width-one j e = width-second s j (rw e h)
+  width-one j e = second-by s j (rw e h)
 
   width-two : (j : ℕ) → j + 2 ≡ i → spaceWidth s j ≤ 2
-  width-two j e = width-third s j (rw e h)
+  width-two j e = third-by s j (rw e h)
 
   before-one : (ltb 0 i ≡ true) ⊎ (ltb 0 i ≡ false) → spaceWidth s (i - 1) ≤ 1
   before-one (inl p) = let q = ltb-true 0 i p in width-one (i - 1) (omega arith)

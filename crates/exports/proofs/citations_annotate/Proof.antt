@@ -43,7 +43,7 @@ use Rattle.base.specs.Lists.{written}
 use Rattle.index.specs.declared.Bracket.{Bracket}
 use Rattle.index.proofs.Bracket as T
 use Rattle.pairs.proofs.Lent.{at-list, lent, back}
-use Rattle.pairs.proofs.Calling.{calls-fn, calls-row-last, copied, last-list, no-last}
+use Rattle.base.proofs.Calling.{calls-fn, calls-row-last, copied, last-list, no-last}
 use Rattle.annotation.specs.Halves.{areas}
 use Rattle.annotation.specs.Call.{AnnotateRan, annotateRun}
 use Rattle.annotation.specs.Values.{annotationValues, annotationNumbers}

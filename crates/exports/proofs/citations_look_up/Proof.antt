@@ -43,7 +43,7 @@ use Rattle.base.specs.Lists.{written}
 use Rattle.index.specs.declared.Bracket.{Bracket}
 use Rattle.index.proofs.Bracket as T
 use Rattle.pairs.proofs.Lent.{at-list, lent, back}
-use Rattle.pairs.proofs.Calling.{calls-fn, calls-row-last, copied, last-list, no-last}
+use Rattle.base.proofs.Calling.{calls-fn, calls-row-last, copied, last-list, no-last}
 use Rattle.lookup.specs.LookUps.{LookUpRan, lookUpRun}
 use Rattle.lookup.specs.Values.{lookUpValues, lookUpNumbers}
 use Rattle.lookup.proofs.LookUp as R

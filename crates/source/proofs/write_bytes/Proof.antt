@@ -1,6 +1,6 @@
 -- `source::write_bytes` meets its contract. Assumes nothing.
 use borrow.Author.Needs.{needs}
-use Rattle.source.proofs.WriteLaws.{copied}
+use Rattle.base.proofs.Areas.{copied}
 use Rattle.source.proofs.write_bytes.Statement.{statement}
 use Rattle.source.proofs.write_bytes.Tie as tie
 

@@ -1,7 +1,7 @@
 -- `source::write_minus` meets its contract. Assumes nothing.
 use borrow.Author.Needs.{needs}
+use Rattle.base.proofs.Areas.{rest-room}
 use Rattle.source.proofs.YearLaws.{minus-written}
-use Rattle.source.proofs.WriteLaws.{rest-room}
 use Rattle.source.proofs.write_minus.Statement.{statement}
 use Rattle.source.proofs.write_minus.Tie as tie
 

@@ -1,7 +1,7 @@
 -- `source::write_opening` meets its contract. Assumes nothing.
 use borrow.Author.Needs.{needs}
+use Rattle.base.proofs.Areas.{rest-room}
 use Rattle.source.proofs.YearLaws.{opening-written}
-use Rattle.source.proofs.WriteLaws.{rest-room}
 use Rattle.source.proofs.write_opening.Statement.{statement}
 use Rattle.source.proofs.write_opening.Tie as tie
 

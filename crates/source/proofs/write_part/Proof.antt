@@ -1,6 +1,6 @@
 -- `source::write_part` meets its contract. Assumes nothing.
 use borrow.Author.Needs.{needs}
-use Rattle.source.proofs.WriteLaws.{part-copied}
+use Rattle.base.proofs.Areas.{part-copied}
 use Rattle.source.proofs.write_part.Statement.{statement}
 use Rattle.source.proofs.write_part.Tie as tie
 

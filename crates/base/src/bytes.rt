@@ -1,10 +1,9 @@
 // Searches for a byte, the comparison of two slices, and a part of a slice.
 ghost use mathlib.Core.Path.{_≡_};
-ghost use Prim.Native.Nat.{_+_, _-_, _≤_};
+ghost use Prim.Native.Nat.{_+_, _≤_};
 ghost use lib.ListN.{length};
+ghost use Rattle.base.specs.First.{firstOf, firstOther};
 ghost use Rattle.base.specs.Lists.{part, same};
-ghost use Rattle.definition.specs.Bytes.{firstOf, firstOther};
-ghost use Rattle.definition.specs.Attributes.{endWithout};
 
 // The first place from `a` up to `e` that holds the byte `b`, or `e`.
 pub fn find_byte(s: &[u8], b: u8, a: usize, e: usize) -> usize
@@ -35,22 +34,6 @@ pub fn skip_byte(s: &[u8], b: u8, a: usize, e: usize) -> usize
         }
     }
     i
-}
-
-// Where the stretch from `a` to `e` ends without the bytes `b` at its end.
-pub fn end_without(s: &[u8], b: u8, a: usize, e: usize) -> usize
-    requires { ⌜ e ≤ length (now s) ⌝ }
-    ensures { λ r. ⌜ r ≡ endWithout b (now (s .entry)) a (e - a) ⌝ }
-{
-    let mut i = e;
-    while a < i {
-        if s[i - 1] == b {
-            i -= 1;
-        } else {
-            return i;
-        }
-    }
-    a
 }
 
 // Whether two slices hold the same bytes.

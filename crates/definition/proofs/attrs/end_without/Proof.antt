@@ -1,12 +1,12 @@
--- `definition::bytes::end_without` meets its contract. The loop's invariant: the stretch up to `i` ends, without `b`, where the whole does. The
+-- `definition::attrs::end_without` meets its contract. The loop's invariant: the stretch up to `i` ends, without `b`, where the whole does. The
 -- measure is what is left of the stretch. Assumes nothing.
 use Prim.Native.Nat.{_-_, _≤_}
 use mathlib.Core.Path.{_≡_}
 use borrow.Author.Needs.{needs}
 use Rattle.definition.specs.Attributes.{endWithout}
 use Rattle.definition.proofs.Laws.{without-laws}
-use Rattle.definition.proofs.bytes.end_without.Statement.{statement}
-use Rattle.definition.proofs.bytes.end_without.Tie as tie
+use Rattle.definition.proofs.attrs.end_without.Statement.{statement}
+use Rattle.definition.proofs.attrs.end_without.Tie as tie
 
 abbrev Inv-loop : tie.InvT-loop
 Inv-loop s b a e i₀ i = (i ≤ e) × (endWithout b s a (e - a) ≡ endWithout b s a (i - a))
