@@ -37,3 +37,13 @@ last-by f (suc n) d h = go (f n) (last-by f n d (omega arith))
     go : (t : Bool) → last f n d ≤ d → pick t n (last f n d) ≤ d
     go true q = omega arith
     go false q = q
+
+-- where it stops before that, the test holds
+pub last-holds : (f : ℕ → Bool) (n d : ℕ) → n ≤ d → last f n d < d → f (last f n d) ≡ true
+unfolding last
+last-holds f zero d h l = absurd (omega arith)
+last-holds f (suc n) d h l = go (f n) refl l (λ k. last-holds f n d (omega arith) k)
+  where
+    go : (t : Bool) → f n ≡ t → pick t n (last f n d) < d → (last f n d < d → f (last f n d) ≡ true) → f (pick t n (last f n d)) ≡ true
+    go true q k rec = q
+    go false q k rec = rec k
