@@ -19,6 +19,7 @@ use Rattle.sweep.specs.Rows.{groupRows, itemCount, itemRows, sweptFrom}
 use Rattle.sweep.specs.Stops.{startState, Recorded, SweptTo}
 use Rattle.sweep.proofs.Laws.{item-rows-length, group-rows-length, swept-length, all-groups-count, all-items-count, all-fitted, all-item-rows, all-group-rows, swept-whole, swept-lent}
 use Rattle.numbering.specs.Numbers.{Numbered, numberAll}
+use Rattle.numbering.specs.References.{SourcesKnown}
 use Rattle.annotation.specs.declared.Annotation.{Annotation}
 use Rattle.annotation.specs.declared.Annotation.the-variants.{Refused}
 use Rattle.annotation.specs.declared.Begun.{Begun}
@@ -30,7 +31,7 @@ use Rattle.annotation.specs.Halves.{areas, BegunBy, Done, Zeroed, roomTh
 use Rattle.annotation.proofs.Counts.{sources-by}
 use Rattle.annotation.proofs.Passes.{numbers-agree}
 use Rattle.annotation.proofs.Found.{swept-fits}
-use Rattle.annotation.proofs.ByRecords.{content-agrees}
+use Rattle.annotation.proofs.ByRecords.{known-sources, content-agrees}
 use Rattle.annotation.proofs.RefusalLaws.{Unrefused, unrefused}
 
 -- tests --------------------------------------------------------------------------------------------------------------------------------
@@ -154,6 +155,10 @@ module _ {text : List ℕ} {mode : ℕ} {pool : List ℕ} {note : ℕ} {index₀
           let h = fits .room in
           let l = fits .short in
           omega arith
+
+      -- and they are known by their keys
+      pub sources-known : SourcesKnown text pool (made .groups) (made .items) (s .groups) (s .items) (made .sources)
+      sources-known = rw (then-known, all-groups-count whole, all-items-count whole) (known-sources text mode all pool restItems restGroups fits)
 
 -- the call as run ----------------------------------------------------------------------------------------------------------------------
 

@@ -6,31 +6,33 @@ use mathlib.Core.List.{List, [], _∷_, map}
 use mathlib.Core.Logic.{inl, inr}
 use mathlib.Core.Bool.{Bool, true, false}
 use lib.ListN.{length, getD, length-map}
-use lib.Dec.{eqb}
-use borrow.Author.Tests.{eqb-true, eq-eqb}
+use lib.Dec.{eqb, ltb}
+use borrow.Author.Tests.{eqb-true, eq-eqb, ltb-true}
 use Rattle.base.specs.Pick.{pick}
 use Rattle.base.specs.First.{first}
 use Rattle.base.specs.Fold.{fold}
 use Rattle.base.specs.Lists.{upFrom}
 use Rattle.base.proofs.Searches.{first-holds, first-before}
 use Rattle.base.proofs.Ups.{up-length}
+use Rattle.base.proofs.Bools.{and-left, and-right}
 use Rattle.lookup.specs.Groups.{Group}
 use Rattle.pool.specs.Layout.{hasPool}
 use Rattle.definition.specs.Lines.{inLine, groupEnd}
 use Rattle.definition.specs.Defs.{defOf}
 use Rattle.sweep.specs.Rows.{Placed, groupWidth, groupRow, groupRows, itemCount}
 use Rattle.numbering.specs.Records.{itemField, keyIn, definitionIn}
-use Rattle.numbering.specs.Numbers.{Numbered}
+use Rattle.numbering.specs.Numbers.{Numbered, usedAt}
 use Rattle.numbering.specs.Order.{less, Ranked, insert}
-use Rattle.numbering.specs.References.{firstWith, sourceKeyIn, rankIn, rankedIn, referencesIn}
+use Rattle.numbering.specs.References.{firstWith, sourceKeyIn, rankIn, rankedIn, referencesIn, numberOfKey, SourcesKnown}
 use Rattle.numbering.proofs.ByLines.{definition-same}
 use Rattle.annotation.specs.Sources.{Source, placeOf, numberOf}
 use Rattle.annotation.specs.Order.{rankOf, rankedFrom, referencesOf}
 use Rattle.annotation.specs.Content.{placedFrom, placedOf, tallyOf, contentOf}
 use Rattle.annotation.specs.Facts.{sourceKey}
 use Rattle.annotation.specs.Steps.{Fits, sweptItems, sweptGroups, numberedFrom, NumberedAs, ReferencesAgree, ContentAgrees}
-use Rattle.annotation.proofs.Numbers.{numbers-are-places}
+use Rattle.annotation.proofs.Numbers.{same-true, numbers-are-places}
 use Rattle.annotation.proofs.Places.{place-key}
+use Rattle.annotation.proofs.Defined.{source-defined}
 use Rattle.annotation.proofs.Joins.{Known, Joined}
 use Rattle.annotation.proofs.Passes.{Agrees, definitions-agree, tally-agrees, numbers-agree}
 
@@ -60,6 +62,26 @@ module _ (text pool groups items : List ℕ) (n m : ℕ) (pooled : Bool) (source
       let r = d .numbers j b (omega arith) in
       let p : placeOf (keyIn text items j) sources ≡ k - 1 = omega (arith, r .0) in
       sym (place-key (keyIn text items j) sources (r .1)) ∙ ap (λ (i : ℕ). getD (map (λ (s : Source). s .key) sources) i []) p
+
+  -- and the first record with its key has its number
+  number-of-source : (k : ℕ) → numberOf (sourceKey sources k) sources ≡ k → k ≤ length sources
+      → numberOfKey text items m (sourceKey sources k) ≡ k
+  unfolding numberOf numberOfKey
+  number-of-source k e l = go (d .known (sourceKey sources k))
+    where
+      its : ℕ → Bool
+      its = usedAt text items (sourceKey sources k)
+
+      go : Known text items pooled m sources (sourceKey sources k) → itemField items (first its m 0) 12 ≡ k
+      go (inl c) =
+          let b = c .1 .at .below in
+          let h = first-before its m 0 (c .0) (omega arith) (c .1 .at .holds) in
+          let t = first-holds its m 0 (omega arith) in
+          let q = ltb-true 0 (itemField items (first its m 0) 12) (and-left (ltb 0 (itemField items (first its m 0) 12)) _ t) in
+          let r = d .numbers (first its m 0) (omega arith) q in
+          let s = same-true (keyIn text items (first its m 0)) (sourceKey sources k) (and-right (ltb 0 (itemField items (first its m 0) 12)) _ t) in
+          r .0 ∙ ap (λ (x : List ℕ). placeOf x sources + 1) s ∙ e
+      go (inr u) = absurd (let z = u .new in omega arith)
 
 -- the same sources in the same order
 module _ (text pool groups items : List ℕ) (n m : ℕ) (all : List Group) where
@@ -107,6 +129,21 @@ module _ (text : List ℕ) (mode : ℕ) (all : List Group) (pool restItems restG
       let e : 1 + j - 1 ≡ j = omega arith in
       rank-agrees (1 + j) (omega arith) (omega arith)
       ∙ ap (λ (i : ℕ). rankOf text all pool (getD (map (λ (s : Source). s .key) sources) i [])) e)
+
+  pub known-sources : SourcesKnown text pool (N .groups) (N .items) (length all) (itemCount all) (N .sources)
+  known-sources = record {
+    defined = λ k h l.
+        rw (key k h (omega (arith, ends .sources)), defined-then (sourceKey sources k)) (source-defined text mode all pool k h (omega (arith, ends .sources)));
+    numbered = λ k h l.
+        rw (key k h (omega (arith, ends .sources)))
+        (number-of-source text pool (N .groups) (N .items) (length all) (itemCount all) (hasPool pool) sources (ends .joined) k
+        (numbers-are-places text mode all pool k h (omega (arith, ends .sources))) (omega (arith, ends .sources)));
+  }
+    where
+      key : (k : ℕ) → 1 ≤ k → k ≤ length sources → sourceKeyIn text pool (N .groups) (N .items) (length all) (itemCount all) k ≡ sourceKey sources k
+      key k h l =
+          key-of-source text pool (N .groups) (N .items) (length all) (itemCount all) (hasPool pool) sources (ends .joined) k
+          (numbers-are-places text mode all pool k h l) h l
 
 pub references-agree : ReferencesAgree
 unfolding referencesIn referencesOf

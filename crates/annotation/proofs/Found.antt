@@ -21,7 +21,7 @@ use Rattle.annotation.specs.Steps.{SweptFits}
 abbrev Within : List ℕ → Group → Type 0
 Within text g = (g .at < g .close) × (g .close < length text)
 
-each-append : {A : Type 0} (P : A → Type 0) (xs ys : List A) → Each P xs → Each P ys → Each P (xs ++ ys)
+pub each-append : {A : Type 0} (P : A → Type 0) (xs ys : List A) → Each P xs → Each P ys → Each P (xs ++ ys)
 each-append P [] ys h k = k
 each-append P (x ∷ xs) ys h k = (h .0, each-append P xs ys (h .1) k)
 

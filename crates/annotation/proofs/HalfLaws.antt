@@ -19,9 +19,9 @@ use Rattle.annotation.specs.declared.Annotation.{Annotation}
 use Rattle.annotation.specs.declared.Annotation.the-variants.{Refused}
 use Rattle.annotation.specs.declared.Begun.{Begun}
 use Rattle.annotation.specs.Call.{annotateRefusal, zeros}
-use Rattle.annotation.specs.Halves.{BegunBy, Continues, Finished, Zeroed, Ordered}
+use Rattle.annotation.specs.Halves.{BegunBy, Continues, Finished, Zeroed, Orderable, Ordered}
 use Rattle.annotation.proofs.RefusalLaws.{Unrefused, unrefused}
-use Rattle.annotation.proofs.Answers.{sources-short, done-refused, done-few, done-room}
+use Rattle.annotation.proofs.Answers.{sources-short, sources-known, done-refused, done-few, done-room}
 
 -- the first half -----------------------------------------------------------------------------------------------------------------------
 
@@ -86,7 +86,7 @@ module _ {text : List ℕ} {mode : ℕ} {pool : List ℕ} {note : ℕ} {p : Begu
   goes-counted = rw (c .begun .item-area, c .begun .group-area) (c .begun .sweeps z .counted)
 
   module _ {k : ℕ} {s : SweepState} {items' groups' : List ℕ} (t : SweptTo text k index (p .sweep) items groups s items' groups') where
-    pub groups-short : s .groups ≤ 65535
+    pub groups-short : s .groups ≤ 32768
     groups-short =
         let a = goes-short in
         let x = t .counted .groups-by in
@@ -100,8 +100,9 @@ module _ {text : List ℕ} {mode : ℕ} {pool : List ℕ} {note : ℕ} {p : Begu
         let y = t .counted .at-by in
         omega arith
 
-    pub numbers-short : k ≡ noteAfter (p .sweep .wants) note → s .fits ≡ true → numberAll text mode pool (s .groups) items' groups' .sources ≤ 65535
-    numbers-short q f = sources-short (c .begun) [] z q (c .built) t f
+    pub numbers-known : k ≡ noteAfter (p .sweep .wants) note → s .fits ≡ true
+        → Orderable text pool (s .groups) (s .items) (numberAll text mode pool (s .groups) items' groups')
+    numbers-known q f = record { few = sources-short (c .begun) [] z q (c .built) t f; known = sources-known (c .begun) [] z q (c .built) t f }
 
 module _ (text : List ℕ) (mode : ℕ) (pool : List ℕ) (note : ℕ) {p : Begun} (index items groups references labels : List ℕ) where
   pub finished-refused : (p .number ≡ 0 → ⊥)
@@ -131,7 +132,7 @@ pub ruleset finish-laws = (
   goes-counted,
   groups-short,
   items-short,
-  numbers-short,
+  numbers-known,
   finished-refused,
   finished-few,
   finished-room,

@@ -5,7 +5,7 @@ use native.Mathlib.Nat.{mod-eq-of-lt}
 use mathlib.Core.Path.{_≡_, refl, sym, _∙_, ap, subst}
 use mathlib.Core.List.{List, []}
 use mathlib.Core.Logic.{_⊎_, inl, inr}
-use mathlib.Core.Bool.{Bool, true, false, _&&_}
+use mathlib.Core.Bool.{Bool, true, false}
 use lib.ListN.{length}
 use lib.Dec.{ltb}
 use borrow.Author.Tests.{lt-ltb, le-ltb, ltb-true, ltb-false}
@@ -15,15 +15,11 @@ use Rattle.base.specs.Lists.{same}
 use Rattle.base.proofs.Lasts.{LastAt, LastNone, last-here, last-before, none-before, last-alike, none-alike}
 use Rattle.lookup.specs.Rows.{itemWidth}
 use Rattle.numbering.specs.Records.{itemField, keyIn}
-use Rattle.numbering.specs.Numbers.{sameUse, lastUse, numberIn, useIn, sourcesIn}
+use Rattle.numbering.specs.Numbers.{usedAt, sameUse, lastUse, numberIn, useIn, sourcesIn}
 use Rattle.annotation.specs.Sources.{Source, placeOf, numberOf, usesOf, useOf, used}
 use Rattle.base.proofs.Sames.{same-refl, same-true}
 use Rattle.annotation.proofs.Numbers.{place-used, place-stays, place-there}
 use Rattle.annotation.proofs.Places.{uses-used, uses-other, uses-most, uses-none, used-old, used-new, used-most, place-other}
-
--- item record `j` is numbered and has this key
-abbrev pub usedAt : List ℕ → List ℕ → List ℕ → ℕ → Bool
-usedAt text items key j = ltb 0 (itemField items j 12) && same (keyIn text items j) key
 
 -- what the first `k` item records and the sources say of a key: record `j` is the last that has it, or none has
 pub record Cited (text items : List ℕ) (pooled : Bool) (k : ℕ) (sources : List Source) (key : List ℕ) (j : ℕ) : Type 0 where

@@ -9,13 +9,13 @@ use borrow.Author.Tests.{leb-true}
 use Rattle.base.specs.Lists.{written}
 use Rattle.base.proofs.Bools.{and-left, and-right}
 use Rattle.numbering.specs.Numbers.{Numbered, numberAll}
-use Rattle.numbering.specs.References.{referencesIn}
+use Rattle.numbering.specs.References.{referencesIn, SourcesKnown}
 use Rattle.numbering.specs.declared.Numbering.{Numbering}
 use Rattle.numbering.specs.Progress.{roomOf, Agrees, Holds}
 use Rattle.annotation.specs.declared.Annotation.{Annotation}
 use Rattle.annotation.specs.declared.Annotation.the-variants.{Accepted}
 use Rattle.annotation.specs.Values.{annotationValues}
-use Rattle.annotation.specs.Halves.{roomThen, Zeroed, Ordered}
+use Rattle.annotation.specs.Halves.{roomThen, Zeroed, Orderable, Ordered}
 
 -- `k` is what numbering the records gave
 module _ (text : List ℕ) (mode : ℕ) (pool : List ℕ) (n m note : ℕ) (items groups references labels : List ℕ) {k : Numbering}
@@ -45,8 +45,8 @@ module _ (text : List ℕ) (mode : ℕ) (pool : List ℕ) (n m note : ℕ) (item
     agreed : Agrees made labels k items' groups' labels'
     agreed = h .agrees (and-left (k .fits) _ y)
 
-    pub sources-word : made .sources ≤ 65535 → k .sources ≤ 65535
-    sources-word u = rw (agreed .sources) u
+    pub sources-word : Orderable text pool n m made → k .sources ≤ 65535
+    sources-word o = rw (agreed .sources) (o .few)
 
     pub ordered-room : {references' : List ℕ} → references' ≡ written (referencesIn text pool groups' items' n m mode (k .sources)) references
         → Ordered text mode pool n m note items groups references labels (Accepted n m (k .sources) (k .«label_bytes») note) items' groups' references'
@@ -77,4 +77,12 @@ module _ (text : List ℕ) (mode : ℕ) (pool : List ℕ) (n m note : ℕ) (item
       label-area = o .label-area ∙ rw (no-room, l);
     }
 
-pub ruleset order-laws = (references-room, sources-word, ordered-room, ordered-few)
+-- the sources are known in the areas as they are then
+pub sources-are : (text : List ℕ) (mode : ℕ) (pool : List ℕ) (n m : ℕ) (items groups labels : List ℕ) (k : Numbering) (items' groups' labels' : List ℕ) (b : Bool)
+    → Holds (numberAll text mode pool n items groups) (roomOf labels) labels k items' groups' labels'
+    → Orderable text pool n m (numberAll text mode pool n items groups) → (k .fits && b) ≡ true → SourcesKnown text pool groups' items' n m (k .sources)
+sources-are text mode pool n m items groups labels k items' groups' labels' b h o y =
+    let a = h .agrees (and-left (k .fits) b y) in
+    rw (a .sources, a .item-area, a .group-area) (o .known)
+
+pub ruleset order-laws = (references-room, sources-word, sources-are, ordered-room, ordered-few)

@@ -1,5 +1,5 @@
 -- An annotation in two halves, before and after a build that may be wanted between them.
-use Prim.Native.Nat.{ℕ, min}
+use Prim.Native.Nat.{ℕ, _≤_, min}
 use mathlib.Core.Path.{_≡_}
 use mathlib.Core.List.{List, [], _∷_}
 use mathlib.Core.Bool.{Bool, false, _&&_}
@@ -11,7 +11,7 @@ use Rattle.index.specs.declared.Bracket.{Bracket}
 use Rattle.index.specs.Built.{builtIndex}
 use Rattle.sweep.specs.Stops.{startState, SweptTo}
 use Rattle.numbering.specs.Numbers.{Numbered, numberAll}
-use Rattle.numbering.specs.References.{referencesIn}
+use Rattle.numbering.specs.References.{referencesIn, SourcesKnown}
 use Rattle.annotation.specs.declared.Annotation.{Annotation}
 use Rattle.annotation.specs.declared.Annotation.the-variants.{Refused}
 use Rattle.annotation.specs.declared.Begun.{Begun}
@@ -79,7 +79,12 @@ roomThen t references labels = leb (length (t .labels)) (min 65535 (length label
 abbrev pub referencesThen : List ℕ → ℕ → List ℕ → ℕ → ℕ → Numbered → List ℕ
 referencesThen text mode pool n m t = referencesIn text pool (t .groups) (t .items) n m mode (t .sources)
 
--- `t` is what numbering gives of `n` group and `m` item records: the answer and the four areas
+-- `t` is what numbering gives of `n` group and `m` item records: its sources can be put in order
+pub record Orderable (text pool : List ℕ) (n m : ℕ) (t : Numbered) : Type 0 where
+  pub few : t .sources ≤ 65535
+  pub known : SourcesKnown text pool (t .groups) (t .items) n m (t .sources)
+
+-- the answer and the four areas then
 pub record OrderedBy (t : Numbered) (ordered : List ℕ) (n m note : ℕ) (items groups references labels : List ℕ) (r : Annotation)
     (items' groups' references' labels' : List ℕ) : Type 0 where
   pub values : annotationValues r

@@ -73,3 +73,13 @@ module _ (f : ℕ → Bool) (d i : ℕ) {w : ℕ} (p : w ≡ last f i d) where
 
   pub last-more : 0 < i → f (i - 1) ≡ false → w ≡ last f (i - 1) d
   last-more h t = p ∙ last-is (i - 1) (omega arith) ∙ rw t
+
+-- where it stops before the place that says that there is none, the test holds
+pub last-holds : (f : ℕ → Bool) (n d : ℕ) → n ≤ d → last f n d < d → f (last f n d) ≡ true
+unfolding last
+last-holds f zero d h l = absurd (omega arith)
+last-holds f (suc n) d h l = go (f n) refl l (λ k. last-holds f n d (omega arith) k)
+  where
+    go : (t : Bool) → f n ≡ t → pick t n (last f n d) < d → (last f n d < d → f (last f n d) ≡ true) → f (pick t n (last f n d)) ≡ true
+    go true q k rec = q
+    go false q k rec = rec k

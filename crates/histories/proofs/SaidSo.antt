@@ -18,7 +18,7 @@ use Rattle.lookup.specs.Rows.{itemWidth, recordOf, rowOf, rowsIn, rowsOf}
 use Rattle.pool.specs.Layout.{hasPool}
 use Rattle.definition.specs.Lines.{inLine, groupEnd, keyOf}
 use Rattle.definition.specs.Defs.{defOf}
-use Rattle.definition.proofs.Parts.{part-is}
+use Rattle.base.proofs.Parts.{part-is}
 use Rattle.label.specs.Labels.{labelText}
 use Rattle.sweep.specs.Rows.{Placed, itemRows}
 use Rattle.sweep.proofs.Laws.{item-rows-length}

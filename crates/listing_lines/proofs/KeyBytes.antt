@@ -21,9 +21,11 @@ use Rattle.item.specs.declared.Parsed.the-variants.{Good, Bad}
 use Rattle.item.specs.Items.{atSign, keyServes, wins, winner, itemAt, itemIn, itemOf}
 use Rattle.item.specs.Pieces.{stretch, partsAt, endsPiece, piecesIn, pieces, integralAt, itemsStart, piecesOf, parsed, kept, itemsIn, itemsOf}
 use Rattle.index.specs.Entries.{opensAt}
-use Rattle.index.proofs.Tokens.{and-left, and-right, first-ge, first-holds, content-le}
+use Rattle.base.proofs.Bools.{and-left, and-right}
+use Rattle.base.proofs.Searches.{first-from, first-holds}
+use Rattle.text.proofs.Trims.{content-by}
 use Rattle.lookup.specs.Groups.{Group, GroupAnswer, Found, NoGroup, groupOf, groupAccepted, judge, groupAt}
-use Rattle.lookup.proofs.AtBracket.{close-there}
+use Rattle.close.proofs.Laws.{close-there}
 use Rattle.definition.specs.Lines.{groupEnd}
 use Rattle.sweep.specs.Sweep.{listed, nextAt, foundAt, sweepIn, sweepOf}
 
@@ -64,11 +66,11 @@ key-short s a e i l h =
 
 winner-from : (s : List ℕ) (a e : ℕ) → a ≤ winner s a e
 unfolding winner
-winner-from s a e = first-ge (wins s e) (e - a) a
+winner-from s a e = first-from (wins s e) (e - a) a
 
 winner-wins : (s : List ℕ) (a e : ℕ) → winner s a e < e → wins s e (winner s a e) ≡ true
 unfolding winner
-winner-wins s a e h = let g = first-ge (wins s e) (e - a) a in first-holds (wins s e) (e - a) a (omega arith)
+winner-wins s a e h = let g = first-from (wins s e) (e - a) a in first-holds (wins s e) (e - a) a (omega arith)
 
 winner-short : (s : List ℕ) (a e : ℕ) → winner s a e < e
     → itemAt s a e (winner s a e) (keyEnd s (winner s a e + 1)) .key .len + 1 ≤ e - a
@@ -88,8 +90,8 @@ kept-keys s a e n rest h = go (ltb (winner s a e) e) refl (itemAt s a e (winner 
 item-keys : (s : List ℕ) (a e : ℕ) (rest : List Item) → keysIn (kept (itemOf s a e) rest) ≤ e - a + 1 + keysIn rest
 unfolding itemOf trimStart trimEnd
 item-keys s a e rest =
-    let y = first-ge (λ i. not (isWhite s i)) (e - a) a in
-    let z = content-le s (trimStart s a e) (e - trimStart s a e) in
+    let y = first-from (λ i. not (isWhite s i)) (e - a) a in
+    let z = content-by s (trimStart s a e) (e - trimStart s a e) in
     kept-keys s (trimStart s a e) (trimEnd s (trimStart s a e) e) (e - a) rest (omega arith)
 
 -- the items of a bracket ---------------------------------------------------------------------------------------------------------

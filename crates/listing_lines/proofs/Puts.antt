@@ -9,7 +9,7 @@ use lib.ListN.{length, take, drop, set, length-append, length-take, length-drop}
 use lib.Seq.{sets-eq}
 use Rattle.base.specs.Lists.{written}
 use Rattle.source.specs.Decimal.{decimal}
-use Rattle.source.proofs.WriteLaws.{copied}
+use Rattle.base.proofs.Areas.{copied}
 use Rattle.sweep.specs.Stops.{writtenAt}
 use Rattle.sweep.proofs.Laws.{written-none, written-length, written-more, written-part}
 use Rattle.listing_lines.specs.Writes.{Put, Room}

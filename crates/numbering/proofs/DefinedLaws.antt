@@ -19,7 +19,7 @@ use Rattle.definition.specs.Defs.{lineDef, entryDef, defAuthor, defYear}
 use Rattle.numbering.specs.declared.Defined.{Defined}
 use Rattle.numbering.specs.declared.Defined.the-variants.{Line, Entry as EntryOf, Nothing}
 use Rattle.numbering.specs.Records.{closeOfRecord, nextIn, lineIn, lineDefIn, definitionIn}
-use Rattle.numbering.specs.Defined.{entryAt, entryIn, definedAs, DefinedIn, GivesAuthor, GivesYear}
+use Rattle.numbering.specs.Defined.{entryAt, entryIn, definedAs, foundIn, DefinedIn, GivesAuthor, GivesYear}
 use Rattle.numbering.proofs.EntryLaws.{entry-given, entry-not}
 use Rattle.numbering.proofs.Clips.{attributes-past, attributes-clip}
 
@@ -40,10 +40,25 @@ module _ (text pool groups items key : List ℕ) (n : ℕ) {g : ℕ} (p : g ≡ 
   unfolding definedAs definitionIn
   find-nothing h q r l = rw (← p, le-ltb g n h) (sym (entry-not pool key q r l))
 
+-- and which it is
+module _ (text pool groups items key : List ℕ) (n : ℕ) {g : ℕ} (p : g ≡ lineIn text groups items n key) where
+  pub found-line : g < n → Line g ≡ foundIn text pool groups items n key
+  unfolding foundIn
+  found-line h = rw (← p, lt-ltb g n h) refl
+
+  module _ {i m : ℕ} (h : n ≤ g) (q : i ≡ entryIn pool key) (r : m ≡ countOf pool) where
+    pub found-entry : i < m → EntryOf i ≡ foundIn text pool groups items n key
+    unfolding foundIn
+    found-entry l = rw (← p, le-ltb g n h, ← q, ← r, lt-ltb i m l) refl
+
+    pub found-nothing : m ≤ i → Nothing ≡ foundIn text pool groups items n key
+    unfolding foundIn
+    found-nothing l = rw (← p, le-ltb g n h, ← q, ← r, le-ltb i m l) refl
+
 pub below-count : (pool : List ℕ) {i m : ℕ} → m ≡ countOf pool → i < m → i < countOf pool
 below-count pool p h = omega arith
 
-pub ruleset find-laws = (find-line, find-entry, find-nothing, below-count)
+pub ruleset find-laws = (find-line, find-entry, find-nothing, found-line, found-entry, found-nothing, below-count)
 
 -- the author and the year of a line ----------------------------------------------------------------------------------------------
 

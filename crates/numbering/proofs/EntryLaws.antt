@@ -5,8 +5,8 @@ use mathlib.Core.Path.{_≡_, refl, sym, _∙_, ap}
 use mathlib.Core.List.{List, [], _∷_}
 use mathlib.Core.Bool.{Bool, true, false, not, _&&_}
 use mathlib.Core.Option.{Option, none, some}
-use lib.ListN.{length}
-use lib.Dec.{ltb}
+use lib.ListN.{length, take, drop}
+use lib.Dec.{leb, ltb}
 use borrow.Author.Tests.{lt-ltb, le-ltb, eq-eqb, ne-eqb}
 use Rattle.base.specs.Pick.{pick}
 use Rattle.base.specs.First.{first}
@@ -51,6 +51,15 @@ pub id-is : (s own key : List ℕ) (at e : ℕ) {r : Bool} → own ≡ part s at
     → r ≡ (not (isEmpty (part s at e)) && same (part s at e) key)
 id-is s own key at e p h q = id-same own key h q ∙ rw p refl
 
+-- a part of no bytes
+pub part-none : (s : List ℕ) → part s 0 (0 + 0) ≡ []
+unfolding part
+part-none s = go (leb 0 (0 + 0) && leb (0 + 0) (length s))
+  where
+    go : (t : Bool) → pick t (take (0 + 0 - 0) (drop 0 s)) [] ≡ []
+    go true = refl
+    go false = refl
+
 -- where an entry lies
 module _ (s : List ℕ) (i : ℕ) (w : wellFormed s ≡ true) (h : i < countOf s) where
   pub pair-room : 6 + 4 * i ≤ length s
@@ -76,7 +85,21 @@ module _ (s key : List ℕ) (i : ℕ) {at e : ℕ} (p : at ≡ offsetOf s i) (q 
   unfolding entryDefines entryOf
   has-none f t = rw (t) at (ap (λ (o : Option (List ℕ)). not (isEmpty (bytesOr o [])) && same (bytesOr o []) key) (f .bytes)) ∙ has-at
 
-pub ruleset id-laws = (id-none, id-is, pair-room, entry-place, entry-fields, has-here, has-none)
+  -- its id
+  id-at : entryOf (fieldsOf s at e) .id ≡ entryAt s i .id
+  unfolding entryAt
+  id-at = rw (q, p) refl
+
+  pub id-given : {f : Found} {v : Span} {own : List ℕ} → Reads s f (fieldWith 1 (fieldsOf s at e)) → f ≡ At v → own ≡ part s (v .at) (v .at + v .len)
+      → own ≡ entryAt s i .id
+  unfolding entryOf
+  id-given f t g = g ∙ rw t at (ap (λ (o : Option (List ℕ)). bytesOr o []) (f .bytes)) ∙ id-at
+
+  pub id-missing : {f : Found} {own : List ℕ} → Reads s f (fieldWith 1 (fieldsOf s at e)) → f ≡ Missing → own ≡ part s 0 (0 + 0) → own ≡ entryAt s i .id
+  unfolding entryOf
+  id-missing f t g = g ∙ part-none s ∙ rw t at (ap (λ (o : Option (List ℕ)). bytesOr o []) (f .bytes)) ∙ id-at
+
+pub ruleset id-laws = (id-none, id-is, pair-room, entry-place, entry-fields, has-here, has-none, id-given, id-missing)
 
 -- the search for the first entry with an id
 module _ (s key : List ℕ) (i m : ℕ) where

@@ -6,7 +6,7 @@ use mathlib.Core.Path.{_≡_, refl, sym, _∙_, ap}
 use mathlib.Core.List.{List, [], _∷_, _++_, map}
 use mathlib.Core.Bool.{Bool, true, false}
 use lib.ListN.{length, getD, set, take, drop, drop-of-length-le, length-drop}
-use lib.Seq.{drop-cons, drop-drop, drop-append-add, length-take-le}
+use lib.Seq.{drop-cons, length-take-le}
 use lib.Dec.{ltb}
 use borrow.Author.Tests.{lt-ltb, le-ltb, eq-eqb, ne-eqb}
 use Rattle.base.specs.Pick.{pick}
@@ -14,23 +14,13 @@ use Rattle.base.specs.First.{first}
 use Rattle.base.specs.Fold.{fold}
 use Rattle.base.specs.Sorted.{Each}
 use Rattle.base.specs.Lists.{written, upFrom}
-use Rattle.base.specs.declared.Span.{Span}
 use Rattle.base.proofs.Searches.{first-by}
-use Rattle.pool.specs.Entries.{bytesOr}
-use Rattle.base.proofs.Areas.{written-front, written-none, written-byte}
-use Rattle.definition.specs.declared.Author.{Author}
-use Rattle.definition.specs.declared.Author.the-variants.{InText, InPool, Missing}
-use Rattle.definition.specs.Parts.{authorBytes, authorGiven}
-use Rattle.definition.specs.Defs.{defAuthor}
-use Rattle.base.proofs.Searches.{first-out, first-stop, first-more}
+use Rattle.base.proofs.Areas.{written-none, written-byte}
 use Rattle.base.proofs.Searches.{first-shift}
-use Rattle.numbering.specs.declared.Defined.{Defined}
-use Rattle.numbering.specs.Records.{itemField, keyIn, definitionIn}
-use Rattle.numbering.specs.Defined.{definedAs}
 use Rattle.numbering.specs.Order.{less, Ranked, insert}
-use Rattle.numbering.specs.Ordered.{insertBy, insertedFrom, hasNumber, greaterAt, shifted}
+use Rattle.numbering.specs.Ordered.{rankBy, insertBy, insertedFrom, greaterAt, shifted}
 use Rattle.numbering.proofs.CiteLaws.{differ}
-use Rattle.numbering.specs.References.{firstWith, sourceKeyIn, rankIn, rankedIn, referencesIn}
+use Rattle.numbering.specs.References.{rankIn, rankedIn, referencesIn}
 
 -- the order of bytes -------------------------------------------------------------------------------------------------------------
 
@@ -66,60 +56,11 @@ module _ (a b : List ℕ) (i : ℕ) {w : Bool} (p : w ≡ less (drop i a) (drop 
 
 pub ruleset less-laws = (less-out, less-short, less-below, less-above, less-same)
 
--- the rank of a source -----------------------------------------------------------------------------------------------------------
+-- the place of a rank -------------------------------------------------------------------------------------------------------------
 
-module _ (items : List ℕ) (m k i : ℕ) where
-  pub with-start : first (hasNumber items k) m 0 ≡ first (hasNumber items k) (m - 0) 0
-  with-start = let z : m - 0 ≡ m = omega arith in rw z refl
-
-  module _ {w : ℕ} (p : w ≡ first (hasNumber items k) (m - i) i) where
-    pub with-out : m ≤ i → i ≡ w
-    with-out h = first-out (hasNumber items k) i m p h
-
-    pub with-stop : {r : ℕ} → i < m → r ≡ itemField items i 12 → r ≡ k → i ≡ w
-    unfolding hasNumber
-    with-stop h q e = first-stop (hasNumber items k) i m p h (eq-eqb _ k (sym q ∙ e))
-
-    pub with-more : {r : ℕ} → i < m → r ≡ itemField items i 12 → (r ≡ k → ⊥) → w ≡ first (hasNumber items k) (m - (i + 1)) (i + 1)
-    unfolding hasNumber
-    with-more h q n = first-more (hasNumber items k) i m p h (ne-eqb _ k (λ e. n (q ∙ e)))
-
-pub ruleset with-laws = (with-start, with-out, with-stop, with-more)
-
-module _ (text pool groups items : List ℕ) (n m k : ℕ) (d : Defined) (a : Author) {j : ℕ} {key : List ℕ}
-    (f : j ≡ first (hasNumber items k) m 0) (p : key ≡ keyIn text items j)
-    (q : definedAs text pool groups n d ≡ definitionIn text groups items n pool key)
-    (g : authorBytes text pool a ≡ defAuthor (definedAs text pool groups n d)) where
-  key-is : key ≡ sourceKeyIn text pool groups items n m k
-  unfolding sourceKeyIn firstWith hasNumber
-  key-is = p ∙ rw f refl
-
-  rank-is : bytesOr (authorBytes text pool a) key ≡ rankIn text pool groups items n m k
-  unfolding rankIn
-  rank-is = rw (g, q, key-is) refl
-
-  pub rank-text : {v : Span} {r : List ℕ} → a ≡ InText v → r ≡ authorGiven text pool a → r ≡ rankIn text pool groups items n m k
-  unfolding authorGiven authorBytes
-  rank-text e h = h ∙ rw e refl ∙ rw e at rank-is
-
-  pub rank-pool : {v : Span} {r : List ℕ} → a ≡ InPool v → r ≡ authorGiven text pool a → r ≡ rankIn text pool groups items n m k
-  unfolding authorGiven authorBytes
-  rank-pool e h = h ∙ rw e refl ∙ rw e at rank-is
-
-  pub rank-key : a ≡ Missing → key ≡ rankIn text pool groups items n m k
-  unfolding authorBytes
-  rank-key e = rw e at rank-is
-
-pub with-below : (items : List ℕ) (m k : ℕ) {j : ℕ} → j ≡ first (hasNumber items k) m 0 → m < 4294967296 → j < 4294967296
-with-below items m k p h = let l = first-by (hasNumber items k) m 0 in omega arith
-
-pub ruleset rank-laws = (with-below, rank-text, rank-pool, rank-key)
-
--- the place of a source ----------------------------------------------------------------------------------------------------------
-
-module _ (text pool groups items : List ℕ) (n m : ℕ) (bytes numbers : List ℕ) (i : ℕ) where
-  pub greater-is : {k : ℕ} {v : List ℕ} {r : Bool} → k ≡ getD numbers i 0 → v ≡ rankIn text pool groups items n m k → r ≡ less bytes v
-      → r ≡ greaterAt (rankIn text pool groups items n m) bytes numbers i
+module _ (text pool groups items : List ℕ) (n : ℕ) (bytes numbers : List ℕ) (i : ℕ) where
+  pub greater-is : {d : ℕ} {v : List ℕ} {r : Bool} → d ≡ getD numbers i 0 → v ≡ rankBy text pool groups items n d → r ≡ less bytes v
+      → r ≡ greaterAt (rankBy text pool groups items n) bytes numbers i
   unfolding greaterAt
   greater-is p q e = e ∙ rw (q, p) refl
 
@@ -198,23 +139,23 @@ insert-shift rank bytes k e (suc c) (y ∷ ys) h = rw (← e) (go (less bytes (r
     go true r = rw z (shifted-cons c k ys 0 y ∙ ap (λ (l : List ℕ). k ∷ l) (shifted-front c ys y (omega arith)))
     go false r = rw (← q, u, add-one p) (shifted-cons (c - p) y ys p k ∙ ap (λ (l : List ℕ). y ∷ l) r)
 
-module _ (text pool groups items : List ℕ) (n m c : ℕ) (numbers bytes : List ℕ) {p : ℕ} where
-  pub place-within : p ≡ first (greaterAt (rankIn text pool groups items n m) bytes numbers) c 0 → p ≤ c
-  place-within q = let l = first-by (greaterAt (rankIn text pool groups items n m) bytes numbers) c 0 in omega arith
+module _ (text pool groups items : List ℕ) (n c d : ℕ) (numbers bytes : List ℕ) {p : ℕ} where
+  pub place-within : p ≡ first (greaterAt (rankBy text pool groups items n) bytes numbers) c 0 → p ≤ c
+  place-within q = let l = first-by (greaterAt (rankBy text pool groups items n) bytes numbers) c 0 in omega arith
 
-  pub insert-written : {out : List ℕ} → bytes ≡ rankIn text pool groups items n m (c + 1)
-      → p ≡ first (greaterAt (rankIn text pool groups items n m) bytes numbers) c 0 → c < length numbers
-      → out ≡ shifted (c - p) numbers p (c + 1) → out ≡ written (insertBy (rankIn text pool groups items n m) (take c numbers) (c + 1)) numbers
+  pub insert-written : {out : List ℕ} → bytes ≡ rankBy text pool groups items n d
+      → p ≡ first (greaterAt (rankBy text pool groups items n) bytes numbers) c 0 → c < length numbers
+      → out ≡ shifted (c - p) numbers p d → out ≡ written (insertBy (rankBy text pool groups items n) (take c numbers) d) numbers
   unfolding written
   insert-written e q h o =
-      let l = inserted-length (rankIn text pool groups items n m) (take c numbers) (c + 1) in
-      o ∙ rw (q, l, length-take-le c numbers (omega arith)) (insert-shift (rankIn text pool groups items n m) bytes (c + 1) e c numbers h)
+      let l = inserted-length (rankBy text pool groups items n) (take c numbers) d in
+      o ∙ rw (q, l, length-take-le c numbers (omega arith)) (insert-shift (rankBy text pool groups items n) bytes d e c numbers h)
 
 pub ruleset insert-laws = (place-within, insert-written)
 
 -- all of them --------------------------------------------------------------------------------------------------------------------
 
-inserted-next : (rank : ℕ → List ℕ) (i : ℕ) (l : List ℕ) (k : ℕ) → insertBy rank (insertedFrom rank i l k) (k + i) ≡ insertedFrom rank (i + 1) l k
+pub inserted-next : (rank : ℕ → List ℕ) (i : ℕ) (l : List ℕ) (k : ℕ) → insertBy rank (insertedFrom rank i l k) (k + i) ≡ insertedFrom rank (i + 1) l k
 unfolding insertedFrom
 inserted-next rank zero l k = let z : k + 0 ≡ k = omega arith in rw z refl
 inserted-next rank (suc i) l k =
@@ -229,39 +170,6 @@ inserted-count rank (suc i) l k =
     let a = inserted-count rank i (insertBy rank l k) (k + 1) in
     let b = inserted-length rank l k in
     omega arith
-
--- what was written is written over
-written-over : (a b s : List ℕ) → length b ≤ length a → written a (written b s) ≡ written a s
-unfolding written
-written-over a b s h =
-    let e : length a ≡ length b + (length a - length b) = omega arith in
-    let d : drop (length a) (b ++ drop (length b) s) ≡ drop (length a) s
-    = ap (λ (n : ℕ). drop n (b ++ drop (length b) s)) e ∙ drop-append-add b (drop (length b) s) (length a - length b)
-    ∙ drop-drop (length a - length b) (length b) s ∙ ap (λ (n : ℕ). drop n s) (sym e) in
-    ap (λ (l : List ℕ). a ++ l) d
-
-module _ (text pool groups items : List ℕ) (n m : ℕ) (before : List ℕ) where
-  pub ranks-start : before ≡ written (insertedFrom (rankIn text pool groups items n m) 0 [] 1) before
-  unfolding insertedFrom
-  ranks-start = written-none before
-
-  pub ranks-more : (i : ℕ) {numbers out : List ℕ} → numbers ≡ written (insertedFrom (rankIn text pool groups items n m) i [] 1) before
-      → out ≡ written (insertBy (rankIn text pool groups items n m) (take i numbers) (i + 1)) numbers
-      → out ≡ written (insertedFrom (rankIn text pool groups items n m) (i + 1) [] 1) before
-  ranks-more i {numbers} p o =
-      let R = rankIn text pool groups items n m in
-      let l = inserted-count R i [] 1 in
-      let f : take i numbers ≡ insertedFrom R i [] 1 = rw p (written-front (insertedFrom R i [] 1) before i (omega arith)) in
-      let z : 1 + i ≡ i + 1 = omega arith in
-      let g : insertBy R (insertedFrom R i [] 1) (i + 1) ≡ insertedFrom R (i + 1) [] 1 = rw z at (inserted-next R i [] 1) in
-      let k = inserted-count R (i + 1) [] 1 in
-      o ∙ rw (f, g, p) (written-over (insertedFrom R (i + 1) [] 1) (insertedFrom R i [] 1) before (omega arith))
-
-  pub ranks-end : (i c : ℕ) {numbers : List ℕ} → i ≤ c → c ≤ i → numbers ≡ written (insertedFrom (rankIn text pool groups items n m) i [] 1) before
-      → numbers ≡ written (insertedFrom (rankIn text pool groups items n m) c [] 1) before
-  ranks-end i c a b p = let e : i ≡ c = omega arith in rw e at p
-
-pub ruleset ranks-laws = (ranks-start, ranks-more, ranks-end)
 
 -- by number ----------------------------------------------------------------------------------------------------------------------
 

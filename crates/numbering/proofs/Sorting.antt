@@ -11,17 +11,13 @@ use lib.Dec.{eqb, ltb}
 use borrow.Author.Tests.{lt-ltb, le-ltb, eq-eqb, ne-eqb, ltb-true, ltb-false, eqb-true, eqb-false}
 use Rattle.base.specs.Pick.{pick}
 use Rattle.base.specs.First.{first}
-use Rattle.base.specs.Lists.{written}
 use Rattle.base.specs.Sorted.{Each}
 use Rattle.base.proofs.Alls.{each-map}
 use Rattle.base.proofs.Searches.{first-by, first-holds}
-use Rattle.base.proofs.Areas.{written-front}
 use Rattle.base.proofs.Searches.{first-before}
 use Rattle.numbering.specs.Order.{less}
-use Rattle.numbering.specs.Ordered.{insertBy, insertedFrom, greaterAt, Rising, SortedBy}
-use Rattle.numbering.specs.References.{rankIn}
+use Rattle.numbering.specs.Ordered.{rankBy, insertBy, greaterAt, Rising, SortedBy}
 use Rattle.numbering.proofs.CiteLaws.{differ}
-use Rattle.numbering.proofs.OrderLaws.{inserted-count}
 
 -- the order of bytes -------------------------------------------------------------------------------------------------------------
 
@@ -94,7 +90,7 @@ module _ (rank : ℕ → List ℕ) where
   abbrev Before : ℕ → ℕ → Type 0
   Before a b = less (rank b) (rank a) ≡ false
 
-  insert-each : (P : ℕ → Type 0) (l : List ℕ) (k : ℕ) → Each P l → P k → Each P (insertBy rank l k)
+  pub insert-each : (P : ℕ → Type 0) (l : List ℕ) (k : ℕ) → Each P l → P k → Each P (insertBy rank l k)
   unfolding insertBy
   insert-each P [] k e p = (p, tt)
   insert-each P (q ∷ qs) k e p = go (less (rank k) (rank q)) (insert-each P qs k (e .1) p)
@@ -103,7 +99,7 @@ module _ (rank : ℕ → List ℕ) where
       go true r = (p, e)
       go false r = (e .0, r)
 
-  insert-sorted : (l : List ℕ) (k : ℕ) → SortedBy rank l → SortedBy rank (insertBy rank l k)
+  pub insert-sorted : (l : List ℕ) (k : ℕ) → SortedBy rank l → SortedBy rank (insertBy rank l k)
   unfolding insertBy
   insert-sorted [] k s = (tt, tt)
   insert-sorted (q ∷ qs) k s = go (less (rank k) (rank q)) refl (insert-sorted qs k (s .1))
@@ -114,11 +110,6 @@ module _ (rank : ℕ → List ℕ) where
       go : (t : Bool) → less (rank k) (rank q) ≡ t → SortedBy rank (insertBy rank qs k) → SortedBy rank (pick t (k ∷ q ∷ qs) (q ∷ insertBy rank qs k))
       go true e r = ((less-asym (rank k) (rank q) e, after e), s)
       go false e r = (insert-each (Before q) qs k (s .0) e, r)
-
-  pub inserted-sorted : (i : ℕ) (l : List ℕ) (k : ℕ) → SortedBy rank l → SortedBy rank (insertedFrom rank i l k)
-  unfolding insertedFrom
-  inserted-sorted zero l k s = s
-  inserted-sorted (suc i) l k s = inserted-sorted i (insertBy rank l k) (k + 1) (insert-sorted l k s)
 
   sorted-at : (l : List ℕ) (i j : ℕ) → SortedBy rank l → i < j → j < length l → Before (getD l i 0) (getD l j 0)
   sorted-at [] i j s h m = absurd (omega arith)
@@ -155,37 +146,28 @@ module _ (f : ℕ → Bool) (c : ℕ) (r : Rising f c) (x : ℕ) where
           let l = ltb-false x (first f c 0) q in
           absurd (differ (sym (r (first f c 0) x l h (first-holds f c 0 (omega arith))) ∙ e))
 
-module _ (text pool groups items : List ℕ) (n m : ℕ) (bytes numbers : List ℕ) (c : ℕ) where
-  pub half-below : (x : ℕ) {b : Bool} → b ≡ greaterAt (rankIn text pool groups items n m) bytes numbers x → b ≡ true
-      → first (greaterAt (rankIn text pool groups items n m) bytes numbers) c 0 ≤ x
-  half-below x q t = first-before (greaterAt (rankIn text pool groups items n m) bytes numbers) c 0 x (omega arith) (sym q ∙ t)
+module _ (text pool groups items : List ℕ) (n : ℕ) (bytes numbers : List ℕ) (c : ℕ) where
+  pub half-below : (x : ℕ) {b : Bool} → b ≡ greaterAt (rankBy text pool groups items n) bytes numbers x → b ≡ true
+      → first (greaterAt (rankBy text pool groups items n) bytes numbers) c 0 ≤ x
+  half-below x q t = first-before (greaterAt (rankBy text pool groups items n) bytes numbers) c 0 x (omega arith) (sym q ∙ t)
 
-  pub half-above : (x : ℕ) {b : Bool} → Rising (greaterAt (rankIn text pool groups items n m) bytes numbers) c → x < c
-      → b ≡ greaterAt (rankIn text pool groups items n m) bytes numbers x → b ≡ false
-      → x + 1 ≤ first (greaterAt (rankIn text pool groups items n m) bytes numbers) c 0
-  half-above x r h q t = above (greaterAt (rankIn text pool groups items n m) bytes numbers) c r x h (sym q ∙ t)
+  pub half-above : (x : ℕ) {b : Bool} → Rising (greaterAt (rankBy text pool groups items n) bytes numbers) c → x < c
+      → b ≡ greaterAt (rankBy text pool groups items n) bytes numbers x → b ≡ false
+      → x + 1 ≤ first (greaterAt (rankBy text pool groups items n) bytes numbers) c 0
+  half-above x r h q t = above (greaterAt (rankBy text pool groups items n) bytes numbers) c r x h (sym q ∙ t)
 
-  pub half-start : first (greaterAt (rankIn text pool groups items n m) bytes numbers) c 0 ≤ c
-  half-start = omega (arith, first-by (greaterAt (rankIn text pool groups items n m) bytes numbers) c 0)
+  pub half-start : first (greaterAt (rankBy text pool groups items n) bytes numbers) c 0 ≤ c
+  half-start = omega (arith, first-by (greaterAt (rankBy text pool groups items n) bytes numbers) c 0)
 
-  pub half-end : {low high : ℕ} → low ≤ first (greaterAt (rankIn text pool groups items n m) bytes numbers) c 0
-      → first (greaterAt (rankIn text pool groups items n m) bytes numbers) c 0 ≤ high → high ≤ low
-      → low ≡ first (greaterAt (rankIn text pool groups items n m) bytes numbers) c 0
+  pub half-end : {low high : ℕ} → low ≤ first (greaterAt (rankBy text pool groups items n) bytes numbers) c 0
+      → first (greaterAt (rankBy text pool groups items n) bytes numbers) c 0 ≤ high → high ≤ low
+      → low ≡ first (greaterAt (rankBy text pool groups items n) bytes numbers) c 0
   half-end a b h = omega arith
 
 pub ruleset half-laws = (half-below, half-above, half-start, half-end)
 
--- what was inserted so far is in order
-pub ranks-sorted : (text pool groups items : List ℕ) (n m : ℕ) (before : List ℕ) (i : ℕ) {numbers : List ℕ}
-    → numbers ≡ written (insertedFrom (rankIn text pool groups items n m) i [] 1) before → SortedBy (rankIn text pool groups items n m) (take i numbers)
-ranks-sorted text pool groups items n m before i {numbers} p =
-    let R = rankIn text pool groups items n m in
-    let l = inserted-count R i [] 1 in
-    let f : take i numbers ≡ insertedFrom R i [] 1 = rw p (written-front (insertedFrom R i [] 1) before i (omega arith)) in
-    rw f (inserted-sorted R i [] 1 tt)
+pub rises-here : (text pool groups items : List ℕ) (n : ℕ) (bytes numbers : List ℕ) (c : ℕ) → c < length numbers
+    → SortedBy (rankBy text pool groups items n) (take c numbers) → Rising (greaterAt (rankBy text pool groups items n) bytes numbers) c
+rises-here text pool groups items n bytes numbers c h s = sorted-rises (rankBy text pool groups items n) bytes numbers c (omega arith) s
 
-pub rises-here : (text pool groups items : List ℕ) (n m : ℕ) (bytes numbers : List ℕ) (c : ℕ) → c < length numbers
-    → SortedBy (rankIn text pool groups items n m) (take c numbers) → Rising (greaterAt (rankIn text pool groups items n m) bytes numbers) c
-rises-here text pool groups items n m bytes numbers c h s = sorted-rises (rankIn text pool groups items n m) bytes numbers c (omega arith) s
-
-pub ruleset sorted-laws = (ranks-sorted, rises-here)
+pub ruleset sorted-laws = (rises-here)

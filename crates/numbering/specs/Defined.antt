@@ -1,9 +1,11 @@
 -- What defines a key, as the code finds it: a line by its group number, or an entry of the pool by its number.
-use Prim.Native.Nat.{ℕ, _<_}
+use Prim.Native.Nat.{ℕ, _+_, _-_, _<_}
 use mathlib.Core.Path.{_≡_}
-use mathlib.Core.List.{List}
+use mathlib.Core.List.{List, []}
 use mathlib.Core.Bool.{Bool}
 use mathlib.Core.Option.{Option, none, some}
+use lib.Dec.{ltb}
+use Rattle.base.specs.Pick.{pick}
 use Rattle.base.specs.First.{first}
 use Rattle.pool.specs.Fields.{fieldsOf}
 use Rattle.pool.specs.Entries.{Entry, entryOf}
@@ -14,7 +16,7 @@ use Rattle.definition.specs.Parts.{authorBytes, yearBytes}
 use Rattle.definition.specs.Defs.{Def, entryDef, entryDefines}
 use Rattle.numbering.specs.declared.Defined.{Defined}
 use Rattle.numbering.specs.declared.Defined.the-variants.{Line, Entry as EntryOf, Nothing}
-use Rattle.numbering.specs.Records.{lineDefIn}
+use Rattle.numbering.specs.Records.{groupField, keyIn, lineIn, lineDefIn}
 
 -- entry number `i` of a pool
 unfoldable pub entryAt : List ℕ → ℕ → Entry
@@ -39,6 +41,29 @@ abbrev pub DefinedIn : List ℕ → ℕ → Defined → Type 0
 DefinedIn pool n (Line g) = g < n
 DefinedIn pool n (EntryOf i) = i < countOf pool
 DefinedIn pool n Nothing = Unit {0}
+
+-- "The last definition line of a key wins; else the first pool entry with that id": what the key is defined by
+unfoldable pub foundIn : List ℕ → List ℕ → List ℕ → List ℕ → ℕ → List ℕ → Defined
+foundIn text pool groups items n key =
+    pick (ltb (lineIn text groups items n key) n)
+    (Line (lineIn text groups items n key))
+    (pick (ltb (entryIn pool key) (countOf pool)) (EntryOf (entryIn pool key)) Nothing)
+
+-- Definitions have numbers: a line that of its group, an entry of the pool its own after those of the `n` groups; nothing comes last.
+unfoldable pub definitionNumber : List ℕ → ℕ → Defined → ℕ
+definitionNumber pool n (Line g) = g
+definitionNumber pool n (EntryOf i) = n + i
+definitionNumber pool n Nothing = n + countOf pool
+
+-- the definition that has a number
+unfoldable pub definitionAt : List ℕ → ℕ → ℕ → Defined
+definitionAt pool n i = pick (ltb i n) (Line i) (pick (ltb (i - n) (countOf pool)) (EntryOf (i - n)) Nothing)
+
+-- the key that it defines
+unfoldable pub keyBy : List ℕ → List ℕ → List ℕ → List ℕ → Defined → List ℕ
+keyBy text pool groups items (Line g) = keyIn text items (groupField groups g 2)
+keyBy text pool groups items (EntryOf i) = entryAt pool i .id
+keyBy text pool groups items Nothing = []
 
 -- an author that lies in the pool, and a year, with the bytes that are said, whatever the text
 pub record GivesAuthor (pool : List ℕ) (r : Author) (o : Option (List ℕ)) : Type 0 where

@@ -1,7 +1,7 @@
 -- Numbers, uses and labels, as the code writes them into the records, record by record.
 use Prim.Native.Nat.{ℕ, zero, suc, _+_, _*_, _%_}
 use mathlib.Core.List.{List, [], _++_}
-use mathlib.Core.Bool.{Bool, true, false, _&&_, not}
+use mathlib.Core.Bool.{Bool, true, _&&_, not}
 use lib.ListN.{length, set}
 use lib.Dec.{eqb, ltb}
 use Rattle.base.specs.Pick.{pick}
@@ -14,10 +14,14 @@ use Rattle.definition.specs.Defs.{isDefined}
 use Rattle.numbering.specs.Records.{itemField, groupField, keyIn, suppressedIn, definitionIn}
 use Rattle.label.specs.Labels.{labelText}
 
+-- item record `j` is numbered, and has this key
+abbrev pub usedAt : List ℕ → List ℕ → List ℕ → ℕ → Bool
+usedAt text items key j = ltb 0 (itemField items j 12) && same (keyIn text items j) key
+
 -- "Maps become searches over item records": the last item record before `k` that is numbered and has the key of record `k`; `k` where there
 -- is none
 unfoldable pub sameUse : List ℕ → List ℕ → ℕ → ℕ → Bool
-sameUse text items k j = ltb 0 (itemField items j 12) && same (keyIn text items j) (keyIn text items k)
+sameUse text items k j = usedAt text items (keyIn text items k) j
 
 unfoldable pub lastUse : List ℕ → List ℕ → ℕ → ℕ
 lastUse text items k = last (sameUse text items k) k k

@@ -1,4 +1,5 @@
--- Reference order as the code makes it: numbers are inserted one after the other, by their ranks.
+-- Reference order as the code makes it: the numbers of the sources' definitions are inserted one after the other, by their ranks; then each
+-- gives way to the number of its source.
 use Prim.Native.Nat.{ℕ, zero, suc, _+_, _≤_, _<_}
 use mathlib.Core.Path.{_≡_}
 use mathlib.Core.List.{List, [], _∷_}
@@ -7,8 +8,26 @@ use lib.ListN.{getD, set}
 use lib.Dec.{eqb}
 use Rattle.base.specs.Pick.{pick}
 use Rattle.base.specs.Sorted.{Sorted}
+use Rattle.pool.specs.Entries.{bytesOr}
+use Rattle.definition.specs.Defs.{defAuthor}
 use Rattle.numbering.specs.Records.{itemField}
+use Rattle.numbering.specs.Defined.{definedAs, foundIn, definitionNumber, definitionAt, keyBy}
 use Rattle.numbering.specs.Order.{less}
+use Rattle.numbering.specs.References.{sourceKeyIn, numberOfKey}
+
+module _ (text pool groups items : List ℕ) (n m : ℕ) where
+  -- the number of the definition of source number `k`
+  unfoldable pub definitionOf : ℕ → ℕ
+  definitionOf k = definitionNumber pool n (foundIn text pool groups items n (sourceKeyIn text pool groups items n m k))
+
+  -- the number of the source that definition number `i` defines
+  unfoldable pub sourceBy : ℕ → ℕ
+  sourceBy i = numberOfKey text items m (keyBy text pool groups items (definitionAt pool n i))
+
+-- the bytes that the source of definition number `i` is ordered by
+unfoldable pub rankBy : List ℕ → List ℕ → List ℕ → List ℕ → ℕ → ℕ → List ℕ
+rankBy text pool groups items n i =
+    bytesOr (defAuthor (definedAs text pool groups n (definitionAt pool n i))) (keyBy text pool groups items (definitionAt pool n i))
 
 -- the number `k` into those in order: before the first with a greater rank
 unfoldable pub insertBy : (ℕ → List ℕ) → List ℕ → ℕ → List ℕ

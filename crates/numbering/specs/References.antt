@@ -1,14 +1,17 @@
 -- Reference order, from the records.
-use Prim.Native.Nat.{ℕ, zero, suc, _+_}
+use Prim.Native.Nat.{ℕ, zero, suc, _+_, _≤_}
+use mathlib.Core.Path.{_≡_}
 use mathlib.Core.List.{List, [], _∷_, map}
+use mathlib.Core.Bool.{true}
 use lib.Dec.{eqb}
 use Rattle.base.specs.Pick.{pick}
 use Rattle.base.specs.First.{first}
 use Rattle.base.specs.Fold.{fold}
 use Rattle.base.specs.Lists.{upFrom}
 use Rattle.pool.specs.Entries.{bytesOr}
-use Rattle.definition.specs.Defs.{defAuthor}
+use Rattle.definition.specs.Defs.{defAuthor, isDefined}
 use Rattle.numbering.specs.Records.{itemField, keyIn, definitionIn}
+use Rattle.numbering.specs.Numbers.{usedAt}
 use Rattle.numbering.specs.Order.{Ranked, insert}
 
 module _ (text pool groups items : List ℕ) (n m : ℕ) where
@@ -33,3 +36,13 @@ module _ (text pool groups items : List ℕ) (n m : ℕ) where
   unfoldable pub referencesIn : ℕ → ℕ → List ℕ
   referencesIn mode sources =
       pick (eqb mode 0) (upFrom 1 sources) (map (λ (r : Ranked). r .number) (fold insert [] (rankedIn sources 1)))
+
+-- the number of the first of `m` item records that is numbered and has this key
+unfoldable pub numberOfKey : List ℕ → List ℕ → ℕ → List ℕ → ℕ
+numberOfKey text items m key = itemField items (first (usedAt text items key) m 0) 12
+
+-- The sources have keys: that of each number up to `sources` is defined, and is that of no other number.
+pub record SourcesKnown (text pool groups items : List ℕ) (n m sources : ℕ) : Type 0 where
+  pub defined : (k : ℕ) → 1 ≤ k → k ≤ sources
+      → isDefined (definitionIn text groups items n pool (sourceKeyIn text pool groups items n m k)) ≡ true
+  pub numbered : (k : ℕ) → 1 ≤ k → k ≤ sources → numberOfKey text items m (sourceKeyIn text pool groups items n m k) ≡ k

@@ -47,6 +47,24 @@ fn has_id(pool: &[u8], i: usize, key: &[u8]) -> bool
     }
 }
 
+// The id of entry `i`.
+pub fn entry_id(pool: &[u8], i: usize) -> &[u8]
+    requires { ⌜ (wellFormed (now pool) ≡ true) × (i < countOf (now pool)) ⌝ }
+    ensures { λ r. ⌜ now r ≡ entryAt (now (pool .entry)) i .id ⌝ }
+{
+    let at = pool::entry_start(pool, i);
+    let e = pool::entry_end(pool, i);
+    let found = pool::field_with(pool, at, e, 1);
+    match found {
+        Found::At { part } => {
+            let start = part.at;
+            let len = part.len;
+            base::bytes::part_of(pool, start, len)
+        }
+        Found::Missing => base::bytes::part_of(pool, 0, 0),
+    }
+}
+
 // The number of the first entry with the id `key`; the count of entries where none has it.
 pub fn entry_in(pool: &[u8], key: &[u8]) -> usize
     requires { ⌜ wellFormed (now pool) ≡ true ⌝ }

@@ -3,6 +3,7 @@ pub mod define;
 pub mod entries;
 pub mod numbers;
 pub mod order;
+pub mod ranks;
 pub mod records;
 pub mod uses;
 
@@ -16,9 +17,9 @@ ghost use Rattle.pool.specs.Layout.{wellFormed};
 ghost use Rattle.definition.specs.Defs.{defAuthor, defYear};
 ghost use Rattle.definition.specs.Parts.{authorBytes, yearBytes};
 ghost use Rattle.numbering.specs.Records.{definitionIn, lineDefIn};
-ghost use Rattle.numbering.specs.Defined.{definedAs, DefinedIn};
+ghost use Rattle.numbering.specs.Defined.{definedAs, foundIn, DefinedIn};
 ghost use Rattle.numbering.specs.Numbers.{numberAll};
-ghost use Rattle.numbering.specs.References.{referencesIn};
+ghost use Rattle.numbering.specs.References.{referencesIn, SourcesKnown};
 ghost use Rattle.base.specs.Lists.{written};
 ghost use lib.ListN.{length};
 ghost use Rattle.numbering.specs.Progress.{roomOf, Holds};
@@ -49,6 +50,7 @@ pub fn find(
     requires { ⌜ (n < 4294967296) × (wellFormed (now pool) ≡ true) ⌝ }
     ensures { λ r. ⌜ definedAs (now (text .entry)) (now (pool .entry)) (now (groups .entry)) n r ≡ definitionIn (now (text .entry)) (now (groups .entry)) (now (items .entry)) n (now (pool .entry)) (now (key .entry)) ⌝ }
     ensures within { λ r. ⌜ DefinedIn (now (pool .entry)) n r ⌝ }
+    ensures found { λ r. ⌜ r ≡ foundIn (now (text .entry)) (now (pool .entry)) (now (groups .entry)) (now (items .entry)) n (now (key .entry)) ⌝ }
 {
     let group = define::line_in(text, groups, items, n, key);
     if group < n {
@@ -160,7 +162,7 @@ pub fn order_references<'a>(
     groups: &[u16],
     references: &mut [u16],
 )
-    requires { ⌜ (n ≤ 65535) × (m ≤ 65535) × (wellFormed (now pool) ≡ true) × (sources ≤ 65535) × (sources ≤ length (now references)) ⌝ }
+    requires { ⌜ (n ≤ 32768) × (m ≤ 65535) × (wellFormed (now pool) ≡ true) × (sources ≤ 65535) × (sources ≤ length (now references)) × SourcesKnown (now text) (now pool) (now groups) (now items) n m sources ⌝ }
     ensures { λ _. ⌜ now (references .exit) ≡ written (referencesIn (now (text .entry)) (now (pool .entry)) (now (groups .entry)) (now (items .entry)) n m mode sources) (now (references .entry)) ⌝ }
 {
     if mode == 0 {

@@ -1,17 +1,17 @@
 // Reference order: the numbers of the sources, in mode 1 by the bytes of their authors or keys.
+use crate::ranks;
 use crate::records;
-use definition::Author;
 ghost use mathlib.Core.Path.{_≡_};
 ghost use mathlib.Core.Bool.{true};
-ghost use mathlib.Core.List.{[]};
-ghost use Prim.Native.Nat.{_+_, _-_, _<_, _≤_};
+ghost use mathlib.Core.List.{[], map};
+ghost use Prim.Native.Nat.{_-_, _<_, _≤_};
 ghost use lib.ListN.{length, take};
 ghost use Rattle.base.specs.First.{first};
 ghost use Rattle.base.specs.Lists.{written, upFrom};
 ghost use Rattle.pool.specs.Layout.{wellFormed};
 ghost use Rattle.numbering.specs.Order.{less};
-ghost use Rattle.numbering.specs.Ordered.{insertBy, insertedFrom, hasNumber, greaterAt, shifted, Rising, SortedBy};
-ghost use Rattle.numbering.specs.References.{rankIn};
+ghost use Rattle.numbering.specs.Ordered.{insertBy, insertedFrom, definitionOf, sourceBy, rankBy, greaterAt, shifted, Rising, SortedBy};
+ghost use Rattle.numbering.specs.References.{rankIn, SourcesKnown};
 
 // Whether the bytes `a` come before the bytes `b`.
 pub fn is_less(a: &[u8], b: &[u8]) -> bool
@@ -33,83 +33,43 @@ pub fn is_less(a: &[u8], b: &[u8]) -> bool
     i < b.len()
 }
 
-// The first of the `m` item records with the number `k`; `m` where there is none.
-fn first_with(items: &[u16], m: usize, k: usize) -> usize
-    requires { ⌜ m < 4294967296 ⌝ }
-    ensures { λ r. ⌜ r ≡ first (hasNumber (now (items .entry)) k) m 0 ⌝ }
-{
-    let mut j: usize = 0;
-    while j < m {
-        if records::item_field(items, j, 12) == k {
-            return j;
-        }
-        j += 1;
-    }
-    j
-}
-
-// What source number `k` is ordered by: the bytes of its author, or its key where no author is given.
-fn rank_of<'a>(
-    text: &'a [u8],
-    pool: &'a [u8],
-    groups: &[u16],
-    items: &[u16],
-    n: usize,
-    m: usize,
-    k: usize,
-) -> &'a [u8]
-    requires { ⌜ (n < 4294967296) × (m < 4294967296) × (wellFormed (now pool) ≡ true) ⌝ }
-    ensures { λ r. ⌜ now r ≡ rankIn (now (text .entry)) (now (pool .entry)) (now (groups .entry)) (now (items .entry)) n m k ⌝ }
-{
-    let key = records::key_in(text, items, first_with(items, m, k));
-    let d = crate::find(text, pool, groups, items, n, key);
-    let author = crate::author_in(text, pool, groups, n, d);
-    match author {
-        Author::InText { part: _ } => definition::author_bytes(text, pool, author),
-        Author::InPool { part: _ } => definition::author_bytes(text, pool, author),
-        Author::Missing => key,
-    }
-}
-
-// Whether the source at place `i` of `references` has a greater rank than `rank`.
+// Whether the definition whose number is at place `i` of `references` has a greater rank than `rank`.
 fn is_greater<'a>(
     text: &'a [u8],
     pool: &'a [u8],
     groups: &[u16],
     items: &[u16],
     n: usize,
-    m: usize,
     rank: &[u8],
     references: &[u16],
     i: usize,
 ) -> bool
-    requires { ⌜ (n < 4294967296) × (m < 4294967296) × (wellFormed (now pool) ≡ true) ⌝ }
-    ensures { λ r. ⌜ r ≡ greaterAt (rankIn (now (text .entry)) (now (pool .entry)) (now (groups .entry)) (now (items .entry)) n m) (now (rank .entry)) (now (references .entry)) i ⌝ }
+    requires { ⌜ (n < 4294967296) × (wellFormed (now pool) ≡ true) ⌝ }
+    ensures { λ r. ⌜ r ≡ greaterAt (rankBy (now (text .entry)) (now (pool .entry)) (now (groups .entry)) (now (items .entry)) n) (now (rank .entry)) (now (references .entry)) i ⌝ }
 {
-    let k = records::number_at(references, i);
-    is_less(rank, rank_of(text, pool, groups, items, n, m, k))
+    let d = records::number_at(references, i);
+    is_less(rank, ranks::rank_by(text, pool, groups, items, n, d))
 }
 
-// The first of the `count` places of `references` whose source has a greater rank than `rank`, all after it having one too; `count` where none has.
+// The first of the `count` places of `references` whose definition has a greater rank than `rank`, all after it having one too; `count` where none has.
 fn place_of<'a>(
     text: &'a [u8],
     pool: &'a [u8],
     groups: &[u16],
     items: &[u16],
     n: usize,
-    m: usize,
     rank: &[u8],
     references: &[u16],
     count: usize,
 ) -> usize
-    requires { ⌜ (n < 4294967296) × (m < 4294967296) × (wellFormed (now pool) ≡ true) × (count < 65536) × Rising (greaterAt (rankIn (now text) (now pool) (now groups) (now items) n m) (now rank) (now references)) count ⌝ }
-    ensures { λ r. ⌜ r ≡ first (greaterAt (rankIn (now (text .entry)) (now (pool .entry)) (now (groups .entry)) (now (items .entry)) n m) (now (rank .entry)) (now (references .entry))) count 0 ⌝ }
+    requires { ⌜ (n < 4294967296) × (wellFormed (now pool) ≡ true) × (count < 65536) × Rising (greaterAt (rankBy (now text) (now pool) (now groups) (now items) n) (now rank) (now references)) count ⌝ }
+    ensures { λ r. ⌜ r ≡ first (greaterAt (rankBy (now (text .entry)) (now (pool .entry)) (now (groups .entry)) (now (items .entry)) n) (now (rank .entry)) (now (references .entry))) count 0 ⌝ }
 {
     let mut low: usize = 0;
     let mut high = count;
     while low < high {
         let middle = low + (high - low) / 2;
-        if is_greater(text, pool, groups, items, n, m, rank, references, middle) {
+        if is_greater(text, pool, groups, items, n, rank, references, middle) {
             high = middle;
         } else {
             low = middle + 1;
@@ -134,23 +94,67 @@ fn shift(references: &mut [u16], from: usize, to: usize, v: u16)
     references[to] = x;
 }
 
-// Source number `count + 1`, into the `count` numbers in order at the front of `references`.
-fn insert_source<'a>(
+// The definition number `d`, into the `count` definition numbers in order at the front of `references`.
+fn insert_definition<'a>(
+    text: &'a [u8],
+    pool: &'a [u8],
+    groups: &[u16],
+    items: &[u16],
+    n: usize,
+    count: usize,
+    d: u16,
+    references: &mut [u16],
+)
+    requires { ⌜ (n < 4294967296) × (wellFormed (now pool) ≡ true) × (count < 65535) × (count < length (now references)) × SortedBy (rankBy (now text) (now pool) (now groups) (now items) n) (take count (now references)) ⌝ }
+    ensures { λ _. ⌜ now (references .exit) ≡ written (insertBy (rankBy (now (text .entry)) (now (pool .entry)) (now (groups .entry)) (now (items .entry)) n) (take count (now (references .entry))) d) (now (references .entry)) ⌝ }
+{
+    let rank = ranks::rank_by(text, pool, groups, items, n, d as usize);
+    let place = place_of(text, pool, groups, items, n, rank, references, count);
+    shift(references, place, count, d);
+}
+
+// The numbers of the definitions of the `sources` sources, by their ranks. Each definition is searched for once.
+fn order_definitions<'a>(
     text: &'a [u8],
     pool: &'a [u8],
     groups: &[u16],
     items: &[u16],
     n: usize,
     m: usize,
-    count: usize,
+    sources: usize,
     references: &mut [u16],
 )
-    requires { ⌜ (n < 4294967296) × (m < 4294967296) × (wellFormed (now pool) ≡ true) × (count < 65535) × (count < length (now references)) × SortedBy (rankIn (now text) (now pool) (now groups) (now items) n m) (take count (now references)) ⌝ }
-    ensures { λ _. ⌜ now (references .exit) ≡ written (insertBy (rankIn (now (text .entry)) (now (pool .entry)) (now (groups .entry)) (now (items .entry)) n m) (take count (now (references .entry))) (count + 1)) (now (references .entry)) ⌝ }
+    requires { ⌜ (n ≤ 32768) × (m < 4294967296) × (wellFormed (now pool) ≡ true) × (sources ≤ 65535) × (sources ≤ length (now references)) × SourcesKnown (now text) (now pool) (now groups) (now items) n m sources ⌝ }
+    ensures { λ _. ⌜ now (references .exit) ≡ written (map (definitionOf (now (text .entry)) (now (pool .entry)) (now (groups .entry)) (now (items .entry)) n m) (insertedFrom (rankIn (now (text .entry)) (now (pool .entry)) (now (groups .entry)) (now (items .entry)) n m) sources [] 1)) (now (references .entry)) ⌝ }
 {
-    let rank = rank_of(text, pool, groups, items, n, m, count + 1);
-    let place = place_of(text, pool, groups, items, n, m, rank, references, count);
-    shift(references, place, count, (count + 1) as u16);
+    let mut i: usize = 0;
+    while i < sources {
+        let d = ranks::definition_of(text, pool, groups, items, n, m, i + 1);
+        insert_definition(text, pool, groups, items, n, i, d, references);
+        i += 1;
+    }
+}
+
+// The numbers of the sources, for those of their definitions at the first `sources` places.
+fn number_sources<'a>(
+    text: &'a [u8],
+    pool: &'a [u8],
+    groups: &[u16],
+    items: &[u16],
+    n: usize,
+    m: usize,
+    sources: usize,
+    references: &mut [u16],
+)
+    requires { ⌜ (n < 4294967296) × (m < 4294967296) × (wellFormed (now pool) ≡ true) × (sources ≤ length (now references)) ⌝ }
+    ensures { λ _. ⌜ now (references .exit) ≡ written (map (sourceBy (now (text .entry)) (now (pool .entry)) (now (groups .entry)) (now (items .entry)) n m) (take sources (now (references .entry)))) (now (references .entry)) ⌝ }
+{
+    let mut i: usize = 0;
+    while i < sources {
+        let d = records::number_at(references, i);
+        references[i] = ranks::source_by(text, pool, groups, items, n, m, d);
+        i += 1;
+    }
 }
 
 // The numbers from 1 on, `sources` of them, by their ranks.
@@ -164,14 +168,11 @@ pub fn order_by_rank<'a>(
     sources: usize,
     references: &mut [u16],
 )
-    requires { ⌜ (n < 4294967296) × (m < 4294967296) × (wellFormed (now pool) ≡ true) × (sources ≤ 65535) × (sources ≤ length (now references)) ⌝ }
+    requires { ⌜ (n ≤ 32768) × (m < 4294967296) × (wellFormed (now pool) ≡ true) × (sources ≤ 65535) × (sources ≤ length (now references)) × SourcesKnown (now text) (now pool) (now groups) (now items) n m sources ⌝ }
     ensures { λ _. ⌜ now (references .exit) ≡ written (insertedFrom (rankIn (now (text .entry)) (now (pool .entry)) (now (groups .entry)) (now (items .entry)) n m) sources [] 1) (now (references .entry)) ⌝ }
 {
-    let mut i: usize = 0;
-    while i < sources {
-        insert_source(text, pool, groups, items, n, m, i, references);
-        i += 1;
-    }
+    order_definitions(text, pool, groups, items, n, m, sources, references);
+    number_sources(text, pool, groups, items, n, m, sources, references);
 }
 
 // The numbers from 1 on, `sources` of them.

@@ -1,13 +1,9 @@
 // The number and the use of an item record, by the last one before it with the same key.
 use crate::records;
 ghost use mathlib.Core.Path.{_≡_};
-ghost use mathlib.Core.Bool.{_&&_};
 ghost use Prim.Native.Nat.{_+_, _%_, _<_};
-ghost use lib.Dec.{ltb};
 ghost use Rattle.base.specs.Pick.{pick};
-ghost use Rattle.base.specs.Lists.{same};
-ghost use Rattle.numbering.specs.Records.{itemField, keyIn};
-ghost use Rattle.numbering.specs.Numbers.{lastUse, setLast};
+ghost use Rattle.numbering.specs.Numbers.{usedAt, lastUse, setLast};
 ghost use Rattle.numbering.specs.Progress.{Counts};
 
 // The number and the use of an item record, and the sources after it.
@@ -18,9 +14,9 @@ pub struct Count {
 }
 
 // Whether item record `j` is numbered, and has the key `key`.
-fn is_use(text: &[u8], items: &[u16], j: usize, key: &[u8]) -> bool
+pub fn is_use(text: &[u8], items: &[u16], j: usize, key: &[u8]) -> bool
     requires { ⌜ j < 4294967296 ⌝ }
-    ensures { λ r. ⌜ r ≡ (ltb 0 (itemField (now (items .entry)) j 12) && same (keyIn (now (text .entry)) (now (items .entry)) j) (now (key .entry))) ⌝ }
+    ensures { λ r. ⌜ r ≡ usedAt (now (text .entry)) (now (items .entry)) (now (key .entry)) j ⌝ }
 {
     let number = records::item_field(items, j, 12);
     if number == 0 {

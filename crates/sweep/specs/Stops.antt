@@ -61,11 +61,11 @@ abbrev pub startState : SweepState
 startState = record { at = 0; groups = 0; items = 0; inside = false; from = 0; fits = true; wants = false }
 
 -- What holds of a state that a sweep is in, the areas being `items` and `groups` numbers long: it stands in the text, past 3 bytes for each
--- item and one for each group; and while all records fitted, they do.
+-- item and 2 for each group; and while all records fitted, they do.
 pub record Counted (text : List ℕ) (s : SweepState) (items groups : ℕ) : Type 0 where
   pub at-by : s .at ≤ length text
   pub items-by : 3 * s .items ≤ s .at
-  pub groups-by : s .groups ≤ s .at
+  pub groups-by : 2 * s .groups ≤ s .at
   pub room : s .fits ≡ true → recordsFit (s .items) (s .groups) items groups ≡ true
 
 -- From the state `s` the groups `gs` were recorded, which gives the state `r`; the areas were `items` and `groups` and are `items'` and

@@ -1,5 +1,5 @@
 -- `annotation::number_and_order` meets its contract. Assumes nothing.
-use Rattle.annotation.proofs.OrderLaws.{order-laws}
+use Rattle.annotation.proofs.OrderLaws.{sources-are, order-laws}
 use borrow.Author.Needs.{needs}
 use Rattle.annotation.proofs.number_and_order.Statement.{statement}
 use Rattle.annotation.proofs.number_and_order.Tie as tie
@@ -8,7 +8,16 @@ number-groups-requires : tie.Need-number-groups-requires
 number-groups-requires c κs = search (order-laws, needs)
 
 order-references-requires : tie.Need-order-references-requires
-order-references-requires c κs = (search needs, search needs, search needs, search (order-laws, needs), search (order-laws, needs))
+order-references-requires c κs =
+    let taken = c .before .before .before in
+    let numbered = taken .before .before .before .before .before .before .before .before in (
+      search needs,
+      search needs,
+      search needs,
+      search (order-laws, needs),
+      search (order-laws, needs),
+      sources-are _ _ _ _ _ _ _ _ _ _ _ _ _ (numbered .number-groups .ensures) (search needs) (taken .if1 .taken),
+    )
 
 returns : tie.Need-returns
 returns c = search (order-laws, needs)

@@ -3,18 +3,17 @@
 use Prim.Native.Nat.{_-_, _≤_}
 use native.Mathlib.Omega.{arith}
 use Rattle.base.specs.First.{first}
-use Rattle.numbering.specs.Ordered.{greaterAt}
-use Rattle.numbering.specs.References.{rankIn}
+use Rattle.numbering.specs.Ordered.{rankBy, greaterAt}
 use borrow.Author.Needs.{needs}
 use Rattle.numbering.proofs.Sorting.{half-below, half-above, half-laws}
 use Rattle.numbering.proofs.order.place_of.Statement.{statement}
 use Rattle.numbering.proofs.order.place_of.Tie as tie
 
 abbrev Inv-loop : tie.InvT-loop
-Inv-loop text pool groups items n m rank references count low₀ high₀ low high = (low ≤ first (greaterAt (rankIn text pool groups items n m) rank references) count 0) × (first (greaterAt (rankIn text pool groups items n m) rank references) count 0 ≤ high) × (high ≤ count)
+Inv-loop text pool groups items n rank references count low₀ high₀ low high = (low ≤ first (greaterAt (rankBy text pool groups items n) rank references) count 0) × (first (greaterAt (rankBy text pool groups items n) rank references) count 0 ≤ high) × (high ≤ count)
 
 abbrev μ-loop : tie.MeasureT-loop
-μ-loop text pool groups items n m rank references count low₀ high₀ low high = high - low
+μ-loop text pool groups items n rank references count low₀ high₀ low high = high - low
 
 pub place-of-spec : {M : Type 1} → statement M
 place-of-spec =
@@ -27,8 +26,8 @@ place-of-spec =
     (λ c. search (half-laws, needs))
     (λ c κs. search (half-laws, needs))
     (λ c. search (half-laws, needs))
-    (λ c. (c .before .before .before .loop .inv .0, half-below _ _ _ _ _ _ _ _ _ _ (c .before .is-greater .ensures) (c .if1 .taken), omega arith))
+    (λ c. (c .before .before .before .loop .inv .0, half-below _ _ _ _ _ _ _ _ _ (c .before .is-greater .ensures) (c .if1 .taken), omega arith))
     (λ c. search (half-laws, needs))
     (λ c. search (half-laws, needs))
-    (λ c. (half-above _ _ _ _ _ _ _ _ _ _ (search needs) (omega arith) (c .before .is-greater .ensures) (c .if1 .left), c .before .before .before .loop .inv .1, c .before .before .before .loop .inv .2))
+    (λ c. (half-above _ _ _ _ _ _ _ _ _ (search needs) (omega arith) (c .before .is-greater .ensures) (c .if1 .left), c .before .before .before .loop .inv .1, c .before .before .before .loop .inv .2))
     (λ c. search (half-laws, needs)))

@@ -1,19 +1,16 @@
--- `numbering::order::insert_source` meets its contract. Assumes nothing.
+-- `numbering::order::insert_definition` meets its contract. Assumes nothing.
 use borrow.Author.Needs.{needs}
 use Rattle.numbering.proofs.OrderLaws.{insert-laws}
 use Rattle.numbering.proofs.Sorting.{sorted-laws}
-use Rattle.numbering.proofs.order.insert_source.Statement.{statement}
-use Rattle.numbering.proofs.order.insert_source.Tie as tie
+use Rattle.numbering.proofs.order.insert_definition.Statement.{statement}
+use Rattle.numbering.proofs.order.insert_definition.Tie as tie
 
-pub insert-source-spec : {M : Type 1} → statement M
-insert-source-spec =
+pub insert-definition-spec : {M : Type 1} → statement M
+insert-definition-spec =
     tie.close
     (tie.spec
-    (λ c. search needs)
     (λ c κs. search needs)
     (λ c κs. search (insert-laws, sorted-laws, needs))
-    (λ c. search needs)
-    (λ c. search needs)
     (λ c κs. search (insert-laws, sorted-laws, needs))
     (λ c. search needs)
     (λ c. search (insert-laws, sorted-laws, needs)))

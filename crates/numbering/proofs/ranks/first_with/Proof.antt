@@ -1,13 +1,13 @@
--- `numbering::order::first_with` meets its contract. The loop's invariant: the first record with the number from `j` on is the first one
+-- `numbering::ranks::first_with` meets its contract. The loop's invariant: the first record with the number from `j` on is the first one
 -- of all. The measure is what is left of the records. Assumes nothing.
 use Prim.Native.Nat.{_-_}
 use mathlib.Core.Path.{_≡_}
 use Rattle.base.specs.First.{first}
 use Rattle.numbering.specs.Ordered.{hasNumber}
 use borrow.Author.Needs.{needs}
-use Rattle.numbering.proofs.OrderLaws.{with-laws}
-use Rattle.numbering.proofs.order.first_with.Statement.{statement}
-use Rattle.numbering.proofs.order.first_with.Tie as tie
+use Rattle.numbering.proofs.RankLaws.{with-laws}
+use Rattle.numbering.proofs.ranks.first_with.Statement.{statement}
+use Rattle.numbering.proofs.ranks.first_with.Tie as tie
 
 abbrev Inv-loop : tie.InvT-loop
 Inv-loop items m k j₀ j = first (hasNumber items k) m 0 ≡ first (hasNumber items k) (m - j) j
