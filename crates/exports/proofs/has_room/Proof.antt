@@ -4,4 +4,4 @@ use Rattle.exports.proofs.has_room.Statement.{statement}
 use Rattle.exports.proofs.has_room.Tie as tie
 
 pub has-room-spec : {M : Type 1} → statement M
-has-room-spec = tie.close (tie.spec (λ c. search needs) (λ c. (search needs, search needs)))
+has-room-spec = tie.close (tie.spec (λ c. search needs))
