@@ -15,6 +15,7 @@ use Rattle.base.specs.Lists.{upFrom}
 use Rattle.base.proofs.Searches.{first-holds, first-before}
 use Rattle.base.proofs.Ups.{up-length}
 use Rattle.base.proofs.Bools.{and-left, and-right}
+use Rattle.base.proofs.Sames.{same-true}
 use Rattle.lookup.specs.Groups.{Group}
 use Rattle.pool.specs.Layout.{hasPool}
 use Rattle.definition.specs.Lines.{inLine, groupEnd}
@@ -30,7 +31,7 @@ use Rattle.annotation.specs.Order.{rankOf, rankedFrom, referencesOf}
 use Rattle.annotation.specs.Content.{placedFrom, placedOf, tallyOf, contentOf}
 use Rattle.annotation.specs.Facts.{sourceKey}
 use Rattle.annotation.specs.Steps.{Fits, sweptItems, sweptGroups, numberedFrom, NumberedAs, ReferencesAgree, ContentAgrees}
-use Rattle.annotation.proofs.Numbers.{same-true, numbers-are-places}
+use Rattle.annotation.proofs.Numbers.{numbers-are-places}
 use Rattle.annotation.proofs.Places.{place-key}
 use Rattle.annotation.proofs.Defined.{source-defined}
 use Rattle.annotation.proofs.Joins.{Known, Joined}

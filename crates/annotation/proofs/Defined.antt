@@ -11,7 +11,7 @@ use Rattle.base.specs.Fold.{fold}
 use Rattle.base.specs.Lists.{same}
 use Rattle.base.specs.Sorted.{Each}
 use Rattle.item.specs.declared.Item.{Item}
-use Rattle.item.proofs.Parts.{and-left, and-right}
+use Rattle.base.proofs.Bools.{and-left, and-right}
 use Rattle.lookup.specs.Groups.{Group}
 use Rattle.definition.specs.Lines.{keyOf, inLine, groupEnd}
 use Rattle.definition.specs.Defs.{defOf, isDefined}

@@ -15,7 +15,7 @@ use Rattle.base.specs.Lists.{isAt}
 use Rattle.close.specs.declared.Close.{Close}
 use Rattle.close.specs.declared.Close.the-variants.{At, Nothing}
 use Rattle.item.specs.Pieces.{itemsOf}
-use Rattle.item.proofs.Parts.{and-left, and-right}
+use Rattle.base.proofs.Bools.{and-left, and-right}
 use Rattle.index.specs.declared.Bracket.{Bracket}
 use Rattle.locator.specs.Answers.{codeOf, valueOf, suffixOf}
 use Rattle.locator.specs.Locators.{locatorOf}
@@ -33,7 +33,9 @@ use Rattle.sweep.specs.Sweep.{Lent, Swept, lentOf, lentAfter, swept, listed, ne
 use Rattle.sweep.specs.Stops.{stopFrom}
 use Rattle.sweep.specs.Facts.{goneOn}
 use Rattle.sweep.specs.Rows.{itemCount}
-use Rattle.sweep.proofs.Sizes.{After, run-after, items-size, size-enough-run}
+use Rattle.sweep.proofs.Sizes.{items-size, size-enough-run}
+use Rattle.lookup.specs.Looks.{Inside}
+use Rattle.lookup.proofs.Steps.{run-inside}
 use Rattle.sweep.proofs.Stops.{sweep-in-two}
 use Rattle.annotation.specs.Content.{Areas, tallyOf, contentOf}
 use Rattle.annotation.specs.Call.{Annotated, AnnotateRan, annotateRefused, annotateRefusal, roomFor, filled, zeroFilled, annotateGives, answerOf, annotateRan, annotateSwept, annotateRun}
@@ -79,8 +81,8 @@ module _ (s : List ℕ) where
       go true q =
           let h = text-short (eqb-true (textRefusal s) 0 q) in
           let c = code-small s 0 (length s) refl in
-          let v = value-ends s 0 (length s) refl in
-          let x = suffix-ends s 0 (length s) refl in
+          let v = value-ends s 0 (length s) in
+          let x = suffix-ends s 0 (length s) in
           (omega arith, (omega arith, (omega arith, (omega arith, (omega arith, (omega arith, tt))))))
       go false q = let h = refusal-low in (omega arith, (omega arith, (omega arith, (omega arith, (omega arith, (omega arith, tt))))))
 
@@ -96,7 +98,7 @@ unfolding lookUpRefused
 refused-low n items h = record { number = h; close = omega arith; count = omega arith }
 
 module _ (s : List ℕ) (at : ℕ) (items : List ℕ) where
-  judged-low : length s ≤ 65535 → (c : Close) → After s at c → Low (lookUpAnswers (judge s at c) items)
+  judged-low : length s ≤ 65535 → (c : Close) → Inside s at c → Low (lookUpAnswers (judge s at c) items)
   unfolding judge lookUpAnswers lookUpGives groupOf
   judged-low h (At c) k = go (groupAccepted s at c)
     where
@@ -104,7 +106,7 @@ module _ (s : List ℕ) (at : ℕ) (items : List ℕ) where
       full true = refused-low 10 items (omega arith)
       full false =
           let z = items-size s at c (k .0) in
-          record { number = omega arith; close = omega (arith, k .1); count = omega (arith, k .1) }
+          record { number = omega arith; close = omega (arith, k .1 .0); count = omega (arith, k .1 .0) }
 
       go : (t : Bool) → Low (lookUpAnswers (pick t (Found (groupOf s at c)) NoGroup) items)
       go true = full (ltb (length items) (rowsLength (groupOf s at c)))
@@ -129,7 +131,7 @@ module _ (s : List ℕ) (at : ℕ) (items : List ℕ) where
     where
       go : (t : Bool) → eqb (lookUpRefusal s at n m) 0 ≡ t
           → Low (pick t (lookUpAnswers (judge s at (closeAsRun s at note index)) items) (lookUpRefused (lookUpRefusal s at n m) items))
-      go true q = judged-low (unrefused s at n m (eqb-true _ 0 q) .short) (closeAsRun s at note index) (run-after s at note index)
+      go true q = judged-low (unrefused s at n m (eqb-true _ 0 q) .short) (closeAsRun s at note index) (run-inside s at note index)
       go false q = let h = look-up-refusal-low n m in refused-low (lookUpRefusal s at n m) items (omega arith)
 
 note-low : (b : Bool) (note : ℕ) → note < 256 → noteAfter b note < 256

@@ -14,7 +14,7 @@ use Rattle.base.specs.Lists.{byteAt, isAt}
 use Rattle.base.specs.Sorted.{Each, Sorted}
 use Rattle.base.proofs.Alls.{each-map}
 use Rattle.text.specs.Escape.{escapedAt}
-use Rattle.item.proofs.Parts.{and-left}
+use Rattle.base.proofs.Bools.{and-left}
 use Rattle.index.specs.Entries.{opensAt}
 use Rattle.lookup.specs.Groups.{Group, GroupAnswer, Found, NoGroup, groupAt}
 use Rattle.lookup.proofs.Parts.{group-in-order}

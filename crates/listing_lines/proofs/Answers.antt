@@ -9,7 +9,7 @@ use lib.Dec.{eqb, leb, ltb}
 use borrow.Author.Tests.{leb-true, le-ltb}
 use Rattle.base.specs.Pick.{pick}
 use Rattle.index.specs.Built.{blank}
-use Rattle.item.proofs.Parts.{and-left, and-right}
+use Rattle.base.proofs.Bools.{and-left, and-right}
 use Rattle.lookup.specs.Groups.{Group}
 use Rattle.lookup.specs.Refusals.{tooFew}
 use Rattle.definition.specs.Lines.{inLine, groupEnd}

@@ -12,7 +12,7 @@ use Rattle.source.specs.Decimal.{decimal}
 use Rattle.decimal.proofs.Laws.{decimal-short}
 use Rattle.sweep.specs.Stops.{writtenAt}
 use Rattle.sweep.proofs.Laws.{written-front}
-use Rattle.lookup.proofs.Areas.{written-length}
+use Rattle.base.proofs.Areas.{written-length}
 use Rattle.listing_lines.specs.Listing.{refusedLine, listingOf}
 use Rattle.listing_lines.specs.Writes.{Put, Room, zeroes, Ready, Listed, Counts}
 use Rattle.listing_lines.proofs.Lines.{field, refused-word}

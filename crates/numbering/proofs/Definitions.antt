@@ -13,8 +13,8 @@ use Rattle.base.specs.Pick.{pick}
 use Rattle.base.specs.Lists.{written, same}
 use Rattle.base.specs.Sorted.{Each}
 use Rattle.base.proofs.Searches.{first-holds}
-use Rattle.locator.proofs.Rows.{same-is}
-use Rattle.item.proofs.Parts.{and-right}
+use Rattle.base.proofs.Sames.{same-true}
+use Rattle.base.proofs.Bools.{and-right}
 use Rattle.pool.specs.Layout.{countOf}
 use Rattle.source.specs.Text.{isEmpty}
 use Rattle.base.proofs.Areas.{written-front, written-none, written-byte, written-over}
@@ -67,13 +67,13 @@ module _ (text pool groups items key : List ℕ) (n : ℕ) where
   line-key : line < n → keyBy text pool groups items (Line line) ≡ key
   unfolding keyBy lineIn definesKeyIn
   line-key h =
-      same-is (keyIn text items (groupField groups line 2)) key
+      same-true (keyIn text items (groupField groups line 2)) key
       (and-right (definesIn text groups items line) _ (last-holds (definesKeyIn text groups items key) n n (omega arith) h))
 
   entry-key : entry < countOf pool → keyBy text pool groups items (EntryOf entry) ≡ key
   unfolding keyBy entryIn entryHas entryDefines
   entry-key h =
-      same-is (entryAt pool entry .id) key
+      same-true (entryAt pool entry .id) key
       (and-right (not (isEmpty (entryAt pool entry .id))) _ (first-holds (entryHas pool key) (countOf pool) 0 (omega arith)))
 
   -- it has the key
