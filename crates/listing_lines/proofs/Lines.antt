@@ -29,68 +29,96 @@ item-at items i c = getD-drop (16 * i) items c 0
 
 -- what a line says of its group ------------------------------------------------------------------------------------------------------
 
-module _ (k : ℕ) (groups out : List ℕ) (g : ℕ) {o l s : ℕ} (eo : o ≡ groupField groups g 0) (el : l ≡ groupField groups g 1)
-    (es : s ≡ groupField groups g 4) (h : Room k (groupPart (drop (5 * g) groups)) out) where
-  group-is : groupPart (drop (5 * g) groups) ≡ field o 32 ++ (field l 32 ++ field s 32)
+-- Each number is asked for only where it is put.
+module _ (k : ℕ) (groups out : List ℕ) (g : ℕ) (h : Room k (groupPart (drop (5 * g) groups)) out) where
+  abbrev offset : List ℕ
+  offset = field (groupField groups g 0) 32
+
+  abbrev size : List ℕ
+  size = field (groupField groups g 1) 32
+
+  abbrev standing : List ℕ
+  standing = field (groupField groups g 4) 32
+
+  group-is : groupPart (drop (5 * g) groups) ≡ offset ++ (size ++ standing)
   unfolding groupPart ascii
-  group-is = rw (group-at groups g 0, group-at groups g 1, group-at groups g 4, ← eo, ← el, ← es) (simp append-assoc refl)
+  group-is = rw (group-at groups g 0, group-at groups g 1, group-at groups g 4) (simp append-assoc refl)
 
-  pub group-first : Room k (field o 32) out
-  group-first = two-first k _ out (field o 32) (field l 32 ++ field s 32) group-is h
+  module _ {o : ℕ} (eo : o ≡ groupField groups g 0) where
+    first-is : groupPart (drop (5 * g) groups) ≡ field o 32 ++ (size ++ standing)
+    first-is = rw eo group-is
 
-  module _ {a : ℕ} {out₁ : List ℕ} (p : Put k (field o 32) out out₁ a) where
-    group-rest : Room a (field l 32 ++ field s 32) out₁
-    group-rest = two-second k _ out (field o 32) (field l 32 ++ field s 32) group-is h p
+    pub group-first : Room k (field o 32) out
+    group-first = two-first k _ out (field o 32) (size ++ standing) first-is h
 
-    pub group-second : Room a (field l 32) out₁
-    group-second = two-first a _ out₁ (field l 32) (field s 32) refl group-rest
+    module _ {a : ℕ} {out₁ : List ℕ} (p : Put k (field o 32) out out₁ a) where
+      group-rest : Room a (size ++ standing) out₁
+      group-rest = two-second k _ out (field o 32) (size ++ standing) first-is h p
 
-    module _ {b : ℕ} {out₂ : List ℕ} (q : Put a (field l 32) out₁ out₂ b) where
-      pub group-third : Room b (field s 32) out₂
-      group-third = two-second a _ out₁ (field l 32) (field s 32) refl group-rest q
+      module _ {l : ℕ} (el : l ≡ groupField groups g 1) where
+        second-is : size ++ standing ≡ field l 32 ++ standing
+        second-is = rw el refl
 
-      pub group-put : {r : ℕ} {out₃ : List ℕ} → Put b (field s 32) out₂ out₃ r → Put k (groupPart (drop (5 * g) groups)) out out₃ r
-      group-put t =
-          two-put k _ out (field o 32) (field l 32 ++ field s 32) group-is h p
-          (two-put a _ out₁ (field l 32) (field s 32) refl group-rest q t)
+        pub group-second : Room a (field l 32) out₁
+        group-second = two-first a _ out₁ (field l 32) standing second-is group-rest
+
+        module _ {b : ℕ} {out₂ : List ℕ} (q : Put a (field l 32) out₁ out₂ b) {s : ℕ} (es : s ≡ groupField groups g 4) where
+          pub group-third : Room b (field s 32) out₂
+          group-third = rw es (two-second a _ out₁ (field l 32) standing second-is group-rest q)
+
+          pub group-put : {r : ℕ} {out₃ : List ℕ} → Put b (field s 32) out₂ out₃ r → Put k (groupPart (drop (5 * g) groups)) out out₃ r
+          group-put t =
+              two-put k _ out (field o 32) (size ++ standing) first-is h p
+              (two-put a _ out₁ (field l 32) standing second-is group-rest q (rw es at t))
 
 pub ruleset group-laws = (group-first, group-second, group-third, group-put)
 
 -- what it says of its item -----------------------------------------------------------------------------------------------------------
 
-module _ (k : ℕ) (text items out : List ℕ) (i : ℕ) {key : List ℕ} {c n : ℕ} (ek : key ≡ keyIn text items i) (ec : c ≡ itemField items i 10)
-    (en : n ≡ itemField items i 12) (h : Room k (itemPart text (drop (16 * i) items)) out) where
-  item-is : itemPart text (drop (16 * i) items) ≡ key ++ ((32 ∷ []) ++ (field c 32 ++ field n 10))
+module _ (k : ℕ) (text items out : List ℕ) (i : ℕ) (h : Room k (itemPart text (drop (16 * i) items)) out) where
+  abbrev code : List ℕ
+  code = field (itemField items i 10) 32
+
+  abbrev number : List ℕ
+  number = field (itemField items i 12) 10
+
+  item-is : itemPart text (drop (16 * i) items) ≡ keyIn text items i ++ ((32 ∷ []) ++ (code ++ number))
   unfolding itemPart ascii keyIn
-  item-is =
-      rw (item-at items i 2, item-at items i 3, item-at items i 10, item-at items i 12, ← ek, ← ec, ← en) (simp append-assoc refl)
+  item-is = rw (item-at items i 2, item-at items i 3, item-at items i 10, item-at items i 12) (simp append-assoc refl)
 
-  pub item-first : Room k key out
-  item-first = two-first k _ out key ((32 ∷ []) ++ (field c 32 ++ field n 10)) item-is h
+  module _ {key : List ℕ} (ek : key ≡ keyIn text items i) where
+    with-key : itemPart text (drop (16 * i) items) ≡ key ++ ((32 ∷ []) ++ (code ++ number))
+    with-key = rw ek item-is
 
-  module _ {a : ℕ} {out₁ : List ℕ} (p : Put k key out out₁ a) where
-    item-rest : Room a ((32 ∷ []) ++ (field c 32 ++ field n 10)) out₁
-    item-rest = two-second k _ out key ((32 ∷ []) ++ (field c 32 ++ field n 10)) item-is h p
+    pub item-first : Room k key out
+    item-first = two-first k _ out key ((32 ∷ []) ++ (code ++ number)) with-key h
 
-    pub item-second : Room a (32 ∷ []) out₁
-    item-second = two-first a _ out₁ (32 ∷ []) (field c 32 ++ field n 10) refl item-rest
+    module _ {a : ℕ} {out₁ : List ℕ} (p : Put k key out out₁ a) where
+      item-rest : Room a ((32 ∷ []) ++ (code ++ number)) out₁
+      item-rest = two-second k _ out key ((32 ∷ []) ++ (code ++ number)) with-key h p
 
-    module _ {b : ℕ} {out₂ : List ℕ} (q : Put a (32 ∷ []) out₁ out₂ b) where
-      item-numbers : Room b (field c 32 ++ field n 10) out₂
-      item-numbers = two-second a _ out₁ (32 ∷ []) (field c 32 ++ field n 10) refl item-rest q
+      pub item-second : Room a (32 ∷ []) out₁
+      item-second = two-first a _ out₁ (32 ∷ []) (code ++ number) refl item-rest
 
-      pub item-third : Room b (field c 32) out₂
-      item-third = two-first b _ out₂ (field c 32) (field n 10) refl item-numbers
+      module _ {b : ℕ} {out₂ : List ℕ} (q : Put a (32 ∷ []) out₁ out₂ b) {c : ℕ} (ec : c ≡ itemField items i 10) where
+        item-numbers : Room b (code ++ number) out₂
+        item-numbers = two-second a _ out₁ (32 ∷ []) (code ++ number) refl item-rest q
 
-      module _ {d : ℕ} {out₃ : List ℕ} (t : Put b (field c 32) out₂ out₃ d) where
-        pub item-fourth : Room d (field n 10) out₃
-        item-fourth = two-second b _ out₂ (field c 32) (field n 10) refl item-numbers t
+        with-code : code ++ number ≡ field c 32 ++ number
+        with-code = rw ec refl
 
-        pub item-put : {r : ℕ} {out₄ : List ℕ} → Put d (field n 10) out₃ out₄ r → Put k (itemPart text (drop (16 * i) items)) out out₄ r
-        item-put w =
-            two-put k _ out key ((32 ∷ []) ++ (field c 32 ++ field n 10)) item-is h p
-            (two-put a _ out₁ (32 ∷ []) (field c 32 ++ field n 10) refl item-rest q
-            (two-put b _ out₂ (field c 32) (field n 10) refl item-numbers t w))
+        pub item-third : Room b (field c 32) out₂
+        item-third = two-first b _ out₂ (field c 32) number with-code item-numbers
+
+        module _ {d : ℕ} {out₃ : List ℕ} (t : Put b (field c 32) out₂ out₃ d) {n : ℕ} (en : n ≡ itemField items i 12) where
+          pub item-fourth : Room d (field n 10) out₃
+          item-fourth = rw en (two-second b _ out₂ (field c 32) number with-code item-numbers t)
+
+          pub item-put : {r : ℕ} {out₄ : List ℕ} → Put d (field n 10) out₃ out₄ r → Put k (itemPart text (drop (16 * i) items)) out out₄ r
+          item-put w =
+              two-put k _ out key ((32 ∷ []) ++ (code ++ number)) with-key h p
+              (two-put a _ out₁ (32 ∷ []) (code ++ number) refl item-rest q
+              (two-put b _ out₂ (field c 32) number with-code item-numbers t (rw en at w)))
 
 pub ruleset item-laws = (item-first, item-second, item-third, item-fourth, item-put)
 

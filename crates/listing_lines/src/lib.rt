@@ -179,11 +179,11 @@ fn put_listing(text: &[u8], c: Told, groups: &[u16], items: &[u16], out: &mut [u
     requires { ⌜ (c .groups ≤ 65535) × Room 0 (listed (now text) (answerBy c (now items) (now groups))) (now out) ⌝ }
     ensures { λ r. ⌜ Put 0 (listed (now (text .entry)) (answerBy c (now (items .entry)) (now (groups .entry)))) (now (out .entry)) (now (out .exit)) r ⌝ }
 {
-    if c.number != 0 {
-        return put_count(out, 0, b"refused ", c.number, b'\n');
+    if c.number == 0 {
+        let k = put_counts(c, out);
+        return put_groups(text, c.groups, groups, items, out, k);
     }
-    let k = put_counts(c, out);
-    put_groups(text, c.groups, groups, items, out, k)
+    put_count(out, 0, b"refused ", c.number, b'\n')
 }
 
 // The listing of a text for which `list` has made the areas, as long as the text asks for and zero.

@@ -8,11 +8,11 @@ pub put-listing-spec : {M : Type 1} → statement M
 put-listing-spec =
     tie.close
     (tie.spec
-    (λ c. search (listed-laws, needs))
+    (λ c κs. search (listed-laws, needs))
     (λ c κs. search (listed-laws, needs))
     (λ c. search (listed-laws, needs))
     (λ c. search (listed-laws, needs))
-    (λ c κs. search (listed-laws, needs))
+    (λ c. search (listed-laws, needs))
     (λ c κs. search (listed-laws, needs))
     (λ c. search (listed-laws, needs))
     (λ c. search (listed-laws, needs)))
