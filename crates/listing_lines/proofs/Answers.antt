@@ -64,7 +64,7 @@ plain-same : (text : List ℕ) (n m : ℕ) (given : Areas) → length text ≤ n
 unfolding annotatePlain
 plain-same text n m given h g = rw (refusal-same text n m h g) refl
 
--- an answer to a call with the areas of the definition, whatever the index area holds
+-- the answer of a call that is lent the areas of the definition
 module _ (text index items groups references labels out : List ℕ) (z : Ready text index items groups references labels out) where
   abbrev ran : AnnotateRan
   ran = annotateRun text 0 [] 0 index (replicate 65535 blank) (areas items groups references labels)

@@ -243,7 +243,7 @@ fn label_bytes() -> [u8; 20480]
     [0; 20480]
 }
 
-// No listing has more bytes than this.
+// No listing has more bytes than this (proofs/Bound: 36 for each byte of the text, and 84).
 pub const ROOM: usize = 150000;
 
 // The listing of a text: what the listing program writes for it, all lines or `refused N`, at the front of `out`. How many bytes.

@@ -1,5 +1,5 @@
 // The two public calls that are lent bracket records, with the records in a local array, as many as any text needs: whoever calls these needs
-// no walk of its MIR. What they promise is what `calls` promises, but for the records, which nobody sees again.
+// no walk of its MIR. What they promise is what `calls` promises, but for the records, which end with the call.
 use annotation::Annotation;
 use index::Bracket;
 use lookup::LookUp;
