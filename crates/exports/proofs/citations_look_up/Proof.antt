@@ -1,8 +1,7 @@
 -- `exports::citations_look_up` meets its contract: a walk of its MIR, by hand, with a branch. Where `answer` has room, `calls::look_up` and `write_look_up` are lent what they take, and give it back; both arms go on to one lemma for what follows (`leaves`).
 -- Assumes nothing.
-use mathlib.Core.Path.{_≡_, refl, sym, ap}
+use mathlib.Core.Path.{_≡_, refl, ap}
 use Prim.Native.Nat.{ℕ, _<_, _≤_, _^_}
-use mathlib.Core.Bool.{Bool, true, false}
 use mathlib.Core.List.{List, [], _∷_}
 use lib.Dec.{leb, lit<}
 use lib.ListN.{length}
