@@ -1,6 +1,6 @@
 -- Numbers put at the front of `answer`: what the functions here leave, in the shape of their contracts.
 use Prim.Native.Nat.{ℕ, _<_, _≤_}
-use mathlib.Core.Path.{_≡_, refl, sym, _∙_, ap}
+use mathlib.Core.Path.{_≡_, sym, _∙_}
 use mathlib.Core.List.{List, [], _∷_}
 use mathlib.Core.Bool.{Bool, true, false}
 use lib.ListN.{length, set}
@@ -9,7 +9,6 @@ use mir.Syntax.{w32}
 use mir.Val.{Fits}
 use borrow.Author.Tests.{leb-true}
 use Rattle.base.specs.Lists.{written}
-use Rattle.base.specs.Pick.{pick}
 use Rattle.lookup.specs.Rows.{putAt}
 use Rattle.lookup.proofs.Areas.{put-written}
 use Rattle.locator.specs.declared.Locator.{Locator}

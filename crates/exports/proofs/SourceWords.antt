@@ -1,7 +1,7 @@
 -- The bytes of a source text fit `answer`: an entry of a pool of at most 32,768 bytes has no more fields than that, and no field is longer.
 use Prim.Native.Nat.{ℕ, zero, suc, _+_, _-_, _*_, _≤_, _<_}
 use native.Mathlib.Omega.{arith}
-use mathlib.Core.Path.{_≡_, refl, sym, _∙_}
+use mathlib.Core.Path.{_≡_, refl}
 use mathlib.Core.List.{List, [], _∷_, _++_}
 use mathlib.Core.Bool.{Bool, true, false, not, _&&_}
 use mathlib.Core.Option.{Option, none, some}
@@ -14,14 +14,14 @@ use Rattle.base.specs.Lists.{part, within, written}
 use Rattle.base.specs.Sorted.{Each}
 use Rattle.pool.specs.Numbers.{Signed}
 use Rattle.pool.specs.Fields.{Field, fieldEnd, fieldAt, fieldsIn, fieldsOf}
-use Rattle.pool.specs.Entries.{Name, Entry, noEntry, fieldWith, inName, nameAfter, nameAt, namesIn, bytesOr, entryOf}
+use Rattle.pool.specs.Entries.{Entry, noEntry, fieldWith, inName, nameAfter, nameAt, namesIn, bytesOr, entryOf}
 use Rattle.pool.specs.Layout.{countOf, offsetOf, endOf, wellFormed, entriesOf}
 use Rattle.pool.proofs.PoolLaws.{entry-there, count-is, entry-is}
 use Rattle.decimal.proofs.Laws.{decimal-short}
 use Rattle.decimal.specs.Decimal.{decimal}
 use Rattle.source.specs.Decimal.{signedDecimal}
 use Rattle.source.specs.Text.{isEmpty, beside, nameBy, nameOf, addName, namesOf, yearBy, yearOf, inParens, headOf, ended, sourceTextOf}
-use Rattle.source.specs.Call.{SourceAnswer, sourceRefused, entryAt, sourceWritten, sourceTextCall}
+use Rattle.source.specs.Call.{sourceRefused, entryAt, sourceWritten, sourceTextCall}
 use Rattle.source.specs.Values.{sourceTextNumbers}
 use Rattle.exports.specs.Words.{Words}
 

@@ -1,9 +1,9 @@
 -- The numbers of an answer fit `answer`: places and counts are no more than a text has bytes.
-use Prim.Native.Nat.{ℕ, zero, suc, _+_, _*_, _/_, _≤_, _<_}
+use Prim.Native.Nat.{ℕ, zero, suc, _+_, _/_, _≤_, _<_}
 use native.Mathlib.Omega.{arith}
-use mathlib.Core.Path.{_≡_, refl, sym, _∙_, ap, subst}
-use mathlib.Core.List.{List, [], _∷_, _++_}
-use mathlib.Core.Bool.{Bool, true, false, not, _&&_, _||_}
+use mathlib.Core.Path.{_≡_, refl, ap}
+use mathlib.Core.List.{List, [], _++_}
+use mathlib.Core.Bool.{Bool, true, false, not, _&&_}
 use lib.ListN.{length, length-append}
 use lib.Dec.{eqb, leb, ltb}
 use borrow.Author.Tests.{eqb-true, ltb-false, leb-true}
@@ -14,18 +14,16 @@ use Rattle.text.specs.Refusal.{afterText, textRefusal}
 use Rattle.base.specs.Lists.{isAt}
 use Rattle.close.specs.declared.Close.{Close}
 use Rattle.close.specs.declared.Close.the-variants.{At, Nothing}
-use Rattle.item.specs.Pieces.{itemsOf}
-use Rattle.base.proofs.Bools.{and-left, and-right}
+use Rattle.base.proofs.Bools.{and-right}
 use Rattle.index.specs.declared.Bracket.{Bracket}
-use Rattle.locator.specs.Answers.{codeOf, valueOf, suffixOf}
 use Rattle.locator.specs.Locators.{locatorOf}
 use Rattle.locator.proofs.Laws.{code-small, value-ends, suffix-ends}
 use Rattle.lookup.specs.Groups.{Group, GroupAnswer, Found, NoGroup, groupOf, groupAccepted, judge}
 use Rattle.lookup.specs.Rows.{rowsLength}
 use Rattle.lookup.specs.Resolve.{closeAsRun, groupAsRun, noteAfter}
 use Rattle.lookup.specs.Refusals.{tooFew, lookUpRefusal}
-use Rattle.lookup.specs.LookUps.{LookedUp, LookUpRan, lookUpRefused, lookUpGives, lookUpAnswers, lookedUp, lookUpBuilds, ranWith, lookUpRun}
-use Rattle.lookup.specs.Others.{Located, Sized, sized, located, notLocated, locatorCall, sizeCall}
+use Rattle.lookup.specs.LookUps.{LookedUp, lookUpRefused, lookUpGives, lookUpAnswers, lookedUp, lookUpBuilds, ranWith, lookUpRun}
+use Rattle.lookup.specs.Others.{sized, located, notLocated, locatorCall, sizeCall}
 use Rattle.lookup.specs.Values.{lookUpNumbers, locatorNumbers, sizeNumbers}
 use Rattle.lookup.proofs.RefusalLaws.{unrefused}
 use Rattle.pool.specs.Layout.{wellFormed}
@@ -38,7 +36,7 @@ use Rattle.lookup.specs.Looks.{Inside}
 use Rattle.lookup.proofs.Steps.{run-inside}
 use Rattle.sweep.proofs.Stops.{sweep-in-two}
 use Rattle.annotation.specs.Content.{Areas, tallyOf, contentOf}
-use Rattle.annotation.specs.Call.{Annotated, AnnotateRan, annotateRefused, annotateRefusal, roomFor, filled, zeroFilled, annotateGives, answerOf, annotateRan, annotateSwept, annotateRun}
+use Rattle.annotation.specs.Call.{AnnotateRan, annotateRefused, annotateRefusal, roomFor, zeroFilled, annotateGives, answerOf, annotateRan, annotateSwept, annotateRun}
 use Rattle.annotation.specs.Values.{annotationNumbers}
 use Rattle.annotation.proofs.Counts.{sources-by}
 use Rattle.annotation.proofs.ByRecords.{references-length}

@@ -1,8 +1,7 @@
 -- `exports::citations_look_up` meets its contract: a walk of its MIR, by hand, with a branch. Where `answer` has room, `calls::look_up` and `write_look_up` are lent what they take, and give it back; both arms go on to one lemma for what follows (`leaves`).
 -- Assumes nothing.
-use mathlib.Core.Path.{_≡_, refl, sym, ap}
+use mathlib.Core.Path.{_≡_, refl, ap}
 use Prim.Native.Nat.{ℕ, _<_, _≤_, _^_}
-use mathlib.Core.Bool.{Bool, true, false}
 use mathlib.Core.List.{List, [], _∷_}
 use lib.Dec.{leb, lit<}
 use lib.ListN.{length}
@@ -184,6 +183,7 @@ module _ {M : Type 1} (𝓤 : URA M) (H : Heap 𝓤) (A : Atoms 𝓤) (W : Given
           assigns ! (addr ! (from ! {i = 5} (fld ! refl (hop ! (look-in ! 40 (sub ! 0 refl (whole !))) (stop !))))) (from ! {i = 14} (stop !)) (init ! 22 refl (tt, tt)) $ assigns ! (agg ! (and-then ! (load ! (from ! {i = 14} (stop !)) (look ! 22 refl)) (and-then ! (load ! (from ! {i = 5} (fld ! refl (stop !))) (look-in ! 40 (sub ! 1 refl (whole !)))) (no-more !)))) (from ! {i = 15} (stop !)) (init ! 20 refl (tt, (tt, (record { fits = room₂ .0 }, tt)))) $
           assigns ! (addr ! (from ! {i = 6} (fld ! refl (hop ! (look-in ! 38 (sub ! 0 refl (whole !))) (stop !))))) (from ! {i = 16} (stop !)) (init ! 18 refl (tt, tt)) $ assigns ! (agg ! (and-then ! (load ! (from ! {i = 16} (stop !)) (look ! 18 refl)) (and-then ! (load ! (from ! {i = 6} (fld ! refl (stop !))) (look-in ! 38 (sub ! 1 refl (whole !)))) (no-more !)))) (from ! {i = 17} (stop !)) (init ! 16 refl (tt, (tt, (record { fits = room₃ .0 }, tt)))) $
           move ! (1 ∷ 6 ∷ []) $ lent ! tt u16 b₁ o₁ (named 1) (named 1) is (λ ν₁ δ₁. move ! (4 ∷ 8 ∷ []) $ lent ! tt T.the-row b₂ o₂ (named 2) (named 2) ys (λ ν₂ δ₂. move ! (7 ∷ 10 ∷ []) $ lent ! tt u16 b₃ o₃ (named 3) (named 3) js (λ ν₃ δ₃.
+          -- [ν₃; items lent; what is kept of items; ν₂; records lent; what is kept of records; ν₁; index lent; what is kept of index; κ₀; κ₄; text; answer; the locals]
           move ! (11 ∷ []) $ copied ! u8 (named 0) κ₀ text $ owned ! usize (Is usize) (uint-makes 𝓤 H A W w64) at (vint w64 at ∷ []) (refl, at-fits) $ owned ! u8 (Is u8) (uint-makes 𝓤 H A W w8) note (vint w8 note ∷ []) (refl, note-fits) $ nothing ! $ nothing ! $ move ! (15 ∷ 12 ∷ 9 ∷ 6 ∷ 1 ∷ 4 ∷ 3 ∷ 2 ∷ 13 ∷ 10 ∷ 7 ∷ 0 ∷ []) $
           calls-fn W ! called.ended (called.clauses 𝓤 H A mem run) ((κ₀, (ν₁ ∷ [], (ν₂ ∷ [], (ν₃ ∷ [], tt)))), (q₀, (fullShare, (fullShare, (fullShare, tt)))), tt, (text, (at, (note, (at-list b₁ o₁ δ₁ is, (at-list b₂ o₂ δ₂ ys, (at-list b₃ o₃ δ₃ js, tt)))))), (sv₀ ∷ [], (vint w64 at ∷ [], (vint w8 note ∷ [], (sv₁ ∷ [], (sv₂ ∷ [], (sv₃ ∷ [], tt))))))) tt
           (λ r zs. (lookUpValues r ≡ lookUpNumbers ran) × (zs .1 .1 .1 .0 ≡ ran .index) × (zs .1 .1 .1 .1 .0 ≡ ran .records) × (zs .1 .1 .1 .1 .1 .0 ≡ ran .answer .items))
@@ -191,6 +191,7 @@ module _ {M : Type 1} (𝓤 : URA M) (H : Heap 𝓤) (A : Atoms 𝓤) (W : Given
           (‵ (ShrSlice (named 0) κ₀ u8 .own text (sv₀ ∷ [])) ∷ ‵ (usize .own at (vint w64 at ∷ [])) ∷ ‵ (u8 .own note (vint w8 note ∷ [])) ∷ ‵ (MutSlice (named 1) (ν₁ ∷ []) u16 .own (at-list b₁ o₁ δ₁ is) (sv₁ ∷ [])) ∷ ‵ (MutSlice (named 2) (ν₂ ∷ []) T.the-row .own (at-list b₂ o₂ δ₂ ys) (sv₂ ∷ [])) ∷ ‵ (MutSlice (named 3) (ν₃ ∷ []) u16 .own (at-list b₃ o₃ δ₃ js) (sv₃ ∷ [])) ∷ ‵ ftrue ∷ [])
           (record { tokens = refl; owned = refl; required = id⊢ 𝓤 _; ensured = λ r zs. id⊢ 𝓤 _ }) fm (known .1) (and-then ! (load ! (from ! {i = 1} (stop !)) (look ! 44 refl)) (and-then ! (load ! (from ! {i = 2} (stop !)) (look ! 42 refl)) (and-then ! (load ! (from ! {i = 3} (stop !)) (look ! 40 refl)) (and-then ! (load ! (from ! {i = 13} (stop !)) (look ! 20 refl)) (and-then ! (load ! (from ! {i = 15} (stop !)) (look ! 16 refl)) (and-then ! (load ! (from ! {i = 17} (stop !)) (look ! 12 refl)) (no-more !))))))) (λ u r zs e. move ! (6 ∷ []) $ no-last ! $ no-last ! $ no-last ! $ last-list ! u16 δ₁ (zs .1 .1 .1 .0) (ran .index) (e .1) (λ e₁. last-list ! T.the-row δ₂ (zs .1 .1 .1 .1 .0) (ran .records) (e .2) (λ e₂. last-list ! u16 δ₃ (zs .1 .1 .1 .1 .1 .0) (ran .answer .items) (e .3) (λ e₃. drop ! $ move ! (8 ∷ []) $ drop ! $
           move ! (5 ∷ 2 ∷ 11 ∷ []) $ back ! tt u16 b₁ o₁ (named 1) is (ran .index) room₁ e₁ $ move ! (6 ∷ 3 ∷ 10 ∷ []) $ back ! tt T.the-row b₂ o₂ (named 2) ys (ran .records) room₂ e₂ $ move ! (7 ∷ 4 ∷ 9 ∷ []) $ back ! tt u16 b₃ o₃ (named 3) js (ran .answer .items) room₃ e₃ $ move ! (6 ∷ []) $
+          -- [result; κ₃; items; κ₂; records; κ₁; index; κ₀; text; κ₄; answer; the locals]
           peeks ! R.the-row (Is R.the-row) (shows 𝓤 H A R.the-row) r (u ∷ []) (λ r-is. land ! (from ! {i = 8} (stop !)) (init ! 35 refl (EL.lawful R.the-type R′.the-laws 𝓤 H A W tt .typed r _ r-is .0)) $
           assigns ! (addr ! (from ! {i = 7} (fld ! refl (hop ! (look-in ! 37 (sub ! 0 refl (whole !))) (stop !))))) (from ! {i = 19} (stop !)) (init ! 13 refl (tt, tt)) $ assigns ! (agg ! (and-then ! (load ! (from ! {i = 19} (stop !)) (look ! 13 refl)) (and-then ! (load ! (from ! {i = 7} (fld ! refl (stop !))) (look-in ! 37 (sub ! 1 refl (whole !)))) (no-more !)))) (from ! {i = 20} (stop !)) (init ! 11 refl (tt, (tt, (record { fits = room₄ .0 }, tt)))) $
           move ! (9 ∷ 10 ∷ []) $ lent ! tt u32 b₄ o₄ (named 4) (named 0) xs (λ ν₄ δ₄. nothing ! $ nothing ! $ move ! (2 ∷ 1 ∷ 5 ∷ 3 ∷ 0 ∷ []) $
@@ -200,6 +201,7 @@ module _ {M : Type 1} (𝓤 : URA M) (H : Heap 𝓤) (A : Atoms 𝓤) (W : Given
           (‵ (R.the-row .own r (u ∷ [])) ∷ ‵ (MutSlice (named 0) (ν₄ ∷ []) u32 .own (at-list b₄ o₄ δ₄ xs) (sv₄ ∷ [])) ∷ ‵ ftrue ∷ [])
           (record { tokens = refl; owned = refl; required = factI 𝓤 ((4 ≤ length xs) × Words (lookUpValues r)) (emp 𝓤) (leb-true 4 (length xs) (holds _ yes), look-up-fit ts at note is ys js xs note-fits r (e .0)); ensured = λ r zs. id⊢ 𝓤 _ }) fm (known .2) (and-then ! (load ! (from ! {i = 8} (stop !)) (look ! 33 refl)) (and-then ! (load ! (from ! {i = 20} (stop !)) (look ! 9 refl)) (no-more !)))
           (λ _. vunit) nothing-tells tt (λ r zs e. refl) (λ _ zs′ e′. move ! (2 ∷ []) $ no-last ! $ last-list ! u32 δ₄ (zs′ .1 .0) (written (lookUpValues r) xs) e′ (λ e₄. drop ! $ move ! (2 ∷ []) $ drop ! $ move ! (1 ∷ 0 ∷ 2 ∷ []) $ back ! tt u32 b₄ o₄ (named 4) xs (written (lookUpValues r) xs) room₄ e₄ $
+          -- [κ₄; answer; κ₃; items; κ₂; records; κ₁; index; κ₀; text; the locals]
           land-last ! (from ! {i = 18} (stop !)) (init ! 14 refl (tt, tt)) $ exec ! C Λ En code.Mir.t-5 (atRet En Post) $
           forget ! 10 refl $ forget ! 12 refl $ forget ! 14 refl $ forget ! 16 refl $ forget ! 18 refl $ forget ! 20 refl $ forget ! 22 refl $ forget ! 24 refl $ forget ! 26 refl $ forget ! 34 refl $
           move ! (8 ∷ 6 ∷ 4 ∷ 2 ∷ 0 ∷ 9 ∷ 7 ∷ 5 ∷ 3 ∷ 1 ∷ []) $ leaves (lookUpAreas (ran .index) (ran .records) (ran .answer .items) (written (lookUpValues r) xs)) (look-up-left ts at note is ys js xs (holds _ yes) r (e .0)) (e₁, e₂, e₃, e₄)))))))))))))
