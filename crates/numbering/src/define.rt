@@ -49,15 +49,20 @@ pub fn defines_in(text: &[u8], groups: &[u16], items: &[u16], g: usize) -> bool
     }
 }
 
-// Whether it starts one of the key `key`.
+// Whether it starts one of the key `key`. Most groups start no line, which costs less to see than that their keys differ.
 fn defines_key_in(text: &[u8], groups: &[u16], items: &[u16], g: usize, key: &[u8]) -> bool
     requires { ⌜ g < 4294967296 ⌝ }
     ensures { λ r. ⌜ r ≡ definesKeyIn (now (text .entry)) (now (groups .entry)) (now (items .entry)) (now (key .entry)) g ⌝ }
 {
-    let k = records::group_field(groups, g, 2);
-    let own = records::key_in(text, items, k);
-    if base::bytes::is_same(own, key) {
-        defines_in(text, groups, items, g)
+    let at = records::group_field(groups, g, 0);
+    if starts(text, at) {
+        let k = records::group_field(groups, g, 2);
+        let own = records::key_in(text, items, k);
+        if base::bytes::is_same(own, key) {
+            defines_in(text, groups, items, g)
+        } else {
+            false
+        }
     } else {
         false
     }

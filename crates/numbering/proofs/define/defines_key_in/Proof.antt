@@ -12,5 +12,8 @@ defines-key-in-spec =
     (λ c κs. search needs)
     (λ c κs. search needs)
     (λ c κs. search needs)
+    (λ c κs. search needs)
+    (λ c κs. search needs)
+    (λ c. search (define-laws, needs))
     (λ c. search (define-laws, needs))
     (λ c. search (define-laws, needs)))
