@@ -104,7 +104,7 @@ module _ (s : List ℕ) (at : ℕ) (items : List ℕ) where
       full true = refused-low 10 items (omega arith)
       full false =
           let z = items-size s at c (k .0) in
-          record { number = omega arith; close = omega (arith, k .1 .0); count = omega (arith, k .1 .0) }
+          record { number = omega arith; close = omega (arith, k .1); count = omega (arith, k .1) }
 
       go : (t : Bool) → Low (lookUpAnswers (pick t (Found (groupOf s at c)) NoGroup) items)
       go true = full (ltb (length items) (rowsLength (groupOf s at c)))
