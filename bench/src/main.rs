@@ -72,16 +72,16 @@ fn show(row: Row, rows: &mut Vec<Row>) {
     rows.push(row);
 }
 
-// The goal of the ratio is for all rows but the look-ups of the Rust that check no UTF-8, as each of the port's does.
+// The goal of the ratio is for the Rust's bare calls. Rows with `from_utf8` show how much of a look-up is the check that the port makes.
 fn ordinary(port: &mut Port, size: usize, pool: bool, rows: &mut Vec<Row>) {
     let text = texts::ordinary(size, pool);
     let bytes = if pool { texts::pool() } else { Vec::new() };
     let mut add = |call, judged, (port, rust)| show(Row { text: text.name.clone(), call, port, rust, judged }, rows);
     if !pool {
-        add("look-up, no index", false, look_up(port, &text, false, false));
-        add("look-up, no index, from_utf8", true, look_up(port, &text, false, true));
-        add("look-up, index kept", false, look_up(port, &text, true, false));
-        add("look-up, index kept, from_utf8", true, look_up(port, &text, true, true));
+        add("look-up, no index", true, look_up(port, &text, false, false));
+        add("look-up, no index, from_utf8", false, look_up(port, &text, false, true));
+        add("look-up, index kept", true, look_up(port, &text, true, false));
+        add("look-up, index kept, from_utf8", false, look_up(port, &text, true, true));
         add("build", true, build(port, &text));
     }
     add("annotation, mode 0", true, annotation(port, text.plain(), 0, &bytes));
