@@ -42,10 +42,10 @@ module _ (text groups items : List ℕ) (g : ℕ) where
   unfolding definesIn
   defines-colon n1 n2 a1 b1 b2 k1 d1 d2 e1 r1 = r1 ∙ rw (e1, ← a1, ← b1, b2, ← n1, eq-eqb _ 1 n2, ← k1, ← d1, d2) refl
 
-  pub key-start : (key : List ℕ) {a : ℕ} {b : Bool} → a ≡ groupField groups g 0 → b ≡ startsLine text a → b ≡ false
+  pub key-colon : (key : List ℕ) {e : ℕ} {b : Bool} → e ≡ closeOfRecord groups g → b ≡ colonAfter text e → b ≡ false
       → false ≡ definesKeyIn text groups items key g
-  unfolding definesKeyIn
-  key-start key p q h = rw (← defines-start p q h) refl
+  unfolding definesKeyIn definesIn
+  key-colon key p q h = rw (← p, ← q, h, and-false) refl
 
   pub key-other : (key : List ℕ) {k : ℕ} {own : List ℕ} {b : Bool} → k ≡ groupField groups g 2 → own ≡ keyIn text items k → b ≡ same own key → b ≡ false
       → false ≡ definesKeyIn text groups items key g
@@ -57,7 +57,7 @@ module _ (text groups items : List ℕ) (g : ℕ) where
   unfolding definesKeyIn
   key-same key p q e h d = d ∙ rw (← p, ← q, ← e, h, and-true) refl
 
-pub ruleset define-laws = (starts-past, colon-past, defines-count, defines-start, defines-bare, defines-colon, key-start, key-other, key-same)
+pub ruleset define-laws = (starts-past, colon-past, defines-count, defines-start, defines-bare, defines-colon, key-colon, key-other, key-same)
 
 -- the search for the last line of a key
 module _ (text groups items key : List ℕ) (n i : ℕ) where
