@@ -1,6 +1,6 @@
 //! The compiled library with areas lent beforehand, long enough for every text.
 
-use library::{Bracket, Lent};
+use citations::raw::{self, Bracket, Lent};
 
 const BYTES: usize = 65_535;
 
@@ -45,7 +45,7 @@ impl Port {
         let (mut lent, answer) = self.lent(text.len());
         let mut groups = 0;
         for &at in places {
-            library::look_up(text, at, note, &mut lent, answer);
+            raw::look_up(text, at, note, &mut lent, answer);
             groups += usize::from(answer[0] == 0);
             note = answer[3] as u8;
         }
@@ -55,7 +55,7 @@ impl Port {
     /// The annotation with no index: how many sources there are.
     pub fn annotate(&mut self, text: &[u8], mode: u8, pool: &[u8]) -> usize {
         let (mut lent, answer) = self.lent(text.len());
-        library::annotate(text, mode, pool, 0, &mut lent, answer);
+        raw::annotate(text, mode, pool, 0, &mut lent, answer);
         assert_eq!(answer[0], 0, "accepted");
         answer[3] as usize
     }

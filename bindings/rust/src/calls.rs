@@ -1,6 +1,6 @@
 //! The five calls over lent slices.
 
-use crate::ffi;
+use crate::raw::{self, Lent};
 use crate::{Bracket, Locator, Refusal, Refused};
 
 /// What an accepted look-up answers.
@@ -53,7 +53,10 @@ pub fn look_up(
     records: &mut [Bracket],
     items: &mut [u16],
 ) -> Result<LookedUp, Refused> {
-    let [number, close, items, note] = ffi::look_up(text, at, note, index, records, items);
+    let mut answer = [0; raw::LOOK_UP];
+    let mut lent = Lent { index, records, items, groups: &mut [], references: &mut [], labels: &mut [] };
+    raw::look_up(text, at, note, &mut lent, &mut answer);
+    let [number, close, items, note] = answer;
     let note = note as u8;
     match Refusal::of(number) {
         None => Ok(LookedUp { close: close as usize, items: items as usize, note }),
@@ -79,8 +82,9 @@ pub fn annotate(
     references: &mut [u16],
     labels: &mut [u8],
 ) -> Result<AnnotationCounts, Refused> {
-    let [number, groups, items, sources, label_bytes, note] =
-        ffi::annotate(text, mode, pool, note, index, records, items, groups, references, labels);
+    let mut answer = [0; raw::ANNOTATION];
+    raw::annotate(text, mode, pool, note, &mut Lent { index, records, items, groups, references, labels }, &mut answer);
+    let [number, groups, items, sources, label_bytes, note] = answer;
     let note = note as u8;
     match Refusal::of(number) {
         None => Ok(AnnotationCounts {
@@ -98,7 +102,9 @@ pub fn annotate(
 ///
 /// Refusals, in this order: 1, 2.
 pub fn size(text: &[u8]) -> Result<usize, Refusal> {
-    let [number, records] = ffi::size(text);
+    let mut answer = [0; raw::SIZE];
+    raw::size(text, &mut answer);
+    let [number, records] = answer;
     match Refusal::of(number) {
         None => Ok(records as usize),
         Some(refusal) => Err(refusal),
@@ -120,7 +126,9 @@ pub fn size(text: &[u8]) -> Result<usize, Refusal> {
 /// # Ok::<(), citations::Refusal>(())
 /// ```
 pub fn locator(text: &[u8]) -> Result<Locator, Refusal> {
-    let [number, code, value, value_length, suffix, suffix_length] = ffi::locator(text);
+    let mut answer = [0; raw::LOCATOR];
+    raw::locator(text, &mut answer);
+    let [number, code, value, value_length, suffix, suffix_length] = answer;
     match Refusal::of(number) {
         // A text's offsets and lengths fit 16 bits.
         None => Ok(Locator::of(code as u16, [value as u16, value_length as u16], [suffix as u16, suffix_length as u16])),
@@ -132,7 +140,9 @@ pub fn locator(text: &[u8]) -> Result<Locator, Refusal> {
 ///
 /// Refusals, in this order: 7, 8, 10.
 pub fn source_text(pool: &[u8], entry: usize, area: &mut [u8]) -> Result<usize, Refusal> {
-    let [number, bytes] = ffi::source_text(pool, entry, area);
+    let mut answer = [0; raw::SOURCE_TEXT];
+    raw::source_text(pool, entry, area, &mut answer);
+    let [number, bytes] = answer;
     match Refusal::of(number) {
         None => Ok(bytes as usize),
         Some(refusal) => Err(refusal),

@@ -48,15 +48,15 @@
 #![deny(unsafe_code)]
 
 mod calls;
-mod ffi;
 mod owned;
 pub mod pool;
+pub mod raw;
 mod records;
 mod refusal;
 
 pub use calls::{annotate, locator, look_up, size, source_text, AnnotationCounts, LookedUp};
-pub use ffi::Bracket;
 pub use owned::{source_text_of, Annotated, Group, Index, Mode};
+pub use raw::Bracket;
 pub use records::{group_records, item_records, GroupRecord, ItemRecord, Locator, LocatorLabel, Span, Standing, GROUP_RECORD, ITEM_RECORD};
 pub use refusal::{Refusal, Refused};
 

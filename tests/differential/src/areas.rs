@@ -1,7 +1,7 @@
 //! The areas that a call is lent, each between guards, and what they should hold after it.
 
+use citations::raw::{self, Bracket, Lent};
 use inputs::random::Random;
-use library::{Bracket, Lent};
 
 use crate::case::{Call, Case, What};
 
@@ -252,11 +252,11 @@ impl Areas {
             labels: self.labels.lend_all(),
         };
         match &call.what {
-            What::LookUp { at } => library::look_up(text, *at, note, &mut lent, answer),
-            What::Annotate { mode, .. } => library::annotate(text, *mode, self.pool.content(), note, &mut lent, answer),
-            What::Size => library::size(text, answer),
-            What::Locator => library::locator(text, answer),
-            What::SourceText { entry, .. } => library::source_text(self.pool.content(), *entry, lent.labels, answer),
+            What::LookUp { at } => raw::look_up(text, *at, note, &mut lent, answer),
+            What::Annotate { mode, .. } => raw::annotate(text, *mode, self.pool.content(), note, &mut lent, answer),
+            What::Size => raw::size(text, answer),
+            What::Locator => raw::locator(text, answer),
+            What::SourceText { entry, .. } => raw::source_text(self.pool.content(), *entry, lent.labels, answer),
         }
         if let Some(fault) = self.fault {
             self.spoil(fault, call, lengths);

@@ -96,7 +96,8 @@ impl What {
 
     /// How many numbers the call's answer has.
     pub fn answer_length(&self) -> usize {
-        [library::LOOK_UP, library::ANNOTATION, library::SIZE, library::LOCATOR, library::SOURCE_TEXT][self.kind()]
+        [citations::raw::LOOK_UP, citations::raw::ANNOTATION, citations::raw::SIZE, citations::raw::LOCATOR, citations::raw::SOURCE_TEXT]
+            [self.kind()]
     }
 
     /// The pool, where the call has one.

@@ -1,7 +1,7 @@
 //! Lists of calls that share an index and a note: what each answers, the note apart, and the final bytes of its answer areas must be
 //! those of the same call on a fresh index.
 
-use library::{Bracket, Lent};
+use citations::raw::{self, Bracket, Lent};
 
 use crate::areas::{Areas, Lengths, Need};
 use crate::case::{Call, Case, What};
@@ -139,13 +139,13 @@ impl Ample {
         let mut need = Need { items: usual, groups: usual, references: usual, labels: usual };
         match &call.what {
             What::LookUp { at } => {
-                library::look_up(text, *at, 0, &mut lent, &mut answer);
+                raw::look_up(text, *at, 0, &mut lent, &mut answer);
                 if answer[0] == 0 {
                     need.items = 16 * answer[2] as usize;
                 }
             }
             What::Annotate { mode, pool } => {
-                library::annotate(text, *mode, pool, 0, &mut lent, &mut answer);
+                raw::annotate(text, *mode, pool, 0, &mut lent, &mut answer);
                 if answer[0] == 0 {
                     let [_, groups, items, references, labels, _] = answer.map(|n| n as usize);
                     need = Need { items: 16 * items, groups: 5 * groups, references, labels };

@@ -1,6 +1,6 @@
 //! The comparison of a case with the Rust: each call's answer, and every byte that it is lent.
 
-use library::Bracket;
+use citations::raw::Bracket;
 use oracle::answers::{self, Session};
 
 use crate::areas::{Areas, Lengths, Need};

@@ -1,4 +1,6 @@
-//! The library's C names (include/citations.h), and one safe function for each: all `unsafe` of the crate is here.
+//! The library's C names (include/citations.h) behind slices, answers and all: each area is lent as it is, and nothing is read or written
+//! here. For those who want the numbers as the library gives them; [`look_up`](crate::look_up) and the others put them into types.
+//! All `unsafe` of the crate is here.
 //!
 //! Why the calls are safe. The library asks of its caller what Rust's slices already promise: each pointer is aligned and not null, even
 //! for an empty slice; so many elements from it on are readable and set, and writable where the slice is `&mut`; a `&mut` slice overlaps
@@ -22,6 +24,33 @@ pub struct Bracket {
     pub good: u16,
     /// Bad-item count.
     pub bad: u16,
+}
+
+/// How many numbers the answer of a look-up has: number, close, item count, note.
+pub const LOOK_UP: usize = 4;
+/// That of an annotation: number, groups, items, sources, label bytes, note.
+pub const ANNOTATION: usize = 6;
+/// That of a size call: number, records.
+pub const SIZE: usize = 2;
+/// That of a locator call: number, label code, value pair, suffix pair.
+pub const LOCATOR: usize = 6;
+/// That of a source text call: number, bytes.
+pub const SOURCE_TEXT: usize = 2;
+
+/// What an annotation is lent. A look-up is lent the first three.
+pub struct Lent<'a> {
+    /// One number for each byte of the text.
+    pub index: &'a mut [u16],
+    /// One record for each byte of the text.
+    pub records: &'a mut [Bracket],
+    /// Item records.
+    pub items: &'a mut [u16],
+    /// Group records.
+    pub groups: &'a mut [u16],
+    /// One number a source.
+    pub references: &'a mut [u16],
+    /// Label bytes.
+    pub labels: &'a mut [u8],
 }
 
 extern "C" {
@@ -74,9 +103,8 @@ extern "C" {
     );
 }
 
-/// Number, close, item count, note.
-pub fn look_up(text: &[u8], at: usize, note: u8, index: &mut [u16], records: &mut [Bracket], items: &mut [u16]) -> [u32; 4] {
-    let mut answer = [0; 4];
+/// The group at the bracket at `at`. With an `answer` shorter than [`LOOK_UP`] nothing is done.
+pub fn look_up(text: &[u8], at: usize, note: u8, lent: &mut Lent<'_>, answer: &mut [u32]) {
     // SAFETY: each pointer and length is of one slice, and the slices are as this module's head says.
     unsafe {
         citations_look_up(
@@ -84,34 +112,20 @@ pub fn look_up(text: &[u8], at: usize, note: u8, index: &mut [u16], records: &mu
             text.len(),
             at,
             note,
-            index.as_mut_ptr(),
-            index.len(),
-            records.as_mut_ptr(),
-            records.len(),
-            items.as_mut_ptr(),
-            items.len(),
+            lent.index.as_mut_ptr(),
+            lent.index.len(),
+            lent.records.as_mut_ptr(),
+            lent.records.len(),
+            lent.items.as_mut_ptr(),
+            lent.items.len(),
             answer.as_mut_ptr(),
             answer.len(),
         );
     }
-    answer
 }
 
-/// Number, groups, items, sources, label bytes, note.
-#[allow(clippy::too_many_arguments)] // the library's own parameters, in its order
-pub fn annotate(
-    text: &[u8],
-    mode: u8,
-    pool: &[u8],
-    note: u8,
-    index: &mut [u16],
-    records: &mut [Bracket],
-    items: &mut [u16],
-    groups: &mut [u16],
-    references: &mut [u16],
-    labels: &mut [u8],
-) -> [u32; 6] {
-    let mut answer = [0; 6];
+/// All groups of the text. With an `answer` shorter than [`ANNOTATION`] nothing is done.
+pub fn annotate(text: &[u8], mode: u8, pool: &[u8], note: u8, lent: &mut Lent<'_>, answer: &mut [u32]) {
     // SAFETY: as in `look_up`. `text` and `pool` may overlap: both are only read.
     unsafe {
         citations_annotate(
@@ -121,47 +135,40 @@ pub fn annotate(
             pool.as_ptr(),
             pool.len(),
             note,
-            index.as_mut_ptr(),
-            index.len(),
-            records.as_mut_ptr(),
-            records.len(),
-            items.as_mut_ptr(),
-            items.len(),
-            groups.as_mut_ptr(),
-            groups.len(),
-            references.as_mut_ptr(),
-            references.len(),
-            labels.as_mut_ptr(),
-            labels.len(),
+            lent.index.as_mut_ptr(),
+            lent.index.len(),
+            lent.records.as_mut_ptr(),
+            lent.records.len(),
+            lent.items.as_mut_ptr(),
+            lent.items.len(),
+            lent.groups.as_mut_ptr(),
+            lent.groups.len(),
+            lent.references.as_mut_ptr(),
+            lent.references.len(),
+            lent.labels.as_mut_ptr(),
+            lent.labels.len(),
             answer.as_mut_ptr(),
             answer.len(),
         );
     }
-    answer
 }
 
-/// Number, records.
-pub fn size(text: &[u8]) -> [u32; 2] {
-    let mut answer = [0; 2];
+/// How many item records the text needs at most. With an `answer` shorter than [`SIZE`] nothing is done.
+pub fn size(text: &[u8], answer: &mut [u32]) {
     // SAFETY: as in `look_up`.
     unsafe { citations_size(text.as_ptr(), text.len(), answer.as_mut_ptr(), answer.len()) }
-    answer
 }
 
-/// Number, label code, value pair, suffix pair.
-pub fn locator(text: &[u8]) -> [u32; 6] {
-    let mut answer = [0; 6];
+/// The locator that the text is. With an `answer` shorter than [`LOCATOR`] nothing is done.
+pub fn locator(text: &[u8], answer: &mut [u32]) {
     // SAFETY: as in `look_up`.
     unsafe { citations_locator(text.as_ptr(), text.len(), answer.as_mut_ptr(), answer.len()) }
-    answer
 }
 
-/// Number, bytes.
-pub fn source_text(pool: &[u8], entry: usize, area: &mut [u8]) -> [u32; 2] {
-    let mut answer = [0; 2];
+/// The text of an entry of the pool. With an `answer` shorter than [`SOURCE_TEXT`] nothing is done.
+pub fn source_text(pool: &[u8], entry: usize, area: &mut [u8], answer: &mut [u32]) {
     // SAFETY: as in `look_up`.
     unsafe {
         citations_source_text(pool.as_ptr(), pool.len(), entry, area.as_mut_ptr(), area.len(), answer.as_mut_ptr(), answer.len());
     }
-    answer
 }
