@@ -231,16 +231,9 @@ fn look_ups(random: &mut Random) -> Vec<Request> {
     out
 }
 
-// The brackets of a text in order, backwards, or some of them in any order, and now and then another place.
+// Brackets of a text, and now and then another place.
 fn look_up_places(random: &mut Random, text: &str) -> Vec<usize> {
-    let mut places = texts::brackets(text);
-    match random.below(3) {
-        0 => {}
-        1 => places.reverse(),
-        _ if places.is_empty() => {}
-        _ => places = (0..places.len()).map(|_| random.of(&places)).collect(),
-    }
-    places.truncate(16);
+    let mut places = texts::brackets_mixed(random, text, 16);
     if random.below(8) == 0 {
         places.insert(random.below(places.len() + 1), random.below(text.len() + 2));
     }

@@ -19,6 +19,7 @@ use Rattle.annotation.specs.Content.{Areas}
 use Rattle.annotation.specs.Call.{annotateRefusal, zeros, AnnotateRan, annotateRun}
 use Rattle.annotation.specs.Values.{annotationValues, annotationNumbers}
 
+-- the four answer areas
 abbrev pub areas : List ℕ → List ℕ → List ℕ → List ℕ → Areas
 areas items groups references labels = record { items = items; groups = groups; references = references; labels = labels }
 

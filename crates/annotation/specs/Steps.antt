@@ -28,6 +28,7 @@ pub record Fits (text : List ℕ) (all : List Group) : Type 0 where
 abbrev pub sweptItems : List Group → List ℕ → List ℕ
 sweptItems all rest = itemRows all ++ rest
 
+-- the group records after the sweep, before what the area held behind them
 abbrev pub sweptGroups : List ℕ → List Group → List ℕ → List ℕ
 sweptGroups text all rest = groupRows 0 (sweptFrom text false 0 all) ++ rest
 
@@ -53,6 +54,7 @@ pub record NumberedAs (text : List ℕ) (mode : ℕ) (all : List Group) (pool re
   pub labels : numberedFrom text mode all pool restItems restGroups .labels ≡ tallyOf text mode all pool .labels
   pub sources : numberedFrom text mode all pool restItems restGroups .sources ≡ length (tallyOf text mode all pool .sources)
 
+-- THEOREM: the pass over the records numbers as the paper does
 abbrev pub NumbersAgree : Type 0
 NumbersAgree =
     (text : List ℕ) (mode : ℕ) (all : List Group) (pool restItems restGroups : List ℕ) → Fits text all
@@ -63,6 +65,7 @@ abbrev pub referencesFrom : List ℕ → ℕ → List Group → List ℕ → Num
 referencesFrom text mode all pool n =
     referencesIn text pool (n .groups) (n .items) (length all) (itemCount all) mode (n .sources)
 
+-- THEOREM: the order over the records is the paper's reference order
 abbrev pub ReferencesAgree : Type 0
 ReferencesAgree =
     (text : List ℕ) (mode : ℕ) (all : List Group) (pool restItems restGroups : List ℕ) → Fits text all
@@ -79,6 +82,7 @@ pub record ContentAs (content : Areas) (all : List Group) (n : Numbered) (ordere
   pub group-count : length (content .groups) ≡ groupWidth * length all
   pub source-count : length (content .references) ≡ n .sources
 
+-- THEOREM: both together write what `contentOf` says
 abbrev pub ContentAgrees : Type 0
 ContentAgrees =
     (text : List ℕ) (mode : ℕ) (all : List Group) (pool restItems restGroups : List ℕ) → Fits text all

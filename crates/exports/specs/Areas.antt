@@ -29,12 +29,15 @@ pub record LookUpAreas : Type 0 where
   pub items : List ℕ
   pub answer : List ℕ
 
+-- the areas of a look-up
 abbrev pub lookUpAreas : List ℕ → List Bracket → List ℕ → List ℕ → LookUpAreas
 lookUpAreas index records items answer = record { index = index; records = records; items = items; answer = answer }
 
+-- the areas after a look-up that was run
 unfoldable pub lookUpDone : LookUpRan → List ℕ → LookUpAreas
 lookUpDone ran answer = lookUpAreas (ran .index) (ran .records) (ran .answer .items) (written (lookUpNumbers ran) answer)
 
+-- run where `answer` has room for its four numbers, else untouched
 unfoldable pub afterLookUp : List ℕ → ℕ → ℕ → LookUpAreas → LookUpAreas
 afterLookUp text at note lent =
     pick (roomFor 4 (lent .answer)) (lookUpDone (lookUpRun text at note (lent .index) (lent .records) (lent .items)) (lent .answer)) lent
@@ -46,12 +49,15 @@ pub record AnnotateAreas : Type 0 where
   pub areas : Areas
   pub answer : List ℕ
 
+-- the areas of an annotation
 abbrev pub annotateAreas : List ℕ → List Bracket → Areas → List ℕ → AnnotateAreas
 annotateAreas index records areas answer = record { index = index; records = records; areas = areas; answer = answer }
 
+-- the areas after an annotation that was run
 unfoldable pub annotateDone : AnnotateRan → List ℕ → AnnotateAreas
 annotateDone ran answer = annotateAreas (ran .index) (ran .records) (ran .answer .areas) (written (annotationNumbers ran) answer)
 
+-- run where `answer` has room for its six numbers, else untouched
 unfoldable pub afterAnnotate : List ℕ → ℕ → List ℕ → ℕ → AnnotateAreas → AnnotateAreas
 afterAnnotate text mode pool note lent =
     pick (roomFor 6 (lent .answer))
@@ -71,11 +77,14 @@ pub record SourceAreas : Type 0 where
   pub area : List ℕ
   pub answer : List ℕ
 
+-- the areas of a source text call
 abbrev pub sourceAreas : List ℕ → List ℕ → SourceAreas
 sourceAreas area answer = record { area = area; answer = answer }
 
+-- the areas after a source text call that was run
 unfoldable pub sourceDone : SourceAnswer → List ℕ → SourceAreas
 sourceDone ran answer = sourceAreas (ran .area) (written (sourceTextNumbers ran) answer)
 
+-- run where `answer` has room for its two numbers, else untouched
 unfoldable pub afterSourceText : List ℕ → ℕ → SourceAreas → SourceAreas
 afterSourceText pool entry lent = pick (roomFor 2 (lent .answer)) (sourceDone (sourceTextCall pool entry (lent .area)) (lent .answer)) lent

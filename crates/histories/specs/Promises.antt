@@ -39,6 +39,7 @@ pub data Done : Type 0 where
   LookedUpOnce : ℕ → ℕ → List Bracket → List ℕ → LookUp → List ℕ → List Bracket → List ℕ → Done
   AnnotatedOnce : ℕ → ℕ → List ℕ → List Bracket → Areas → Annotation → List ℕ → List Bracket → Areas → Done
 
+-- the call that was run
 abbrev pub callOf : Done → Call
 callOf (LookedUpOnce k at records items r index' records' items') = LookUpCall k at records items
 callOf (AnnotatedOnce k mode pool records areas r index' records' areas') = AnnotateCall k mode pool records areas
@@ -55,11 +56,13 @@ abbrev pub lookUpShows : LookUp → List ℕ → LookedUp
 lookUpShows (FoundOne close count note) items = record { number = 0; close = close; count = count; items = items }
 lookUpShows (FoundNone number note) items = record { number = number; close = 0; count = 0; items = items }
 
+-- the same of an annotation
 abbrev pub annotationShows : Annotation → Areas → Annotated
 annotationShows (Accepted groups items sources labelBytes note) areas =
     record { number = 0; groups = groups; items = items; sources = sources; labelBytes = labelBytes; areas = areas }
 annotationShows (Refused number note) areas = annotateRefused number areas
 
+-- what either showed
 abbrev pub shown : Done → Answer
 shown (LookedUpOnce k at records items r index' records' items') = OfLookUp (lookUpShows r items')
 shown (AnnotatedOnce k mode pool records areas r index' records' areas') = OfAnnotation (annotationShows r areas')
@@ -69,10 +72,12 @@ abbrev pub lookUpNote : LookUp → ℕ
 lookUpNote (FoundOne close count note) = note
 lookUpNote (FoundNone number note) = note
 
+-- the note that an annotation returned
 abbrev pub annotationNote : Annotation → ℕ
 annotationNote (Accepted groups items sources labelBytes note) = note
 annotationNote (Refused number note) = note
 
+-- the index area and the note for the next call
 abbrev pub stateAfter : State → Done → State
 stateAfter st (LookedUpOnce k at records items r index' records' items') = state (putBack k index' (st .index)) (lookUpNote r)
 stateAfter st (AnnotatedOnce k mode pool records areas r index' records' areas') = state (putBack k index' (st .index)) (annotationNote r)

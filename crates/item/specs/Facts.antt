@@ -33,6 +33,7 @@ pub record LocatorWithin (n : ℕ) (l : Locator) : Type 0 where
   pub suffix : suffixOf l .at + suffixOf l .len ≤ n
   pub code : codeOf l ≤ 16
 
+-- the same of an item's parts
 pub record ItemWithin (n : ℕ) (it : Item) : Type 0 where
   pub prefix : it .prefix .at + it .prefix .len ≤ n
   pub key : it .key .at + it .key .len ≤ n

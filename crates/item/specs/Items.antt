@@ -63,6 +63,7 @@ itemIn s a e = pick (ltb (winner s a e) e) (Good (itemAt s a e (winner s a e) (k
 unfoldable pub itemOf : List ℕ → ℕ → ℕ → Parsed
 itemOf s a e = itemIn s (trimStart s a e) (trimEnd s (trimStart s a e) e)
 
+-- a stretch that was parsed to an item
 abbrev pub isGood : Parsed → Bool
 isGood (Good it) = true
 isGood Bad = false

@@ -26,6 +26,7 @@ unfoldable pub groupPart : List ℕ → List ℕ
 groupPart group =
     decimal (getD group 0 0) ++ ascii " " ++ decimal (getD group 1 0) ++ ascii " " ++ decimal (getD group 4 0) ++ ascii " "
 
+-- what a line says of its item: "key, label code, number"
 unfoldable pub itemPart : List ℕ → List ℕ → List ℕ
 itemPart text item =
     part text (getD item 2 0) (getD item 2 0 + getD item 3 0) ++ ascii " " ++ decimal (getD item 10 0) ++ ascii " "

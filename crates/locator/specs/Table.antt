@@ -12,9 +12,11 @@ use Rattle.locator.specs.Matchers.{Matcher}
 abbrev pub startIn : List ℕ → ℕ
 startIn r = getD r 0 0
 
+-- where its word ends
 abbrev pub endIn : List ℕ → ℕ
 endIn r = getD r 1 0
 
+-- its code
 abbrev pub codeIn : List ℕ → ℕ
 codeIn r = getD r 2 0
 

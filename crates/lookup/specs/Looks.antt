@@ -16,6 +16,7 @@ use Rattle.lookup.specs.declared.Matched.the-variants.{Group as MatchedG
 use Rattle.lookup.specs.Groups.{GroupAnswer, Found, NoGroup}
 use Rattle.lookup.specs.Resolve.{isBuilt, storedClose, shortLook}
 
+-- a look that needs no build
 abbrev pub settled : Close → Look
 settled (At c) = LookAt c
 settled Nothing = LookNothing
@@ -29,6 +30,7 @@ shortened s p Nothing = pick (leb (length s - p) 64) LookNothing Build
 unfoldable pub lookOf : List ℕ → ℕ → ℕ → List ℕ → Look
 lookOf s p note index = pick (isBuilt note) (settled (storedClose s p index)) (shortened s p (shortLook s p))
 
+-- a look that asks for a build
 abbrev pub isBuild : Look → Bool
 isBuild (LookAt c) = false
 isBuild LookNothing = false

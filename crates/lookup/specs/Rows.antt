@@ -20,6 +20,7 @@ use Rattle.lookup.specs.Groups.{Group, groupOf}
 abbrev pub itemWidth : ℕ
 itemWidth = 16
 
+-- "marks (1 suppressed, 2 integral, added)"
 unfoldable pub marksOf : Bool → Item → ℕ
 marksOf integral it = pick (it .suppressed) 1 0 + pick integral 2 0
 
@@ -33,6 +34,7 @@ recordOf integral it number use-index label =
 unfoldable pub rowOf : Bool → Item → List ℕ
 rowOf integral it = recordOf integral it 0 0 missing
 
+-- the records of some items
 unfoldable pub rowsIn : Bool → List Item → List ℕ
 rowsIn integral [] = []
 rowsIn integral (it ∷ its) = rowOf integral it ++ rowsIn integral its
@@ -63,10 +65,12 @@ Put k vs row after = (after ≡ putAt k vs row) × (length after ≡ length row)
 abbrev pub Narrow : Span → Type 0
 Narrow p = (p .at ≤ 65535) × (p .len ≤ 65535)
 
+-- the pairs of a locator fit a record
 pub record NarrowLocator (l : Locator) : Type 0 where
   pub value : Narrow (valueOf l)
   pub suffix : Narrow (suffixOf l)
 
+-- the pairs of an item do
 pub record NarrowItem (it : Item) : Type 0 where
   pub prefix : Narrow (it .prefix)
   pub key : Narrow (it .key)

@@ -21,6 +21,7 @@ unfoldable pub preparedOf : List ℕ → ℕ → ℕ → List ℕ → ℕ → Pr
 preparedOf s at note index m =
     pick (eqb (lookUpRefusal s at (length index) m) 0) (Ready (lookOf s at note index)) (NotReady (lookUpRefusal s at (length index) m))
 
+-- the look-up asks for a build
 unfoldable pub buildWanted : Prepared → Bool
 buildWanted (NotReady number) = false
 buildWanted (Ready l) = isBuild l

@@ -15,6 +15,7 @@ use Rattle.base.specs.Fold.{fold}
 use Rattle.base.specs.Sorted.{Each}
 use Rattle.base.specs.Lists.{written, upFrom}
 use Rattle.base.proofs.Searches.{first-by}
+use Rattle.base.proofs.Ups.{up-length}
 use Rattle.base.proofs.Areas.{written-none, written-byte}
 use Rattle.base.proofs.Searches.{first-shift}
 use Rattle.numbering.specs.Order.{less, Ranked, insert}
@@ -173,11 +174,6 @@ inserted-count rank (suc i) l k =
 
 -- by number ----------------------------------------------------------------------------------------------------------------------
 
-up-count : (k i : ℕ) → length (upFrom k i) ≡ i
-unfolding upFrom
-up-count k zero = refl
-up-count k (suc i) = ap suc (up-count (suc k) i)
-
 up-next : (k i : ℕ) → upFrom k (suc i) ≡ upFrom k i ++ ((k + i) ∷ [])
 unfolding upFrom
 up-next k zero = let z : k + 0 ≡ k = omega arith in rw z refl
@@ -190,7 +186,7 @@ module _ (before : List ℕ) (i : ℕ) where
 
   pub up-more : {numbers : List ℕ} (c : ℕ) → numbers ≡ written (upFrom 1 i) before → i < c → c ≤ length before → set numbers i (i + 1) ≡ written (upFrom 1 (i + 1)) before
   up-more {numbers} c p h m =
-      let l = up-count 1 i in
+      let l = up-length 1 i in
       let z : 1 + i ≡ i + 1 = omega arith in
       let e : upFrom 1 i ++ ((i + 1) ∷ []) ≡ upFrom 1 (i + 1) = rw (add-one i) (rw (z, add-one i) at (sym (up-next 1 i))) in
       rw (← e) (written-byte before numbers (upFrom 1 i) i (i + 1) p (sym l) (omega arith))

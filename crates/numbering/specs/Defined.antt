@@ -69,5 +69,6 @@ keyBy text pool groups items Nothing = []
 pub record GivesAuthor (pool : List ℕ) (r : Author) (o : Option (List ℕ)) : Type 0 where
   pub bytes : (text : List ℕ) → authorBytes text pool r ≡ o
 
+-- a year that stands for the bytes that are said, likewise
 pub record GivesYear (pool : List ℕ) (r : Year) (o : Option (List ℕ)) : Type 0 where
   pub bytes : (text : List ℕ) → yearBytes text pool r ≡ o

@@ -23,6 +23,7 @@ usedAt text items key j = ltb 0 (itemField items j 12) && same (keyIn text items
 unfoldable pub sameUse : List ℕ → List ℕ → ℕ → ℕ → Bool
 sameUse text items k j = usedAt text items (keyIn text items k) j
 
+-- the last numbered record before `k` with its key; `k` where there is none
 unfoldable pub lastUse : List ℕ → List ℕ → ℕ → ℕ
 lastUse text items k = last (sameUse text items k) k k
 

@@ -33,6 +33,7 @@ keysDefined text pool groups items n (suc m) k =
 abbrev pub roomOf : List ℕ → ℕ
 roomOf labels = min 65535 (length labels)
 
+-- whether the labels fit so far, and the counts of sources and of label bytes
 abbrev pub state : Bool → ℕ → ℕ → Numbering
 state fits sources label-bytes = record { fits = fits; sources = sources; «label_bytes» = label-bytes }
 

@@ -18,6 +18,7 @@ use Rattle.definition.specs.Defs.{Def, lineDef, firstEntry}
 unfoldable pub itemField : List ℕ → ℕ → ℕ → ℕ
 itemField items k c = getD items (itemWidth * k + c) 0
 
+-- the number at place `c` of group record `g`
 unfoldable pub groupField : List ℕ → ℕ → ℕ → ℕ
 groupField groups g c = getD groups (groupWidth * g + c) 0
 

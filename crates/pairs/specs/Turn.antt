@@ -26,5 +26,6 @@ pub record Enough (s index : List ℕ) (records : List Bracket) : Type 0 where
 abbrev pub built : List ℕ → List ℕ → List Bracket → Both
 built s index records = (builtIndex s index, builtRecords s records)
 
+-- index and bracket records, built where that is wanted
 abbrev pub built-when : Bool → List ℕ → List ℕ → List Bracket → Both
 built-when want s index records = (pick want (builtIndex s index) index, pick want (builtRecords s records) records)

@@ -17,6 +17,7 @@ abbrev pub bytesAt : List ℕ → Found → Option (List ℕ)
 bytesAt s (At p) = some (part s (p .at) (p .at + p .len))
 bytesAt s Missing = none
 
+-- a part that was found lies in the bytes
 abbrev pub Inside : List ℕ → Found → Type 0
 Inside s (At p) = p .at + p .len ≤ length s
 Inside s Missing = Unit {0}
@@ -26,6 +27,7 @@ pub record Reads (s : List ℕ) (r : Found) (o : Option (List ℕ)) : Type 0 whe
   pub bytes : bytesAt s r ≡ o
   pub inside : Inside s r
 
+-- the name whose parts lie there
 abbrev pub nameAtParts : List ℕ → NameParts → Name
 nameAtParts s n = record { family = bytesAt s (n .family); given = bytesAt s (n .given); literal = bytesAt s (n .literal) }
 

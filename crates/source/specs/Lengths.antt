@@ -29,6 +29,7 @@ unfoldable pub givenPart : Option (List ℕ) → List ℕ
 givenPart none = []
 givenPart (some given) = 44 ∷ 32 ∷ given
 
+-- the length of `, ` and a given name
 unfoldable pub givenLen : Found → ℕ
 givenLen (At p) = 2 + p .len
 givenLen Missing = 0
@@ -38,6 +39,7 @@ unfoldable pub familyPart : Option (List ℕ) → Option (List ℕ) → List ℕ
 familyPart none given = []
 familyPart (some family) given = family ++ givenPart given
 
+-- that of a family name with its given name
 unfoldable pub familyLen : Found → Found → ℕ
 familyLen (At p) given = p .len + givenLen given
 familyLen Missing given = 0
@@ -47,6 +49,7 @@ unfoldable pub nameLenBy : Found → Found → Found → ℕ
 nameLenBy (At p) family given = p .len
 nameLenBy Missing family given = familyLen family given
 
+-- that of a name
 unfoldable pub nameLen : NameParts → ℕ
 nameLen n = nameLenBy (n .literal) (n .family) (n .given)
 

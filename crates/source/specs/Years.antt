@@ -11,11 +11,13 @@ use Rattle.source.specs.declared.Year.{Year}
 use Rattle.source.specs.declared.Year.the-variants.{Number, At, Missing}
 use Rattle.source.specs.Decimal.{signedDecimal}
 
+-- how the year is written, where there is one
 abbrev pub yearBytes : List ℕ → Year → Option (List ℕ)
 yearBytes s (Number negative magnitude) = some (signedDecimal (signed negative magnitude))
 yearBytes s (At p) = some (part s (p .at) (p .at + p .len))
 yearBytes s Missing = none
 
+-- its bytes lie in the pool
 abbrev pub YearInside : List ℕ → Year → Type 0
 YearInside s (Number negative magnitude) = Unit {0}
 YearInside s (At p) = p .at + p .len ≤ length s

@@ -13,6 +13,7 @@ pub record Placed : Type 0 where
   pub group : Group
   pub standing : ℕ
 
+-- a group and its standing
 abbrev pub placed : Group → ℕ → Placed
 placed group standing = record { group = group; standing = standing }
 
@@ -47,6 +48,7 @@ unfoldable pub insideAfter : List ℕ → Bool → ℕ → List Group → Bool
 insideAfter text before from [] = before
 insideAfter text before from (g ∷ gs) = insideAfter text (inLine text before from g) (groupEnd g) gs
 
+-- where the last of some groups ends
 unfoldable pub endAfter : ℕ → List Group → ℕ
 endAfter from [] = from
 endAfter from (g ∷ gs) = endAfter (groupEnd g) gs

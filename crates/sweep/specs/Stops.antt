@@ -20,6 +20,7 @@ pub record Stop : Type 0 where
   pub at : ℕ
   pub wants : Bool
 
+-- the groups so far, the place, and whether a build is wanted there
 abbrev pub stop : List Group → ℕ → Bool → Stop
 stop groups at wants = record { groups = groups; at = at; wants = wants }
 

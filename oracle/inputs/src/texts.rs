@@ -225,6 +225,19 @@ pub fn brackets(text: &str) -> Vec<usize> {
     text.match_indices('[').map(|(at, _)| at).collect()
 }
 
+/// The brackets of a text in order, backwards, or some of them in any order; at most so many.
+pub fn brackets_mixed(random: &mut Random, text: &str, most: usize) -> Vec<usize> {
+    let mut places = brackets(text);
+    match random.below(3) {
+        0 => {}
+        1 => places.reverse(),
+        _ if places.is_empty() => {}
+        _ => places = (0..places.len()).map(|_| random.of(&places)).collect(),
+    }
+    places.truncate(most);
+    places
+}
+
 /// A text with a bracket, a close before, at or after the limit, and its bracket's place.
 pub fn bracketed(random: &mut Random) -> (String, usize) {
     let before = pieces(random, 3);

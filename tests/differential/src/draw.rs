@@ -67,16 +67,9 @@ fn on_text(random: &mut Random, text: impl Fn(&mut Random) -> String) -> Case {
     with_calls(random, bytes, calls)
 }
 
-// The brackets of a text in order, backwards, or some of them in any order, and now and then another place.
+// Brackets of a text, and now and then another place.
 fn look_up_places(random: &mut Random, text: &str) -> Vec<usize> {
-    let mut places = texts::brackets(text);
-    match random.below(3) {
-        0 => {}
-        1 => places.reverse(),
-        _ if places.is_empty() => {}
-        _ => places = (0..places.len()).map(|_| random.of(&places)).collect(),
-    }
-    places.truncate(8);
+    let mut places = texts::brackets_mixed(random, text, 8);
     if places.is_empty() || random.below(4) == 0 {
         let at = anywhere(random, text.as_bytes());
         places.insert(random.below(places.len() + 1), at);
