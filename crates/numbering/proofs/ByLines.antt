@@ -28,6 +28,7 @@ use Rattle.numbering.specs.Records.{
   definesIn,
   definesKeyIn,
   lineIn,
+  LinesBelow,
   nextIn,
   lineDefIn,
   definitionIn,
@@ -50,17 +51,24 @@ unfolding closeOfRecord
 close-same groups others g h = rw (h g 0 (omega arith), h g 1 (omega arith))
 
 module _ (text groups otherGroups items otherItems : List ℕ) (h : SameGroups groups otherGroups) (i : SameItems items otherItems) where
-  defines-same : (key : List ℕ) (g : ℕ) → definesKeyIn text groups items key g ≡ definesKeyIn text otherGroups otherItems key g
-  unfolding definesKeyIn definesIn
-  defines-same key g =
+  starts-same : (g : ℕ) → definesIn text groups items g ≡ definesIn text otherGroups otherItems g
+  unfolding definesIn
+  starts-same g =
       rw (
         h g 0 (omega arith),
         h g 3 (omega arith),
         h g 2 (omega arith),
         close-same groups otherGroups g h,
         bare-same items otherItems (groupField otherGroups g 2) i,
-        key-same text items otherItems (groupField otherGroups g 2) i,
       )
+
+  pub lines-same : {n lines : ℕ} → LinesBelow text otherGroups otherItems n lines → LinesBelow text groups items n lines
+  lines-same b = record { bounded = b .bounded; none = λ g l u. starts-same g ∙ b .none g l u }
+
+  defines-same : (key : List ℕ) (g : ℕ) → definesKeyIn text groups items key g ≡ definesKeyIn text otherGroups otherItems key g
+  unfolding definesKeyIn
+  defines-same key g =
+      rw (starts-same g, h g 2 (omega arith), key-same text items otherItems (groupField otherGroups g 2) i)
 
   line-same : (n g : ℕ) → lineDefIn text groups n g ≡ lineDefIn text otherGroups n g
   unfolding lineDefIn nextIn

@@ -1,10 +1,10 @@
 -- A numbered item, and those of a group, in the form of the needs.
-use Prim.Native.Nat.{ℕ, _+_, _-_, _≤_, _<_, min}
+use Prim.Native.Nat.{ℕ, _+_, _-_, _*_, _≤_, _<_, min}
 use native.Mathlib.Omega.{arith}
 use mathlib.Core.Path.{_≡_, refl, sym, _∙_, ap}
 use mathlib.Core.List.{List, _++_}
 use mathlib.Core.Bool.{Bool, true, false, not}
-use lib.ListN.{length, take, drop, length-append, length-take, length-drop}
+use lib.ListN.{length, set, take, drop, length-append, length-take, length-drop}
 use lib.Dec.{leb}
 use borrow.Author.Tests.{le-leb, lt-leb, leb-true, leb-false, not-true, not-false}
 use Rattle.base.specs.Pick.{pick}
@@ -15,9 +15,11 @@ use Rattle.label.specs.Labels.{labelText}
 use Rattle.label.specs.Areas.{fitted}
 use Rattle.numbering.specs.declared.Numbering.{Numbering}
 use Rattle.numbering.specs.declared.uses.Count.{Count}
-use Rattle.numbering.specs.Records.{keyIn, suppressedIn, definitionIn}
+use Rattle.numbering.specs.Records.{keyIn, suppressedIn, definitionIn, LinesBelow}
 use Rattle.numbering.specs.Numbers.{setLast, Numbered, labelIn, citeAs, citeIn}
 use Rattle.numbering.specs.Progress.{Counts, roomOf, state, Agrees, Holds, Advances}
+use Rattle.numbering.proofs.Fields.{set-last-same, set-standing-same}
+use Rattle.numbering.proofs.ByLines.{lines-same}
 
 -- two truths that cannot both be
 pub differ : true ≡ false → ⊥
@@ -33,6 +35,16 @@ full-more t u room {s = s} {r = r} h p q l =
       fits = q ∙ sym (lt-leb (length (u .labels)) room (omega arith));
       agrees = λ e. absurd (differ (sym e ∙ q));
     }
+
+-- what is written into the records moves no definition line
+module _ (text groups items : List ℕ) {n lines : ℕ} (b : LinesBelow text groups items n lines) where
+  pub lines-cited : (k number use-index at len : ℕ) {items′ : List ℕ} → items′ ≡ setLast items k number use-index at len
+      → LinesBelow text groups items′ n lines
+  lines-cited k number use-index at len e =
+      rw e (lines-same text groups groups _ items (λ g c l. refl) (set-last-same items k number use-index at len) b)
+
+  pub lines-stood : (g standing : ℕ) {groups′ : List ℕ} → groups′ ≡ set groups (5 * g + 4) standing → LinesBelow text groups′ items n lines
+  lines-stood g standing e = rw e (lines-same text _ groups items items (set-standing-same groups g standing) (λ k c l. refl) b)
 
 -- steps one after the other --------------------------------------------------------------------------------------------------------
 

@@ -1,16 +1,19 @@
 -- Definition lines among the group records, in the form of the needs.
-use Prim.Native.Nat.{ℕ, _-_, _≤_, _<_}
+use Prim.Native.Nat.{ℕ, zero, suc, _+_, _-_, _≤_, _<_}
 use native.Mathlib.Omega.{arith}
 use mathlib.Core.Path.{_≡_, refl, sym, _∙_}
 use mathlib.Core.List.{List}
+use mathlib.Core.Logic.{⊎-elim}
 use mathlib.Core.Bool.{Bool, true, false, and-false, and-true}
 use lib.ListN.{length, List·getD-eq-default}
-use borrow.Author.Tests.{eq-eqb, ne-eqb}
+use lib.Dec.{eqb}
+use borrow.Author.Tests.{eq-eqb, ne-eqb, eqb-true, eqb-false}
 use Rattle.base.specs.Last.{last}
 use Rattle.base.specs.Lists.{same}
 use Rattle.definition.specs.Lines.{startsLine, colonAfter}
 use Rattle.definition.proofs.Laws.{colon-cut}
-use Rattle.numbering.specs.Records.{groupField, keyIn, bareIn, closeOfRecord, definesIn, definesKeyIn, lineIn}
+use Rattle.numbering.specs.Records.{groupField, keyIn, bareIn, closeOfRecord, definesIn, definesKeyIn, lineIn, LinesBelow}
+use Rattle.base.proofs.Bools.{split}
 use Rattle.base.proofs.Lasts.{last-out, last-stop, last-more}
 
 -- past the text no line starts, and no colon stands
@@ -59,12 +62,50 @@ module _ (text groups items : List ℕ) (g : ℕ) where
 
 pub ruleset define-laws = (starts-past, colon-past, defines-count, defines-start, defines-bare, defines-colon, key-colon, key-other, key-same)
 
--- the search for the last line of a key
-module _ (text groups items key : List ℕ) (n i : ℕ) where
-  pub line-start : lineIn text groups items n key ≡ last (definesKeyIn text groups items key) n n
-  unfolding lineIn
-  line-start = refl
+-- the bound of the lines, found from the end
+module _ (text groups items : List ℕ) (n : ℕ) where
+  pub lines-start : LinesBelow text groups items n n
+  lines-start = record { bounded = omega arith; none = λ g l u. absurd (omega arith) }
 
+  pub lines-next : (i : ℕ) {b : Bool} → LinesBelow text groups items n i → 0 < i → b ≡ definesIn text groups items (i - 1) → b ≡ false
+      → LinesBelow text groups items n (i - 1)
+  lines-next i p h q t = record {
+    bounded = omega (arith, p .bounded);
+    none = λ g l u.
+        ⊎-elim
+        (λ e. rw (eqb-true g (i - 1) e) (sym q ∙ t))
+        (λ e. let d = eqb-false g (i - 1) e in p .none g (omega arith) u)
+        (split (eqb g (i - 1)));
+  }
+
+pub ruleset lines-laws = (lines-start, lines-next)
+
+-- places at which a test fails do not count
+last-none : (f : ℕ → Bool) (m i d : ℕ) → ((j : ℕ) → i ≤ j → j < i + m → f j ≡ false) → last f (i + m) d ≡ last f i d
+unfolding last
+last-none f zero i d h = let e : i + 0 ≡ i = omega arith in rw e refl
+last-none f (suc m) i d h =
+    let e : i + suc m ≡ suc (i + m) = omega arith in
+    rw (e, h (i + m) (omega arith) (omega arith)) (last-none f m i d (λ j l u. h j l (omega arith)))
+
+-- the search for the last line of a key
+module _ (text groups items key : List ℕ) (n : ℕ) where
+  no-key : (g : ℕ) → definesIn text groups items g ≡ false → definesKeyIn text groups items key g ≡ false
+  unfolding definesKeyIn
+  no-key g p = rw p refl
+
+  pub line-start : (lines : ℕ) → LinesBelow text groups items n lines
+      → lineIn text groups items n key ≡ last (definesKeyIn text groups items key) lines n
+  unfolding lineIn
+  line-start lines b =
+      let e : lines + (n - lines) ≡ n = omega (arith, b .bounded) in
+      rw e at
+      (last-none (definesKeyIn text groups items key) (n - lines) lines n (λ g l u. no-key g (b .none g l (omega (arith, b .bounded)))))
+
+  pub line-inside : (lines : ℕ) → LinesBelow text groups items n lines → lines ≤ n
+  line-inside lines b = b .bounded
+
+module _ (text groups items key : List ℕ) (n i : ℕ) where
   pub line-none : {w : ℕ} → w ≡ last (definesKeyIn text groups items key) i n → i ≤ 0 → n ≡ w
   line-none p = last-out (definesKeyIn text groups items key) n i p
 
@@ -76,4 +117,4 @@ module _ (text groups items key : List ℕ) (n i : ℕ) where
       → b ≡ false → w ≡ last (definesKeyIn text groups items key) (i - 1) n
   line-before p h q t = last-more (definesKeyIn text groups items key) n i p h (sym q ∙ t)
 
-pub ruleset line-laws = (line-start, line-none, line-here, line-before)
+pub ruleset line-laws = (line-start, line-inside, line-none, line-here, line-before)

@@ -1,7 +1,8 @@
 -- Item and group records as they lie in the lent areas. Any numbers may stand there: what is past the end of an area counts as 0.
-use Prim.Native.Nat.{ℕ, _+_, _-_, _*_, _%_}
+use Prim.Native.Nat.{ℕ, _+_, _-_, _*_, _%_, _≤_, _<_}
+use mathlib.Core.Path.{_≡_}
 use mathlib.Core.List.{List}
-use mathlib.Core.Bool.{Bool, _&&_}
+use mathlib.Core.Bool.{Bool, false, _&&_}
 use mathlib.Core.Option.{Option, some}
 use lib.ListN.{length, getD, set}
 use lib.Dec.{eqb, ltb}
@@ -52,6 +53,11 @@ definesKeyIn text groups items key g = definesIn text groups items g && same (ke
 -- "The last definition line of a key wins": its group number among the first `n`; `n` where there is none
 unfoldable pub lineIn : List ℕ → List ℕ → List ℕ → ℕ → List ℕ → ℕ
 lineIn text groups items n key = last (definesKeyIn text groups items key) n n
+
+-- Of the first `n` group records, all that start a definition line lie below `lines`: the search for the last of a key may begin there.
+pub record LinesBelow (text groups items : List ℕ) (n lines : ℕ) : Type 0 where
+  pub bounded : lines ≤ n
+  pub none : (g : ℕ) → lines ≤ g → g < n → definesIn text groups items g ≡ false
 
 -- where the group after number `g` begins, `n` being all; the text's end where there is none
 unfoldable pub nextIn : List ℕ → List ℕ → ℕ → ℕ → ℕ

@@ -3,7 +3,7 @@ use crate::records;
 ghost use mathlib.Core.Path.{_≡_};
 ghost use Prim.Native.Nat.{_<_};
 ghost use Rattle.definition.specs.Lines.{startsLine, colonAfter};
-ghost use Rattle.numbering.specs.Records.{definesIn, definesKeyIn, lineIn};
+ghost use Rattle.numbering.specs.Records.{definesIn, definesKeyIn, lineIn, LinesBelow};
 
 // Whether a line starts at the place `at`, which may lie past the text.
 fn starts(text: &[u8], at: usize) -> bool
@@ -68,12 +68,35 @@ fn defines_key_in(text: &[u8], groups: &[u16], items: &[u16], g: usize, key: &[u
     }
 }
 
-// The last of the first `n` group records that starts a definition line of the key; `n` where none does.
-pub fn line_in(text: &[u8], groups: &[u16], items: &[u16], n: usize, key: &[u8]) -> usize
+// One past the last of the first `n` group records that starts a definition line; 0 where none does.
+pub fn lines_end(text: &[u8], groups: &[u16], items: &[u16], n: usize) -> usize
     requires { ⌜ n < 4294967296 ⌝ }
+    ensures { λ r. ⌜ LinesBelow (now (text .entry)) (now (groups .entry)) (now (items .entry)) n r ⌝ }
+{
+    let mut end = n;
+    while 0 < end {
+        if defines_in(text, groups, items, end - 1) {
+            return end;
+        }
+        end -= 1;
+    }
+    end
+}
+
+// The last of the first `n` group records that starts a definition line of the key; `n` where none does. The search begins at `lines`,
+// from which on none starts one of any key.
+pub fn line_in(
+    text: &[u8],
+    groups: &[u16],
+    items: &[u16],
+    n: usize,
+    lines: usize,
+    key: &[u8],
+) -> usize
+    requires { ⌜ (n < 4294967296) × LinesBelow (now text) (now groups) (now items) n lines ⌝ }
     ensures { λ r. ⌜ r ≡ lineIn (now (text .entry)) (now (groups .entry)) (now (items .entry)) n (now (key .entry)) ⌝ }
 {
-    let mut i = n;
+    let mut i = lines;
     while 0 < i {
         i -= 1;
         if defines_key_in(text, groups, items, i, key) {

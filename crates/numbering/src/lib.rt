@@ -16,7 +16,7 @@ ghost use Prim.Native.Nat.{ℕ, _<_, _≤_};
 ghost use Rattle.pool.specs.Layout.{wellFormed};
 ghost use Rattle.definition.specs.Defs.{defAuthor, defYear};
 ghost use Rattle.definition.specs.Parts.{authorBytes, yearBytes};
-ghost use Rattle.numbering.specs.Records.{definitionIn, lineDefIn};
+ghost use Rattle.numbering.specs.Records.{definitionIn, lineDefIn, LinesBelow};
 ghost use Rattle.numbering.specs.Defined.{definedAs, foundIn, DefinedIn};
 ghost use Rattle.numbering.specs.Numbers.{numberAll};
 ghost use Rattle.numbering.specs.References.{referencesIn, SourcesKnown};
@@ -38,21 +38,22 @@ pub struct Numbering {
     pub label_bytes: usize,
 }
 
-// What defines the key, among the first `n` groups and in the pool.
+// What defines the key, among the first `n` groups, whose definition lines lie below `lines`, and in the pool.
 pub fn find(
     text: &[u8],
     pool: &[u8],
     groups: &[u16],
     items: &[u16],
     n: usize,
+    lines: usize,
     key: &[u8],
 ) -> Defined
-    requires { ⌜ (n < 4294967296) × (wellFormed (now pool) ≡ true) ⌝ }
+    requires { ⌜ (n < 4294967296) × (wellFormed (now pool) ≡ true) × LinesBelow (now text) (now groups) (now items) n lines ⌝ }
     ensures { λ r. ⌜ definedAs (now (text .entry)) (now (pool .entry)) (now (groups .entry)) n r ≡ definitionIn (now (text .entry)) (now (groups .entry)) (now (items .entry)) n (now (pool .entry)) (now (key .entry)) ⌝ }
     ensures within { λ r. ⌜ DefinedIn (now (pool .entry)) n r ⌝ }
     ensures found { λ r. ⌜ r ≡ foundIn (now (text .entry)) (now (pool .entry)) (now (groups .entry)) (now (items .entry)) n (now (key .entry)) ⌝ }
 {
-    let group = define::line_in(text, groups, items, n, key);
+    let group = define::line_in(text, groups, items, n, lines, key);
     if group < n {
         return Defined::Line { group };
     }
@@ -142,9 +143,10 @@ pub fn number_groups<'a>(
         sources: 0,
         label_bytes: 0,
     };
+    let lines = define::lines_end(text, groups, items, n);
     let mut g: usize = 0;
     while g < n {
-        s = numbers::number_group(text, mode, pool, n, g, s, items, groups, labels);
+        s = numbers::number_group(text, mode, pool, n, lines, g, s, items, groups, labels);
         g += 1;
     }
     s

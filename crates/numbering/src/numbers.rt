@@ -12,23 +12,25 @@ ghost use lib.ListN.{length};
 ghost use Rattle.pool.specs.Layout.{wellFormed};
 ghost use Rattle.label.specs.Labels.{labelText};
 ghost use Rattle.label.specs.Areas.{fitted};
-ghost use Rattle.numbering.specs.Records.{keyIn, suppressedIn, definitionIn};
+ghost use Rattle.numbering.specs.Records.{keyIn, suppressedIn, definitionIn, LinesBelow};
 ghost use Rattle.numbering.specs.Numbers.{citeIn, citeFrom, numberGroup};
 ghost use Rattle.numbering.specs.Progress.{keyDefined, keysDefined, roomOf, state, Advances};
 
 // Whether the key of item record `k` is defined.
-fn is_defined(text: &[u8], pool: &[u8], groups: &[u16], items: &[u16], n: usize, k: usize) -> bool
-    requires { ⌜ (n < 4294967296) × (wellFormed (now pool) ≡ true) × (k < 4294967296) ⌝ }
+fn is_defined(
+    text: &[u8],
+    pool: &[u8],
+    groups: &[u16],
+    items: &[u16],
+    n: usize,
+    lines: usize,
+    k: usize,
+) -> bool
+    requires { ⌜ (n < 4294967296) × (wellFormed (now pool) ≡ true) × (k < 4294967296) × LinesBelow (now text) (now groups) (now items) n lines ⌝ }
     ensures { λ r. ⌜ r ≡ keyDefined (now (text .entry)) (now (pool .entry)) (now (groups .entry)) (now (items .entry)) n k ⌝ }
 {
-    let d = crate::find(
-        text,
-        pool,
-        groups,
-        items,
-        n,
-        records::key_in(text, items, k),
-    );
+    let key = records::key_in(text, items, k);
+    let d = crate::find(text, pool, groups, items, n, lines, key);
     match d {
         Defined::Line { group: _ } => true,
         Defined::Entry { number: _ } => true,
@@ -43,15 +45,16 @@ fn all_defined(
     groups: &[u16],
     items: &[u16],
     n: usize,
+    lines: usize,
     first: usize,
     count: usize,
 ) -> bool
-    requires { ⌜ (n < 4294967296) × (wellFormed (now pool) ≡ true) × (first < 65536) × (count < 65536) ⌝ }
+    requires { ⌜ (n < 4294967296) × (wellFormed (now pool) ≡ true) × (first < 65536) × (count < 65536) × LinesBelow (now text) (now groups) (now items) n lines ⌝ }
     ensures { λ r. ⌜ r ≡ keysDefined (now (text .entry)) (now (pool .entry)) (now (groups .entry)) (now (items .entry)) n count first ⌝ }
 {
     let mut i: usize = 0;
     while i < count {
-        if is_defined(text, pool, groups, items, n, first + i) {
+        if is_defined(text, pool, groups, items, n, lines, first + i) {
             i += 1;
         } else {
             return false;
@@ -66,13 +69,14 @@ fn label_in<'a>(
     mode: u8,
     pool: &'a [u8],
     n: usize,
+    lines: usize,
     k: usize,
     number: u16,
     items: &[u16],
     groups: &[u16],
     out: &mut [u8],
 ) -> usize
-    requires { ⌜ (n < 4294967296) × (wellFormed (now pool) ≡ true) × (k < 4294967296) ⌝ }
+    requires { ⌜ (n < 4294967296) × (wellFormed (now pool) ≡ true) × (k < 4294967296) × LinesBelow (now text) (now groups) (now items) n lines ⌝ }
     ensures { λ r. ⌜ (r ≡ length (labelText mode (suppressedIn (now (items .entry)) k) number (definitionIn (now (text .entry)) (now (groups .entry)) (now (items .entry)) n (now (pool .entry)) (keyIn (now (text .entry)) (now (items .entry)) k)))) × (now (out .exit) ≡ fitted (labelText mode (suppressedIn (now (items .entry)) k) number (definitionIn (now (text .entry)) (now (groups .entry)) (now (items .entry)) n (now (pool .entry)) (keyIn (now (text .entry)) (now (items .entry)) k))) (now (out .entry))) ⌝ }
 {
     if mode == 0 {
@@ -87,14 +91,8 @@ fn label_in<'a>(
             out,
         );
     }
-    let d = crate::find(
-        text,
-        pool,
-        groups,
-        items,
-        n,
-        records::key_in(text, items, k),
-    );
+    let key = records::key_in(text, items, k);
+    let d = crate::find(text, pool, groups, items, n, lines, key);
     let author = crate::author_in(text, pool, groups, n, d);
     let year = crate::year_in(text, pool, groups, n, d);
     let suppressed = records::suppressed_in(items, k);
@@ -125,14 +123,16 @@ fn cite<'a>(
     mode: u8,
     pool: &'a [u8],
     n: usize,
+    lines: usize,
     k: usize,
     s: Numbering,
     items: &mut [u16],
     groups: &[u16],
     labels: &mut [u8],
 ) -> Numbering
-    requires { ⌜ (n < 4294967296) × (wellFormed (now pool) ≡ true) × (k < 4294967296) × (s .sources < 1099511627776) × (s .«label_bytes» ≤ roomOf (now labels)) ⌝ }
+    requires { ⌜ (n < 4294967296) × (wellFormed (now pool) ≡ true) × (k < 4294967296) × (s .sources < 1099511627776) × (s .«label_bytes» ≤ roomOf (now labels)) × LinesBelow (now text) (now groups) (now items) n lines ⌝ }
     ensures { λ r. ⌜ Advances 1 (λ t. citeIn (now (text .entry)) mode (now (pool .entry)) n t k) s r (now (items .entry)) (now (groups .entry)) (now (labels .entry)) (now (items .exit)) (now (groups .entry)) (now (labels .exit)) ⌝ }
+    ensures lines { λ _. ⌜ LinesBelow (now (text .entry)) (now (groups .entry)) (now (items .exit)) n lines ⌝ }
 {
     let fits = s.fits;
     if !fits {
@@ -142,17 +142,8 @@ fn cite<'a>(
     let left = least(65535, labels.len()) - at;
     let c = uses::count_in(text, items, 0 < pool.len(), s.sources, k);
     let number = c.number;
-    let len = label_in(
-        text,
-        mode,
-        pool,
-        n,
-        k,
-        number,
-        items,
-        groups,
-        &mut labels[at..],
-    );
+    let out = &mut labels[at..];
+    let len = label_in(text, mode, pool, n, lines, k, number, items, groups, out);
     if left < len {
         return reached(false, s.sources, at);
     }
@@ -166,6 +157,7 @@ fn cite_from<'a>(
     mode: u8,
     pool: &'a [u8],
     n: usize,
+    lines: usize,
     first: usize,
     count: usize,
     s: Numbering,
@@ -173,8 +165,9 @@ fn cite_from<'a>(
     groups: &[u16],
     labels: &mut [u8],
 ) -> Numbering
-    requires { ⌜ (n < 4294967296) × (wellFormed (now pool) ≡ true) × (first < 65536) × (count < 65536) × (s .sources < 549755813888) × (s .«label_bytes» ≤ roomOf (now labels)) ⌝ }
+    requires { ⌜ (n < 4294967296) × (wellFormed (now pool) ≡ true) × (first < 65536) × (count < 65536) × (s .sources < 549755813888) × (s .«label_bytes» ≤ roomOf (now labels)) × LinesBelow (now text) (now groups) (now items) n lines ⌝ }
     ensures { λ r. ⌜ Advances count (λ t. citeFrom (now (text .entry)) mode (now (pool .entry)) n count t first) s r (now (items .entry)) (now (groups .entry)) (now (labels .entry)) (now (items .exit)) (now (groups .entry)) (now (labels .exit)) ⌝ }
+    ensures lines { λ _. ⌜ LinesBelow (now (text .entry)) (now (groups .entry)) (now (items .exit)) n lines ⌝ }
 {
     let mut so_far = s;
     let mut i: usize = 0;
@@ -184,6 +177,7 @@ fn cite_from<'a>(
             mode,
             pool,
             n,
+            lines,
             first + i,
             so_far,
             items,
@@ -201,14 +195,16 @@ pub fn number_group<'a>(
     mode: u8,
     pool: &'a [u8],
     n: usize,
+    lines: usize,
     g: usize,
     s: Numbering,
     items: &mut [u16],
     groups: &mut [u16],
     labels: &mut [u8],
 ) -> Numbering
-    requires { ⌜ (n < 4294967296) × (wellFormed (now pool) ≡ true) × (g < 4294967296) × (s .sources < 549755813888) × (s .«label_bytes» ≤ roomOf (now labels)) ⌝ }
+    requires { ⌜ (n < 4294967296) × (wellFormed (now pool) ≡ true) × (g < 4294967296) × (s .sources < 549755813888) × (s .«label_bytes» ≤ roomOf (now labels)) × LinesBelow (now text) (now groups) (now items) n lines ⌝ }
     ensures { λ r. ⌜ Advances 65535 (λ t. numberGroup (now (text .entry)) mode (now (pool .entry)) n t g) s r (now (items .entry)) (now (groups .entry)) (now (labels .entry)) (now (items .exit)) (now (groups .exit)) (now (labels .exit)) ⌝ }
+    ensures lines { λ _. ⌜ LinesBelow (now (text .entry)) (now (groups .exit)) (now (items .exit)) n lines ⌝ }
 {
     let fits = s.fits;
     if !fits {
@@ -218,11 +214,11 @@ pub fn number_group<'a>(
     if standing == 0 {
         return s;
     }
-    let first = records::group_field(groups, g, 2);
-    let count = records::group_field(groups, g, 3);
-    if all_defined(text, pool, groups, items, n, first, count) {
+    let k = records::group_field(groups, g, 2);
+    let m = records::group_field(groups, g, 3);
+    if all_defined(text, pool, groups, items, n, lines, k, m) {
         records::put(groups, 5 * g + 4, 2);
-        cite_from(text, mode, pool, n, first, count, s, items, groups, labels)
+        cite_from(text, mode, pool, n, lines, k, m, s, items, groups, labels)
     } else {
         s
     }

@@ -1,4 +1,5 @@
 // Reference order: the numbers of the sources, in mode 1 by the bytes of their authors or keys.
+use crate::define;
 use crate::ranks;
 use crate::records;
 ghost use mathlib.Core.Path.{_≡_};
@@ -9,6 +10,7 @@ ghost use lib.ListN.{length, take};
 ghost use Rattle.base.specs.First.{first};
 ghost use Rattle.base.specs.Lists.{written, upFrom};
 ghost use Rattle.pool.specs.Layout.{wellFormed};
+ghost use Rattle.numbering.specs.Records.{LinesBelow};
 ghost use Rattle.numbering.specs.Order.{less};
 ghost use Rattle.numbering.specs.Ordered.{insertBy, insertedFrom, definitionOf, sourceBy, rankBy, greaterAt, shifted, Rising, SortedBy};
 ghost use Rattle.numbering.specs.References.{rankIn, SourcesKnown};
@@ -120,16 +122,17 @@ fn order_definitions<'a>(
     groups: &[u16],
     items: &[u16],
     n: usize,
+    lines: usize,
     m: usize,
     sources: usize,
     references: &mut [u16],
 )
-    requires { ⌜ (n ≤ 32768) × (m < 4294967296) × (wellFormed (now pool) ≡ true) × (sources ≤ 65535) × (sources ≤ length (now references)) × SourcesKnown (now text) (now pool) (now groups) (now items) n m sources ⌝ }
+    requires { ⌜ (n ≤ 32768) × (m < 4294967296) × (wellFormed (now pool) ≡ true) × (sources ≤ 65535) × (sources ≤ length (now references)) × SourcesKnown (now text) (now pool) (now groups) (now items) n m sources × LinesBelow (now text) (now groups) (now items) n lines ⌝ }
     ensures { λ _. ⌜ now (references .exit) ≡ written (map (definitionOf (now (text .entry)) (now (pool .entry)) (now (groups .entry)) (now (items .entry)) n m) (insertedFrom (rankIn (now (text .entry)) (now (pool .entry)) (now (groups .entry)) (now (items .entry)) n m) sources [] 1)) (now (references .entry)) ⌝ }
 {
     let mut i: usize = 0;
     while i < sources {
-        let d = ranks::definition_of(text, pool, groups, items, n, m, i + 1);
+        let d = ranks::definition_of(text, pool, groups, items, n, lines, m, i + 1);
         insert_definition(text, pool, groups, items, n, i, d, references);
         i += 1;
     }
@@ -171,7 +174,8 @@ pub fn order_by_rank<'a>(
     requires { ⌜ (n ≤ 32768) × (m < 4294967296) × (wellFormed (now pool) ≡ true) × (sources ≤ 65535) × (sources ≤ length (now references)) × SourcesKnown (now text) (now pool) (now groups) (now items) n m sources ⌝ }
     ensures { λ _. ⌜ now (references .exit) ≡ written (insertedFrom (rankIn (now (text .entry)) (now (pool .entry)) (now (groups .entry)) (now (items .entry)) n m) sources [] 1) (now (references .entry)) ⌝ }
 {
-    order_definitions(text, pool, groups, items, n, m, sources, references);
+    let lines = define::lines_end(text, groups, items, n);
+    order_definitions(text, pool, groups, items, n, lines, m, sources, references);
     number_sources(text, pool, groups, items, n, m, sources, references);
 }
 

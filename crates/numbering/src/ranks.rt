@@ -9,6 +9,7 @@ ghost use mathlib.Core.Bool.{true};
 ghost use Prim.Native.Nat.{_<_, _≤_};
 ghost use Rattle.base.specs.First.{first};
 ghost use Rattle.pool.specs.Layout.{wellFormed};
+ghost use Rattle.numbering.specs.Records.{LinesBelow};
 ghost use Rattle.numbering.specs.Defined.{definitionNumber, definitionAt, keyBy, DefinedIn};
 ghost use Rattle.numbering.specs.References.{numberOfKey};
 ghost use Rattle.numbering.specs.Ordered.{hasNumber, rankBy, definitionOf, sourceBy};
@@ -107,14 +108,19 @@ pub fn definition_of(
     groups: &[u16],
     items: &[u16],
     n: usize,
+    lines: usize,
     m: usize,
     k: usize,
 ) -> u16
-    requires { ⌜ (n ≤ 32768) × (m < 4294967296) × (wellFormed (now pool) ≡ true) ⌝ }
+    requires { ⌜ (n ≤ 32768) × (m < 4294967296) × (wellFormed (now pool) ≡ true) × LinesBelow (now text) (now groups) (now items) n lines ⌝ }
     ensures { λ r. ⌜ r ≡ definitionOf (now (text .entry)) (now (pool .entry)) (now (groups .entry)) (now (items .entry)) n m k ⌝ }
 {
     let key = records::key_in(text, items, first_with(items, m, k));
-    definition_number(pool, n, crate::find(text, pool, groups, items, n, key))
+    definition_number(
+        pool,
+        n,
+        crate::find(text, pool, groups, items, n, lines, key),
+    )
 }
 
 // The number of the first of the `m` item records that is numbered and has the key `key`.

@@ -12,5 +12,5 @@ find-spec =
     (λ c. search (find-laws, needs))
     (λ c κs. search needs)
     (λ c κs. search needs)
-    (λ c. search (find-laws, needs))
+    (λ c. (search (find-laws, needs), (search (find-laws, needs), search (find-laws, needs))))
     (λ c. search (find-laws, needs)))

@@ -10,10 +10,10 @@ use Rattle.numbering.proofs.define.line_in.Statement.{statement}
 use Rattle.numbering.proofs.define.line_in.Tie as tie
 
 abbrev Inv-loop : tie.InvT-loop
-Inv-loop text groups items n key i₀ i = (i ≤ n) × (lineIn text groups items n key ≡ last (definesKeyIn text groups items key) i n)
+Inv-loop text groups items n lines key i₀ i = (i ≤ n) × (lineIn text groups items n key ≡ last (definesKeyIn text groups items key) i n)
 
 abbrev μ-loop : tie.MeasureT-loop
-μ-loop text groups items n key i₀ i = i
+μ-loop text groups items n lines key i₀ i = i
 
 pub line-in-spec : {M : Type 1} → statement M
 line-in-spec =

@@ -9,10 +9,10 @@ use Rattle.numbering.proofs.numbers.all_defined.Statement.{statement}
 use Rattle.numbering.proofs.numbers.all_defined.Tie as tie
 
 abbrev Inv-loop : tie.InvT-loop
-Inv-loop text pool groups items n first count i₀ i = keysDefined text pool groups items n count first ≡ keysDefined text pool groups items n (count - i) (first + i)
+Inv-loop text pool groups items n lines first count i₀ i = keysDefined text pool groups items n count first ≡ keysDefined text pool groups items n (count - i) (first + i)
 
 abbrev μ-loop : tie.MeasureT-loop
-μ-loop text pool groups items n first count i₀ i = count - i
+μ-loop text pool groups items n lines first count i₀ i = count - i
 
 pub all-defined-spec : {M : Type 1} → statement M
 all-defined-spec =

@@ -10,5 +10,6 @@ order-by-rank-spec =
     (tie.spec
     (λ c κs. search needs)
     (λ c κs. search needs)
+    (λ c κs. search needs)
     (λ c. search needs)
     (λ c. search (definition-laws, needs)))

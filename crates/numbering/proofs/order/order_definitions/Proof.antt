@@ -13,10 +13,10 @@ use Rattle.numbering.proofs.order.order_definitions.Statement.{statemen
 use Rattle.numbering.proofs.order.order_definitions.Tie as tie
 
 abbrev Inv-loop : tie.InvT-loop
-Inv-loop text pool groups items n m sources references₀ i₀ references i = (i ≤ sources) × (length references ≡ length references₀) × (references ≡ written (map (definitionOf text pool groups items n m) (insertedFrom (rankIn text pool groups items n m) i [] 1)) references₀)
+Inv-loop text pool groups items n lines m sources references₀ i₀ references i = (i ≤ sources) × (length references ≡ length references₀) × (references ≡ written (map (definitionOf text pool groups items n m) (insertedFrom (rankIn text pool groups items n m) i [] 1)) references₀)
 
 abbrev μ-loop : tie.MeasureT-loop
-μ-loop text pool groups items n m sources references₀ i₀ references i = sources - i
+μ-loop text pool groups items n lines m sources references₀ i₀ references i = sources - i
 
 pub order-definitions-spec : {M : Type 1} → statement M
 order-definitions-spec =
