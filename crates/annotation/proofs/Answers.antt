@@ -19,7 +19,7 @@ use Rattle.sweep.specs.Rows.{groupRows, itemCount, itemRows, sweptFrom}
 use Rattle.sweep.specs.Stops.{startState, Recorded, SweptTo}
 use Rattle.sweep.proofs.Laws.{item-rows-length, group-rows-length, swept-length, all-groups-count, all-items-count, all-fitted, all-item-rows, all-group-rows, swept-whole, swept-lent}
 use Rattle.numbering.specs.Numbers.{Numbered, numberAll}
-use Rattle.numbering.specs.References.{SourcesKnown}
+use Rattle.order.specs.References.{SourcesKnown}
 use Rattle.annotation.specs.declared.Annotation.{Annotation}
 use Rattle.annotation.specs.declared.Annotation.the-variants.{Refused}
 use Rattle.annotation.specs.declared.Begun.{Begun}

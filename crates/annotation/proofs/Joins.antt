@@ -14,8 +14,8 @@ use Rattle.base.specs.Last.{last}
 use Rattle.base.specs.Lists.{same}
 use Rattle.base.proofs.Lasts.{LastAt, LastNone, last-here, last-before, none-before, last-alike, none-alike}
 use Rattle.lookup.specs.Rows.{itemWidth}
-use Rattle.numbering.specs.Records.{itemField, keyIn}
-use Rattle.numbering.specs.Numbers.{usedAt, sameUse, lastUse, numberIn, useIn, sourcesIn}
+use Rattle.records.specs.Records.{itemField, keyIn}
+use Rattle.uses.specs.Uses.{usedAt, sameUse, lastUse, numberIn, useIn, sourcesIn}
 use Rattle.annotation.specs.Sources.{Source, placeOf, numberOf, usesOf, useOf, used}
 use Rattle.base.proofs.Sames.{same-refl, same-true}
 use Rattle.annotation.proofs.Numbers.{place-used, place-stays, place-there}

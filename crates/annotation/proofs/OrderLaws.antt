@@ -9,7 +9,7 @@ use borrow.Author.Tests.{leb-true}
 use Rattle.base.specs.Lists.{written}
 use Rattle.base.proofs.Bools.{and-left, and-right}
 use Rattle.numbering.specs.Numbers.{Numbered, numberAll}
-use Rattle.numbering.specs.References.{referencesIn, SourcesKnown}
+use Rattle.order.specs.References.{referencesIn, SourcesKnown}
 use Rattle.numbering.specs.declared.Numbering.{Numbering}
 use Rattle.numbering.specs.Progress.{roomOf, Agrees, Holds}
 use Rattle.annotation.specs.declared.Annotation.{Annotation}

@@ -11,7 +11,7 @@ use Rattle.index.specs.declared.Bracket.{Bracket}
 use Rattle.index.specs.Built.{builtIndex}
 use Rattle.sweep.specs.Stops.{startState, SweptTo}
 use Rattle.numbering.specs.Numbers.{Numbered, numberAll}
-use Rattle.numbering.specs.References.{referencesIn, SourcesKnown}
+use Rattle.order.specs.References.{referencesIn, SourcesKnown}
 use Rattle.annotation.specs.declared.Annotation.{Annotation}
 use Rattle.annotation.specs.declared.Annotation.the-variants.{Refused}
 use Rattle.annotation.specs.declared.Begun.{Begun}

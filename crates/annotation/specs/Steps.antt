@@ -11,9 +11,9 @@ use Rattle.lookup.specs.Rows.{itemWidth}
 use Rattle.definition.specs.Defs.{defOf}
 use Rattle.sweep.specs.Sweep.{Lent, sweepRun}
 use Rattle.sweep.specs.Rows.{groupWidth, groupRows, sweptFrom, itemRows, itemCount}
-use Rattle.numbering.specs.Records.{definitionIn}
+use Rattle.defined.specs.Definitions.{definitionIn}
 use Rattle.numbering.specs.Numbers.{Numbered, numberAll}
-use Rattle.numbering.specs.References.{referencesIn}
+use Rattle.order.specs.References.{referencesIn}
 use Rattle.annotation.specs.Order.{referencesOf}
 use Rattle.annotation.specs.Content.{Areas, placedOf, tallyOf, contentOf}
 

@@ -22,8 +22,8 @@ use Rattle.decimal.proofs.Laws.{decimal-short}
 use Rattle.sweep.specs.Sweep.{lentOf, sweepOf, sweepRun}
 use Rattle.sweep.specs.Rows.{Placed, groupRow, groupRows, itemCount, itemRows}
 use Rattle.sweep.proofs.Sweeps.{sweep-same}
-use Rattle.numbering.specs.Records.{itemField}
-use Rattle.numbering.proofs.Fields.{item-field, SameItems}
+use Rattle.records.specs.Records.{itemField}
+use Rattle.uses.proofs.Fields.{item-field, SameItems}
 use Rattle.annotation.specs.Content.{Areas, placedFrom, placedOf, tallyOf, contentOf}
 use Rattle.annotation.specs.Call.{Annotated, annotateRefused, annotateRefusal, roomFor, filled, zeroFilled, annotateGives, answerOf, annotatePlain}
 use Rattle.annotation.specs.Steps.{Fits}

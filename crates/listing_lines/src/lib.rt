@@ -1,8 +1,8 @@
 // The lines that the listing program writes, by one function on slices: `list`.
 use annotation::Annotation;
-use numbering::records::group_field;
-use numbering::records::item_field;
-use numbering::records::key_in;
+use records::group_field;
+use records::item_field;
+use records::key_in;
 ghost use mathlib.Core.Path.{_≡_};
 ghost use mathlib.Core.List.{[], _∷_, _++_};
 ghost use Prim.Native.Nat.{_+_, _*_, _≤_, _<_};

@@ -19,22 +19,10 @@ use Rattle.pool.specs.Layout.{entriesOf}
 use Rattle.sweep.specs.Rows.{Placed, groupWidth, groupRow, groupRows, sweptFrom, itemRows}
 use Rattle.definition.specs.Lines.{startsLine, colonAfter, bareItem, onlyKey, defines, inLine, groupEnd, nextOpen, keyOf, definedKey}
 use Rattle.definition.specs.Defs.{Def, lineDef, definesKey, lastLine, firstEntry, orDef, defOf}
-use Rattle.numbering.specs.Records.{
-  groupField,
-  keyIn,
-  suppressedIn,
-  bareIn,
-  closeOfRecord,
-  definesIn,
-  definesKeyIn,
-  lineIn,
-  LinesBelow,
-  nextIn,
-  lineDefIn,
-  definitionIn,
-}
+use Rattle.defined.specs.Definitions.{definesIn, definesKeyIn, lineIn, LinesBelow, lineDefIn, definitionIn}
+use Rattle.records.specs.Records.{groupField, keyIn, suppressedIn, bareIn, closeOfRecord, nextIn}
 use Rattle.base.proofs.Lasts.{lastFrom, last-from, last-same}
-use Rattle.numbering.proofs.Fields.{item-field, group-field, SameItems, SameGroups}
+use Rattle.uses.proofs.Fields.{item-field, group-field, SameItems, SameGroups}
 
 -- areas whose records agree, but for numbers, uses, labels and standings -------------------------------------------------------------
 

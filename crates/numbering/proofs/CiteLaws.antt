@@ -3,7 +3,7 @@ use Prim.Native.Nat.{ℕ, _+_, _-_, _*_, _≤_, _<_, min}
 use native.Mathlib.Omega.{arith}
 use mathlib.Core.Path.{_≡_, refl, sym, _∙_, ap}
 use mathlib.Core.List.{List, _++_}
-use mathlib.Core.Bool.{Bool, true, false, not}
+use mathlib.Core.Bool.{Bool, true, false, not, true≢false}
 use lib.ListN.{length, set, take, drop, length-append, length-take, length-drop}
 use lib.Dec.{leb}
 use borrow.Author.Tests.{le-leb, lt-leb, leb-true, leb-false, not-true, not-false}
@@ -14,16 +14,15 @@ use Rattle.base.proofs.Areas.{written-after, written-length}
 use Rattle.label.specs.Labels.{labelText}
 use Rattle.label.specs.Areas.{fitted}
 use Rattle.numbering.specs.declared.Numbering.{Numbering}
-use Rattle.numbering.specs.declared.uses.Count.{Count}
-use Rattle.numbering.specs.Records.{keyIn, suppressedIn, definitionIn, LinesBelow}
-use Rattle.numbering.specs.Numbers.{setLast, Numbered, labelIn, citeAs, citeIn}
-use Rattle.numbering.specs.Progress.{Counts, roomOf, state, Agrees, Holds, Advances}
-use Rattle.numbering.proofs.Fields.{set-last-same, set-standing-same}
+use Rattle.uses.specs.declared.Count.{Count}
+use Rattle.defined.specs.Definitions.{definitionIn, LinesBelow}
+use Rattle.records.specs.Records.{keyIn, suppressedIn}
+use Rattle.numbering.specs.Numbers.{Numbered, labelIn, citeAs, citeIn}
+use Rattle.uses.specs.Uses.{setLast}
+use Rattle.numbering.specs.Progress.{roomOf, state, Agrees, Holds, Advances}
+use Rattle.uses.specs.Uses.{Counts}
+use Rattle.uses.proofs.Fields.{set-last-same, set-standing-same}
 use Rattle.numbering.proofs.ByLines.{lines-same}
-
--- two truths that cannot both be
-pub differ : true ≡ false → ⊥
-differ e = let z : _≡_ {A = ℕ} 0 1 = cc in omega arith
 
 -- labels that do not fit still do not with more of them
 pub full-more : (t u : Numbered) (room : ℕ) {before before′ items groups labels items′ groups′ labels′ : List ℕ} {s r : Numbering}
@@ -33,7 +32,7 @@ full-more t u room {s = s} {r = r} h p q l =
     let k = leb-false (length (t .labels)) room (sym (h .fits) ∙ p) in
     record {
       fits = q ∙ sym (lt-leb (length (u .labels)) room (omega arith));
-      agrees = λ e. absurd (differ (sym e ∙ q));
+      agrees = λ e. absurd (true≢false (sym e ∙ q));
     }
 
 -- what is written into the records moves no definition line
@@ -140,7 +139,7 @@ module _ (text : List ℕ) (mode : ℕ) (pool : List ℕ) (n k : ℕ) where
             let y = longer t before (x .agrees (not-false (s .fits) o)) in
             record {
               fits = sym (lt-leb (length (citeIn text mode pool n t k .labels)) (roomOf labels) (omega arith));
-              agrees = λ z. absurd (differ (sym z));
+              agrees = λ z. absurd (true≢false (sym z));
             };
         few = omega arith;
         room = h;

@@ -5,11 +5,12 @@ use mathlib.Core.Path.{_≡_, refl, sym, _∙_, ap}
 use mathlib.Core.List.{List}
 use mathlib.Core.Bool.{Bool, true, false}
 use Rattle.definition.specs.Defs.{isDefined}
-use Rattle.numbering.specs.declared.Defined.{Defined}
-use Rattle.numbering.specs.declared.Defined.the-variants.{Line, Entry as EntryOf, Nothing}
-use Rattle.numbering.specs.Records.{keyIn, definitionIn}
+use Rattle.defined.specs.declared.Defined.{Defined}
+use Rattle.defined.specs.declared.Defined.the-variants.{Line, Entry as EntryOf, Nothing}
+use Rattle.defined.specs.Definitions.{definitionIn}
+use Rattle.records.specs.Records.{keyIn}
 use Rattle.numbering.specs.Numbers.{Numbered, definedFrom}
-use Rattle.numbering.specs.Defined.{definedAs}
+use Rattle.defined.specs.Defined.{definedAs}
 use Rattle.numbering.specs.Progress.{keyDefined, keysDefined}
 
 module _ (text pool groups items : List ℕ) (n k : ℕ) (d : Defined) {key : List ℕ} (p : key ≡ keyIn text items k)

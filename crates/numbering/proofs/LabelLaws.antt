@@ -15,9 +15,10 @@ use Rattle.definition.specs.Parts.{orEmpty, authorBytes, authorGiven, yearBytes
 use Rattle.definition.specs.Defs.{defAuthor, defYear}
 use Rattle.label.specs.Labels.{labelBy, labelText}
 use Rattle.label.specs.Areas.{fitted}
-use Rattle.numbering.specs.declared.Defined.{Defined}
-use Rattle.numbering.specs.Records.{keyIn, suppressedIn, definitionIn}
-use Rattle.numbering.specs.Defined.{definedAs}
+use Rattle.defined.specs.declared.Defined.{Defined}
+use Rattle.defined.specs.Definitions.{definitionIn}
+use Rattle.records.specs.Records.{keyIn, suppressedIn}
+use Rattle.defined.specs.Defined.{definedAs}
 
 module _ (text pool groups items : List ℕ) (mode n k number : ℕ) where
   abbrev L : List ℕ

@@ -9,7 +9,7 @@ use borrow.Author.Tests.{le-leb, eq-eqb, ne-eqb, not-true, not-false}
 use Rattle.base.specs.Pick.{pick}
 use Rattle.base.proofs.Areas.{written-none}
 use Rattle.numbering.specs.declared.Numbering.{Numbering}
-use Rattle.numbering.specs.Records.{groupField}
+use Rattle.records.specs.Records.{groupField}
 use Rattle.numbering.specs.Numbers.{Numbered, citeIn, citeFrom, standsNumbered, isNumbered, numberGroup, numberFrom, numberAll, definedFrom}
 use Rattle.numbering.specs.Progress.{keysDefined, roomOf, state, Holds, Advances}
 use Rattle.numbering.proofs.GroupLaws.{keys-are}

@@ -1,55 +1,17 @@
 -- Numbers, uses and labels, as the code writes them into the records, record by record.
-use Prim.Native.Nat.{ℕ, zero, suc, _+_, _*_, _%_}
+use Prim.Native.Nat.{ℕ, zero, suc, _+_, _*_}
 use mathlib.Core.List.{List, [], _++_}
 use mathlib.Core.Bool.{Bool, true, _&&_, not}
 use lib.ListN.{length, set}
-use lib.Dec.{eqb, ltb}
+use lib.Dec.{eqb}
 use Rattle.base.specs.Pick.{pick}
-use Rattle.base.specs.Last.{last}
-use Rattle.base.specs.Lists.{same}
-use Rattle.lookup.specs.Rows.{itemWidth}
 use Rattle.sweep.specs.Rows.{groupWidth}
 use Rattle.pool.specs.Layout.{hasPool}
 use Rattle.definition.specs.Defs.{isDefined}
-use Rattle.numbering.specs.Records.{itemField, groupField, keyIn, suppressedIn, definitionIn}
+use Rattle.defined.specs.Definitions.{definitionIn}
+use Rattle.records.specs.Records.{groupField, keyIn, suppressedIn}
 use Rattle.label.specs.Labels.{labelText}
-
--- item record `j` is numbered, and has this key
-abbrev pub usedAt : List ℕ → List ℕ → List ℕ → ℕ → Bool
-usedAt text items key j = ltb 0 (itemField items j 12) && same (keyIn text items j) key
-
--- "Maps become searches over item records": the last item record before `k` that is numbered and has the key of record `k`; `k` where there
--- is none
-unfoldable pub sameUse : List ℕ → List ℕ → ℕ → ℕ → Bool
-sameUse text items k j = usedAt text items (keyIn text items k) j
-
--- the last numbered record before `k` with its key; `k` where there is none
-unfoldable pub lastUse : List ℕ → List ℕ → ℕ → ℕ
-lastUse text items k = last (sameUse text items k) k k
-
--- the number and the use of item record `k`, `sources` being those so far. (A record's number is a u16.)
-unfoldable pub numberIn : List ℕ → List ℕ → ℕ → ℕ → ℕ
-numberIn text items sources k =
-    pick (ltb (lastUse text items k) k) (itemField items (lastUse text items k) 12) ((sources + 1) % 65536)
-
-unfoldable pub useIn : List ℕ → List ℕ → Bool → ℕ → ℕ
-useIn text items pooled k =
-    pick pooled (pick (ltb (lastUse text items k) k) ((itemField items (lastUse text items k) 13 + 1) % 65536) 1) 0
-
--- the sources after item record `k`
-unfoldable pub sourcesIn : List ℕ → List ℕ → ℕ → ℕ → ℕ
-sourcesIn text items sources k = pick (ltb (lastUse text items k) k) sources (sources + 1)
-
--- "number; use; label pair into the label bytes": the last four numbers of item record `k`
-unfoldable pub setLast : List ℕ → ℕ → ℕ → ℕ → ℕ → ℕ → List ℕ
-setLast items k number use-index at len =
-    set
-    (set
-    (set
-    (set items (itemWidth * k + 12) number)
-    (itemWidth * k + 13) use-index)
-    (itemWidth * k + 14) at)
-    (itemWidth * k + 15) len
+use Rattle.uses.specs.Uses.{numberIn, useIn, sourcesIn, setLast}
 
 -- the sources, the item and group records, and the label bytes so far
 pub record Numbered : Type 0 where

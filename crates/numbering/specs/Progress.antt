@@ -8,16 +8,9 @@ use lib.Dec.{leb}
 use Rattle.base.specs.Lists.{written}
 use Rattle.definition.specs.Defs.{isDefined}
 use Rattle.numbering.specs.declared.Numbering.{Numbering}
-use Rattle.numbering.specs.declared.uses.Count.{Count}
-use Rattle.numbering.specs.Records.{keyIn, definitionIn}
-use Rattle.numbering.specs.Numbers.{numberIn, useIn, sourcesIn, Numbered}
-
--- the number and the use of item record `k`, and the sources after it
-pub record Counts (text items : List ℕ) (pooled : Bool) (before k : ℕ) (r : Count) : Type 0 where
-  pub number : r .number ≡ numberIn text items before k
-  pub use-index : r .use_index ≡ useIn text items pooled k
-  pub sources : r .sources ≡ sourcesIn text items before k
-  pub more : r .sources ≤ before + 1
+use Rattle.defined.specs.Definitions.{definitionIn}
+use Rattle.records.specs.Records.{keyIn}
+use Rattle.numbering.specs.Numbers.{Numbered}
 
 -- the key of item record `k` is defined
 unfoldable pub keyDefined : List ℕ → List ℕ → List ℕ → List ℕ → ℕ → ℕ → Bool

@@ -1,8 +1,6 @@
 // Numbers, uses and labels, written into the records and the label bytes, group by group.
-use crate::Defined;
 use crate::Numbering;
-use crate::records;
-use crate::uses;
+use defined::Defined;
 use definition::Author;
 use definition::Year;
 ghost use mathlib.Core.Path.{_≡_};
@@ -12,7 +10,8 @@ ghost use lib.ListN.{length};
 ghost use Rattle.pool.specs.Layout.{wellFormed};
 ghost use Rattle.label.specs.Labels.{labelText};
 ghost use Rattle.label.specs.Areas.{fitted};
-ghost use Rattle.numbering.specs.Records.{keyIn, suppressedIn, definitionIn, LinesBelow};
+ghost use Rattle.defined.specs.Definitions.{definitionIn, LinesBelow};
+ghost use Rattle.records.specs.Records.{keyIn, suppressedIn};
 ghost use Rattle.numbering.specs.Numbers.{citeIn, citeFrom, numberGroup};
 ghost use Rattle.numbering.specs.Progress.{keyDefined, keysDefined, roomOf, state, Advances};
 
@@ -30,7 +29,7 @@ fn is_defined(
     ensures { λ r. ⌜ r ≡ keyDefined (now (text .entry)) (now (pool .entry)) (now (groups .entry)) (now (items .entry)) n k ⌝ }
 {
     let key = records::key_in(text, items, k);
-    let d = crate::find(text, pool, groups, items, n, lines, key);
+    let d = defined::find(text, pool, groups, items, n, lines, key);
     match d {
         Defined::Line { group: _ } => true,
         Defined::Entry { number: _ } => true,
@@ -92,9 +91,9 @@ fn label_in<'a>(
         );
     }
     let key = records::key_in(text, items, k);
-    let d = crate::find(text, pool, groups, items, n, lines, key);
-    let author = crate::author_in(text, pool, groups, n, d);
-    let year = crate::year_in(text, pool, groups, n, d);
+    let d = defined::find(text, pool, groups, items, n, lines, key);
+    let author = defined::author_in(text, pool, groups, n, d);
+    let year = defined::year_in(text, pool, groups, n, d);
     let suppressed = records::suppressed_in(items, k);
     label::write_label(text, pool, mode, suppressed, number, author, year, out)
 }

@@ -1,0 +1,19 @@
+-- `numbering::entries::entry_id` meets its contract. Assumes nothing.
+use borrow.Author.Needs.{needs}
+use Rattle.entries.proofs.EntryLaws.{id-laws}
+use Rattle.entries.proofs.entry_id.Statement.{statement}
+use Rattle.entries.proofs.entry_id.Tie as tie
+
+pub entry-id-spec : {M : Type 1} → statement M
+entry-id-spec =
+    tie.close
+    (tie.spec
+    (λ c κs. search (id-laws, needs))
+    (λ c κs. search (id-laws, needs))
+    (λ c κs. search (id-laws, needs))
+    (λ c. search (id-laws, needs))
+    (λ c κs. search (id-laws, needs))
+    (λ c. search (id-laws, needs))
+    (λ c κs. search (id-laws, needs))
+    (λ c. search (id-laws, needs))
+    (λ c. search (id-laws, needs)))

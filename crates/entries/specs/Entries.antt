@@ -1,0 +1,34 @@
+-- The entries of a pool by their numbers, and what one of them gives.
+use Prim.Native.Nat.{ℕ}
+use mathlib.Core.Path.{_≡_}
+use mathlib.Core.List.{List}
+use mathlib.Core.Bool.{Bool}
+use mathlib.Core.Option.{Option}
+use Rattle.base.specs.First.{first}
+use Rattle.pool.specs.Fields.{fieldsOf}
+use Rattle.pool.specs.Entries.{Entry, entryOf}
+use Rattle.pool.specs.Layout.{countOf, offsetOf, endOf}
+use Rattle.definition.specs.declared.Author.{Author}
+use Rattle.definition.specs.declared.Year.{Year}
+use Rattle.definition.specs.Parts.{authorBytes, yearBytes}
+use Rattle.definition.specs.Defs.{entryDefines}
+
+-- entry number `i` of a pool
+unfoldable pub entryAt : List ℕ → ℕ → Entry
+entryAt pool i = entryOf (fieldsOf pool (offsetOf pool i) (endOf pool i))
+
+-- it defines the key
+unfoldable pub entryHas : List ℕ → List ℕ → ℕ → Bool
+entryHas pool key i = entryDefines key (entryAt pool i)
+
+-- "the first pool entry with that id": its number; the count of entries where there is none
+unfoldable pub entryIn : List ℕ → List ℕ → ℕ
+entryIn pool key = first (entryHas pool key) (countOf pool) 0
+
+-- an author that lies in the pool, and a year, with the bytes that are said, whatever the text
+pub record GivesAuthor (pool : List ℕ) (r : Author) (o : Option (List ℕ)) : Type 0 where
+  pub bytes : (text : List ℕ) → authorBytes text pool r ≡ o
+
+-- a year that stands for the bytes that are said, likewise
+pub record GivesYear (pool : List ℕ) (r : Year) (o : Option (List ℕ)) : Type 0 where
+  pub bytes : (text : List ℕ) → yearBytes text pool r ≡ o

@@ -1,0 +1,4 @@
+pub mod OrderLaws
+pub mod Sorting
+pub mod RankLaws
+pub mod Definitions

@@ -1,0 +1,38 @@
+-- Item and group records as they lie in the lent areas. Any numbers may stand there: what is past the end of an area counts as 0.
+use Prim.Native.Nat.{ℕ, _+_, _-_, _*_, _%_}
+use mathlib.Core.List.{List}
+use mathlib.Core.Bool.{Bool, _&&_}
+use lib.ListN.{length, getD}
+use lib.Dec.{eqb, ltb}
+use Rattle.base.specs.Pick.{pick}
+use Rattle.base.specs.Lists.{part}
+use Rattle.lookup.specs.Rows.{itemWidth}
+use Rattle.sweep.specs.Rows.{groupWidth}
+
+-- the number at place `c` of item record `k`, and of group record `g`
+unfoldable pub itemField : List ℕ → ℕ → ℕ → ℕ
+itemField items k c = getD items (itemWidth * k + c) 0
+
+-- the number at place `c` of group record `g`
+unfoldable pub groupField : List ℕ → ℕ → ℕ → ℕ
+groupField groups g c = getD groups (groupWidth * g + c) 0
+
+-- "pairs for prefix, key (without `@`), locator": the bytes of the key of item record `k`
+unfoldable pub keyIn : List ℕ → List ℕ → ℕ → List ℕ
+keyIn text items k = part text (itemField items k 2) (itemField items k 2 + itemField items k 3)
+
+-- "marks (1 suppressed, 2 integral, added)"
+unfoldable pub suppressedIn : List ℕ → ℕ → Bool
+suppressedIn items k = eqb (itemField items k 11 % 2) 1
+
+-- "no prefix, no locator, not suppressed"
+unfoldable pub bareIn : List ℕ → ℕ → Bool
+bareIn items k = eqb (itemField items k 1) 0 && eqb (itemField items k 5) 0 && eqb (itemField items k 11 % 2) 0
+
+-- "pair, first item, item count": the place of the close of group record `g`
+unfoldable pub closeOfRecord : List ℕ → ℕ → ℕ
+closeOfRecord groups g = groupField groups g 0 + groupField groups g 1 - 1
+
+-- where the group after number `g` begins, `n` being all; the text's end where there is none
+unfoldable pub nextIn : List ℕ → List ℕ → ℕ → ℕ → ℕ
+nextIn text groups n g = pick (ltb (g + 1) n) (groupField groups (g + 1) 0) (length text)

@@ -1,0 +1,86 @@
+-- Item and group records in the lent areas: what stands at a place, and what a write leaves.
+use Prim.Native.Nat.{ℕ, suc, _+_, _*_, _≤_, _<_}
+use native.Mathlib.Omega.{arith}
+use mathlib.Core.Path.{_≡_, _∙_, ap}
+use mathlib.Core.List.{List, [], _∷_, _++_}
+use mathlib.Core.Bool.{Bool}
+use lib.ListN.{length, getD, set}
+use lib.Seq.{getD-append-add, getD-set-other}
+use Rattle.base.specs.declared.Span.{Span}
+use Rattle.base.specs.Spans.{span}
+use Rattle.item.specs.declared.Item.{Item}
+use Rattle.lookup.specs.Rows.{itemWidth, recordOf}
+use Rattle.sweep.specs.Rows.{Placed, placed, groupWidth, groupRow}
+use Rattle.records.specs.Records.{itemField, groupField}
+use Rattle.uses.specs.Uses.{setLast}
+
+pub set-append-add : (xs ys : List ℕ) (n a : ℕ) → set (xs ++ ys) (length xs + n) a ≡ xs ++ set ys n a
+set-append-add [] ys n a = let e : 0 + n ≡ n = omega arith in ap (λ (k : ℕ). set ys k a) e
+set-append-add (x ∷ xs) ys n a =
+    let e : suc (length xs) + n ≡ suc (length xs + n) = omega arith in
+    ap (λ (k : ℕ). set (x ∷ (xs ++ ys)) k a) e ∙ ap (λ (l : List ℕ). x ∷ l) (set-append-add xs ys n a)
+
+-- records after `k` others, and after `g` others
+pub item-field : (before here : List ℕ) (k c : ℕ) → length before ≡ itemWidth * k → itemField (before ++ here) k c ≡ getD here c 0
+unfolding itemField
+item-field before here k c h = rw (← h) (getD-append-add before here c 0)
+
+pub group-field : (before here : List ℕ) (g c : ℕ) → length before ≡ groupWidth * g → groupField (before ++ here) g c ≡ getD here c 0
+unfolding groupField
+group-field before here g c h = rw (← h) (getD-append-add before here c 0)
+
+-- the last four numbers of an item record
+pub set-last : (before : List ℕ) (integral : Bool) (i : Item) (n₀ u₀ : ℕ) (l₀ : Span) (after : List ℕ) (k n u at len : ℕ)
+    → length before ≡ itemWidth * k
+    → setLast (before ++ (recordOf integral i n₀ u₀ l₀ ++ after)) k n u at len ≡ before ++ (recordOf integral i n u (span at len) ++ after)
+unfolding setLast recordOf
+set-last before integral i n₀ u₀ l₀ after k n u at len h =
+    rw (← h) (rw (set-append-add, set-append-add, set-append-add, set-append-add))
+
+-- the standing of a group record
+pub set-standing : (before : List ℕ) (p : Placed) (after : List ℕ) (g k s : ℕ) → length before ≡ groupWidth * g
+    → set (before ++ (groupRow k p ++ after)) (groupWidth * g + 4) s ≡ before ++ (groupRow k (placed (p .group) s) ++ after)
+unfolding groupRow
+set-standing before p after g k s h = rw (← h) (set-append-add before _ 4 s)
+
+-- areas whose records agree, but for the last four numbers of items, and the standings of groups
+abbrev pub SameItems : List ℕ → List ℕ → Type 0
+SameItems items others = (k c : ℕ) → c < 12 → itemField items k c ≡ itemField others k c
+
+abbrev pub SameGroups : List ℕ → List ℕ → Type 0
+SameGroups groups others = (g c : ℕ) → c < 4 → groupField groups g c ≡ groupField others g c
+
+-- a place that is none of those that are written
+set-last-away : (items : List ℕ) (k n u at len p : ℕ) → ((c : ℕ) → 12 ≤ c → c < itemWidth → p ≡ itemWidth * k + c → ⊥)
+    → getD (setLast items k n u at len) p 0 ≡ getD items p 0
+unfolding setLast
+set-last-away items k n u at len p h =
+    getD-set-other third (itemWidth * k + 15) p len 0 (h 15 (omega arith) (omega arith))
+    ∙ getD-set-other second (itemWidth * k + 14) p at 0 (h 14 (omega arith) (omega arith))
+    ∙ getD-set-other one (itemWidth * k + 13) p u 0 (h 13 (omega arith) (omega arith))
+    ∙ getD-set-other items (itemWidth * k + 12) p n 0 (h 12 (omega arith) (omega arith))
+  where
+    one : List ℕ
+    one = set items (itemWidth * k + 12) n
+
+    second : List ℕ
+    second = set one (itemWidth * k + 13) u
+
+    third : List ℕ
+    third = set second (itemWidth * k + 14) at
+
+pub set-last-same : (items : List ℕ) (k n u at len : ℕ) → SameItems (setLast items k n u at len) items
+unfolding itemField
+set-last-same items k n u at len j c h = set-last-away items k n u at len (itemWidth * j + c) (λ d a b e. omega arith)
+
+pub set-standing-same : (groups : List ℕ) (g s : ℕ) → SameGroups (set groups (groupWidth * g + 4) s) groups
+unfolding groupField
+set-standing-same groups g s j c h = getD-set-other groups (groupWidth * g + 4) (groupWidth * j + c) s 0 (λ e. omega arith)
+
+-- no other item record changes
+pub set-last-other : (items : List ℕ) (k n u at len j c : ℕ) → j < k → c < itemWidth
+    → itemField (setLast items k n u at len) j c ≡ itemField items j c
+unfolding itemField
+set-last-other items k n u at len j c h l = set-last-away items k n u at len (itemWidth * j + c) (λ d a b e. omega arith)
+
+pub ruleset field-laws = (item-field, group-field, set-last, set-standing, set-last-same, set-standing-same, set-last-other)

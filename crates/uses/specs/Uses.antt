@@ -1,0 +1,58 @@
+-- The number and the use of an item record, by the last one before it with the same key, and the place where they stand in its record.
+use Prim.Native.Nat.{ℕ, _+_, _*_, _%_}
+use mathlib.Core.List.{List}
+use mathlib.Core.Bool.{Bool, _&&_}
+use lib.ListN.{set}
+use lib.Dec.{ltb}
+use Rattle.base.specs.Pick.{pick}
+use Rattle.base.specs.Last.{last}
+use Rattle.base.specs.Lists.{same}
+use Rattle.lookup.specs.Rows.{itemWidth}
+use Rattle.records.specs.Records.{itemField, keyIn}
+use Prim.Native.Nat.{_≤_}
+use mathlib.Core.Path.{_≡_}
+use Rattle.uses.specs.declared.Count.{Count}
+
+-- item record `j` is numbered, and has this key
+abbrev pub usedAt : List ℕ → List ℕ → List ℕ → ℕ → Bool
+usedAt text items key j = ltb 0 (itemField items j 12) && same (keyIn text items j) key
+
+-- "Maps become searches over item records": the last item record before `k` that is numbered and has the key of record `k`; `k` where there
+-- is none
+unfoldable pub sameUse : List ℕ → List ℕ → ℕ → ℕ → Bool
+sameUse text items k j = usedAt text items (keyIn text items k) j
+
+-- the last numbered record before `k` with its key; `k` where there is none
+unfoldable pub lastUse : List ℕ → List ℕ → ℕ → ℕ
+lastUse text items k = last (sameUse text items k) k k
+
+-- the number and the use of item record `k`, `sources` being those so far. (A record's number is a u16.)
+unfoldable pub numberIn : List ℕ → List ℕ → ℕ → ℕ → ℕ
+numberIn text items sources k =
+    pick (ltb (lastUse text items k) k) (itemField items (lastUse text items k) 12) ((sources + 1) % 65536)
+
+unfoldable pub useIn : List ℕ → List ℕ → Bool → ℕ → ℕ
+useIn text items pooled k =
+    pick pooled (pick (ltb (lastUse text items k) k) ((itemField items (lastUse text items k) 13 + 1) % 65536) 1) 0
+
+-- the sources after item record `k`
+unfoldable pub sourcesIn : List ℕ → List ℕ → ℕ → ℕ → ℕ
+sourcesIn text items sources k = pick (ltb (lastUse text items k) k) sources (sources + 1)
+
+-- "number; use; label pair into the label bytes": the last four numbers of item record `k`
+unfoldable pub setLast : List ℕ → ℕ → ℕ → ℕ → ℕ → ℕ → List ℕ
+setLast items k number use-index at len =
+    set
+    (set
+    (set
+    (set items (itemWidth * k + 12) number)
+    (itemWidth * k + 13) use-index)
+    (itemWidth * k + 14) at)
+    (itemWidth * k + 15) len
+
+-- the number and the use of item record `k`, and the sources after it
+pub record Counts (text items : List ℕ) (pooled : Bool) (before k : ℕ) (r : Count) : Type 0 where
+  pub number : r .number ≡ numberIn text items before k
+  pub use-index : r .use_index ≡ useIn text items pooled k
+  pub sources : r .sources ≡ sourcesIn text items before k
+  pub more : r .sources ≤ before + 1

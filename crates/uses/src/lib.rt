@@ -1,0 +1,85 @@
+// The number and the use of an item record, by the last one before it with the same key.
+ghost use mathlib.Core.Path.{_≡_};
+ghost use Prim.Native.Nat.{_+_, _%_, _<_};
+ghost use Rattle.base.specs.Pick.{pick};
+ghost use Rattle.uses.specs.Uses.{usedAt, lastUse, setLast};
+ghost use Rattle.uses.specs.Uses.{Counts};
+
+// The number and the use of an item record, and the sources after it.
+pub struct Count {
+    pub number: u16,
+    pub use_index: u16,
+    pub sources: usize,
+}
+
+// Whether item record `j` is numbered, and has the key `key`.
+pub fn is_use(text: &[u8], items: &[u16], j: usize, key: &[u8]) -> bool
+    requires { ⌜ j < 4294967296 ⌝ }
+    ensures { λ r. ⌜ r ≡ usedAt (now (text .entry)) (now (items .entry)) (now (key .entry)) j ⌝ }
+{
+    let number = records::item_field(items, j, 12);
+    if number == 0 {
+        return false;
+    }
+    base::bytes::is_same(records::key_in(text, items, j), key)
+}
+
+// The last item record before `k` that is numbered and has the key of record `k`; `k` where there is none.
+pub fn last_use(text: &[u8], items: &[u16], k: usize) -> usize
+    requires { ⌜ k < 4294967296 ⌝ }
+    ensures { λ r. ⌜ r ≡ lastUse (now (text .entry)) (now (items .entry)) k ⌝ }
+{
+    let key = records::key_in(text, items, k);
+    let mut j = k;
+    while 0 < j {
+        j -= 1;
+        if is_use(text, items, j, key) {
+            return j;
+        }
+    }
+    k
+}
+
+// The use after the use `before`; 0 without a pool.
+fn next_use(pooled: bool, before: usize) -> u16
+    requires { ⌜ before < 65536 ⌝ }
+    ensures { λ r. ⌜ r ≡ pick pooled ((before + 1) % 65536) 0 ⌝ }
+{
+    if pooled {
+        ((before + 1) % 65536) as u16
+    } else {
+        0
+    }
+}
+
+// The number and the use of item record `k`, with `sources` before it.
+pub fn count_in(text: &[u8], items: &[u16], pooled: bool, sources: usize, k: usize) -> Count
+    requires { ⌜ (k < 4294967296) × (sources < 1099511627776) ⌝ }
+    ensures { λ r. ⌜ Counts (now (text .entry)) (now (items .entry)) pooled sources k r ⌝ }
+{
+    let j = last_use(text, items, k);
+    if j < k {
+        Count {
+            number: records::item_field(items, j, 12) as u16,
+            use_index: next_use(pooled, records::item_field(items, j, 13)),
+            sources,
+        }
+    } else {
+        Count {
+            number: ((sources + 1) % 65536) as u16,
+            use_index: next_use(pooled, 0),
+            sources: sources + 1,
+        }
+    }
+}
+
+// The last four numbers of item record `k`.
+pub fn set_last(items: &mut [u16], k: usize, number: u16, use_index: u16, at: u16, len: u16)
+    requires { ⌜ k < 4294967296 ⌝ }
+    ensures { λ _. ⌜ now (items .exit) ≡ setLast (now (items .entry)) k number use_index at len ⌝ }
+{
+    records::put(items, 16 * k + 12, number);
+    records::put(items, 16 * k + 13, use_index);
+    records::put(items, 16 * k + 14, at);
+    records::put(items, 16 * k + 15, len);
+}
