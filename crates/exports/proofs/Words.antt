@@ -8,9 +8,9 @@ use lib.ListN.{length, length-append}
 use lib.Dec.{eqb, leb, ltb}
 use borrow.Author.Tests.{eqb-true, ltb-false, leb-true}
 use Rattle.base.specs.Pick.{pick}
-use Rattle.text.specs.Utf8.{tooLong, utf8}
+use Rattle.utf8.specs.Utf8.{tooLong, utf8}
 use Rattle.text.specs.Escape.{escapedAt}
-use Rattle.text.specs.Refusal.{afterText, textRefusal}
+use Rattle.utf8.specs.Refusal.{afterText, textRefusal}
 use Rattle.base.specs.Lists.{isAt}
 use Rattle.close.specs.declared.Close.{Close}
 use Rattle.close.specs.declared.Close.the-variants.{At, Nothing}

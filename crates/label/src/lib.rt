@@ -6,7 +6,7 @@ ghost use mathlib.Core.List.{[], _∷_, _++_};
 ghost use Prim.Native.Nat.{_≤_, _<_};
 ghost use lib.ListN.{length};
 ghost use Rattle.base.specs.Lists.{part, written};
-ghost use Rattle.text.specs.White.{trimEnd, trim};
+ghost use Rattle.text.specs.Trim.{trimEnd, trim};
 ghost use Rattle.pool.specs.Numbers.{signed};
 ghost use Rattle.pool.specs.Entries.{bytesOr};
 ghost use Rattle.source.specs.Decimal.{decimal, signedDecimal};

@@ -11,7 +11,8 @@ use borrow.Author.Tests.{ltb-true, eqb-true, lt-ltb}
 use Rattle.base.specs.Pick.{pick}
 use Rattle.base.specs.Lists.{byteAt}
 use Rattle.base.specs.Spans.{spanOf}
-use Rattle.text.specs.White.{isWhite, trimStart, trimEnd}
+use Rattle.white.specs.White.{isWhite}
+use Rattle.text.specs.Trim.{trimStart, trimEnd}
 use Rattle.key.specs.Keys.{keyEnd}
 use Rattle.close.specs.declared.Close.{Close}
 use Rattle.close.specs.declared.Close.the-variants.{At, Nothing}
