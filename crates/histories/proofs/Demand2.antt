@@ -12,8 +12,9 @@ use Rattle.base.specs.Lists.{isAt}
 use Rattle.utf8.specs.Utf8.{tooLong, utf8}
 use Rattle.text.specs.Escape.{escapedAt}
 use Rattle.utf8.specs.Refusal.{afterText}
-use Rattle.lookup.specs.Groups.{Group, GroupAnswer, Found, NoGroup, groupAt}
-use Rattle.lookup.specs.Rows.{rowsLength}
+use Rattle.resolve.specs.Groups.{GroupAnswer, Found, NoGroup, groupAt}
+use Rattle.item.specs.Group.{Group}
+use Rattle.rows.specs.Rows.{rowsLength}
 use Rattle.lookup.specs.Refusals.{tooFew, lookUpRefusal}
 use Rattle.lookup.specs.LookUps.{LookedUp, lookUpGives, lookUpRefused, lookUpAnswers, lookedUp, lookUpPlain}
 use Rattle.lookup.proofs.RefusalLaws.{unrefused}

@@ -8,7 +8,7 @@ use lib.Dec.{eqb, ltb}
 use Rattle.base.specs.Pick.{pick}
 use Rattle.base.specs.Last.{last}
 use Rattle.base.specs.Lists.{part, same}
-use Rattle.lookup.specs.Rows.{itemWidth}
+use Rattle.rows.specs.Rows.{itemWidth}
 use Rattle.sweep.specs.Rows.{groupWidth}
 use Rattle.pool.specs.Layout.{entriesOf}
 use Rattle.definition.specs.Lines.{startsLine, colonAfter}
