@@ -11,8 +11,8 @@ use Rattle.base.specs.Pick.{pick}
 use Rattle.base.specs.Lists.{written}
 use Rattle.index.specs.declared.Bracket.{Bracket}
 use Rattle.index.specs.Built.{builtIndex, builtRecords}
-use Rattle.lookup.specs.Groups.{Group}
-use Rattle.lookup.specs.Resolve.{noteAfter, indexAfter, recordsAfter}
+use Rattle.item.specs.Group.{Group}
+use Rattle.resolve.specs.Resolve.{noteAfter, indexAfter, recordsAfter}
 use Rattle.sweep.specs.declared.SweepState.{SweepState}
 use Rattle.sweep.specs.Sweep.{Lent, lentOf, lentAfter, sweepRun}
 use Rattle.sweep.specs.Rows.{groupRows, itemCount, itemRows, sweptFrom}

@@ -16,7 +16,7 @@ use Rattle.base.proofs.Searches.{first-holds, first-before}
 use Rattle.base.proofs.Ups.{up-length}
 use Rattle.base.proofs.Bools.{and-left, and-right}
 use Rattle.base.proofs.Sames.{same-true}
-use Rattle.lookup.specs.Groups.{Group}
+use Rattle.item.specs.Group.{Group}
 use Rattle.pool.specs.Layout.{hasPool}
 use Rattle.definition.specs.Lines.{inLine, groupEnd}
 use Rattle.definition.specs.Defs.{defOf}

@@ -7,7 +7,7 @@ use mathlib.Core.Bool.{Bool, true, false}
 use lib.ListN.{length, length-append, length-map}
 use lib.Dec.{eqb}
 use Rattle.base.specs.Pick.{pick}
-use Rattle.lookup.specs.Groups.{Group}
+use Rattle.item.specs.Group.{Group}
 use Rattle.definition.specs.Lines.{inLine, groupEnd, keyOf}
 use Rattle.sweep.specs.Rows.{itemCount}
 use Rattle.annotation.specs.Sources.{Source}

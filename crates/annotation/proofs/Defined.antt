@@ -12,7 +12,7 @@ use Rattle.base.specs.Lists.{same}
 use Rattle.base.specs.Sorted.{Each}
 use Rattle.item.specs.declared.Item.{Item}
 use Rattle.base.proofs.Bools.{and-left, and-right}
-use Rattle.lookup.specs.Groups.{Group}
+use Rattle.item.specs.Group.{Group}
 use Rattle.definition.specs.Lines.{keyOf, inLine, groupEnd}
 use Rattle.definition.specs.Defs.{defOf, isDefined}
 use Rattle.annotation.specs.Sources.{Source, source, used}

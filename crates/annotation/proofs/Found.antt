@@ -10,10 +10,11 @@ use Rattle.base.specs.Sorted.{Each}
 use Rattle.close.specs.declared.Close.{Close}
 use Rattle.close.specs.declared.Close.the-variants.{At, Nothing}
 use Rattle.index.specs.Entries.{opensAt}
-use Rattle.lookup.specs.Groups.{Group, Found, NoGroup, groupOf, groupAccepted, judge}
-use Rattle.lookup.specs.Resolve.{closeAsRun, groupAsRun}
-use Rattle.lookup.specs.Looks.{Inside}
-use Rattle.lookup.proofs.Steps.{run-inside}
+use Rattle.resolve.specs.Groups.{Found, NoGroup, groupAccepted, judge}
+use Rattle.item.specs.Group.{Group, groupOf}
+use Rattle.resolve.specs.Resolve.{closeAsRun, groupAsRun}
+use Rattle.resolve.specs.Looks.{Inside}
+use Rattle.resolve.proofs.Runs.{run-inside}
 use Rattle.sweep.specs.Sweep.{Lent, Swept, swept, listed, nextAt, lentAfter, foundRun, buildsAt, sweepRunIn, sweepRun}
 use Rattle.sweep.proofs.Sizes.{size-enough-run}
 use Rattle.annotation.specs.Steps.{SweptFits}

@@ -10,7 +10,7 @@ use borrow.Author.Tests.{eqb-true, eqb-false}
 use Rattle.base.specs.Pick.{pick}
 use Rattle.index.specs.Built.{builtIndex}
 use Rattle.pool.specs.Layout.{wellFormed}
-use Rattle.lookup.specs.Resolve.{noteAfter}
+use Rattle.resolve.specs.Resolve.{noteAfter}
 use Rattle.sweep.specs.declared.SweepState.{SweepState}
 use Rattle.sweep.specs.Stops.{startState, Counted, SweptTo}
 use Rattle.sweep.proofs.Laws.{start-counted}

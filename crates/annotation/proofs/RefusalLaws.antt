@@ -8,9 +8,9 @@ use lib.ListN.{length}
 use lib.Dec.{ltb}
 use borrow.Author.Tests.{lt-ltb, le-ltb, ltb-false}
 use Rattle.base.specs.Pick.{pick}
-use Rattle.text.specs.Utf8.{tooLong, utf8}
-use Rattle.text.specs.Refusal.{afterText, textRefusal}
-use Rattle.text.proofs.Characters.{refused-after, accepted-after}
+use Rattle.utf8.specs.Utf8.{tooLong, utf8}
+use Rattle.utf8.specs.Refusal.{afterText, textRefusal}
+use Rattle.utf8.proofs.Characters.{refused-after, accepted-after}
 use Rattle.lookup.specs.Refusals.{tooFew}
 use Rattle.pool.specs.Layout.{wellFormed}
 use Rattle.annotation.specs.Call.{annotateRefusal}

@@ -6,8 +6,8 @@ use mathlib.Core.Bool.{false}
 use mathlib.Core.List.{List, _++_}
 use lib.ListN.{length}
 use Rattle.base.specs.Sorted.{Each}
-use Rattle.lookup.specs.Groups.{Group}
-use Rattle.lookup.specs.Rows.{itemWidth}
+use Rattle.item.specs.Group.{Group}
+use Rattle.rows.specs.Rows.{itemWidth}
 use Rattle.definition.specs.Defs.{defOf}
 use Rattle.sweep.specs.Sweep.{Lent, sweepRun}
 use Rattle.sweep.specs.Rows.{groupWidth, groupRows, sweptFrom, itemRows, itemCount}

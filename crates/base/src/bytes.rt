@@ -1,9 +1,16 @@
-// Searches for a byte, the comparison of two slices, and a part of a slice.
+// The byte at a place, searches for a byte, the comparison of two slices, and a part of a slice.
 ghost use mathlib.Core.Path.{_≡_};
 ghost use Prim.Native.Nat.{_+_, _≤_};
 ghost use lib.ListN.{length};
 ghost use Rattle.base.specs.First.{firstOf, firstOther};
-ghost use Rattle.base.specs.Lists.{part, same};
+ghost use Rattle.base.specs.Lists.{byteAt, part, same};
+
+// The byte at the place `at`; 0 past the end.
+pub fn byte_at(s: &[u8], at: usize) -> u8
+    ensures { λ r. ⌜ r ≡ byteAt (now (s .entry)) at ⌝ }
+{
+    if at < s.len() { s[at] } else { 0 }
+}
 
 // The first place from `a` up to `e` that holds the byte `b`, or `e`.
 pub fn find_byte(s: &[u8], b: u8, a: usize, e: usize) -> usize

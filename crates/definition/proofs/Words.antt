@@ -13,7 +13,8 @@ use Rattle.base.specs.Spans.{span}
 use Rattle.base.specs.declared.Span.{Span}
 use Rattle.base.proofs.Searches.{first-from, first-by, first-out, first-stop, first-more}
 use Rattle.base.proofs.Parts.{part-is, part-length, take-part, drop-part}
-use Rattle.text.specs.White.{isWhite, trimStart}
+use Rattle.white.specs.White.{isWhite}
+use Rattle.text.specs.Trim.{trimStart}
 use Rattle.text.proofs.Trims.{start-from, start-plain}
 use Rattle.definition.specs.declared.Value.the-variants.{Given, Missing}
 use Rattle.definition.specs.Attributes.{wordEnd, wordsIn, wordsOf, equalsAt, endWithout, stripped, bare, valueIn, attrValue}

@@ -9,7 +9,7 @@ use Rattle.base.specs.First.{first, firstOf, firstOther}
 use Rattle.base.specs.Lists.{byteAt, isAt, part}
 use Rattle.base.specs.declared.Span.{Span}
 use Rattle.item.specs.declared.Item.{Item}
-use Rattle.lookup.specs.Groups.{Group}
+use Rattle.item.specs.Group.{Group}
 
 -- the first LF from `a` on; `e` where none stands before it
 unfoldable pub breakAt : List ℕ → ℕ → ℕ → ℕ

@@ -9,8 +9,8 @@ use mir.Syntax.{w32}
 use mir.Val.{Fits}
 use borrow.Author.Tests.{leb-true}
 use Rattle.base.specs.Lists.{written}
-use Rattle.lookup.specs.Rows.{putAt}
-use Rattle.lookup.proofs.Areas.{put-written}
+use Rattle.rows.specs.Rows.{putAt}
+use Rattle.rows.proofs.Areas.{put-written}
 use Rattle.locator.specs.declared.Locator.{Locator}
 use Rattle.locator.specs.Answers.{codeOf, valueOf, suffixOf}
 use Rattle.base.specs.declared.Span.{Span}

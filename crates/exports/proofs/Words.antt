@@ -8,9 +8,9 @@ use lib.ListN.{length, length-append}
 use lib.Dec.{eqb, leb, ltb}
 use borrow.Author.Tests.{eqb-true, ltb-false, leb-true}
 use Rattle.base.specs.Pick.{pick}
-use Rattle.text.specs.Utf8.{tooLong, utf8}
+use Rattle.utf8.specs.Utf8.{tooLong, utf8}
 use Rattle.text.specs.Escape.{escapedAt}
-use Rattle.text.specs.Refusal.{afterText, textRefusal}
+use Rattle.utf8.specs.Refusal.{afterText, textRefusal}
 use Rattle.base.specs.Lists.{isAt}
 use Rattle.close.specs.declared.Close.{Close}
 use Rattle.close.specs.declared.Close.the-variants.{At, Nothing}
@@ -18,9 +18,10 @@ use Rattle.base.proofs.Bools.{and-right}
 use Rattle.index.specs.declared.Bracket.{Bracket}
 use Rattle.locator.specs.Locators.{locatorOf}
 use Rattle.locator.proofs.Laws.{code-small, value-ends, suffix-ends}
-use Rattle.lookup.specs.Groups.{Group, GroupAnswer, Found, NoGroup, groupOf, groupAccepted, judge}
-use Rattle.lookup.specs.Rows.{rowsLength}
-use Rattle.lookup.specs.Resolve.{closeAsRun, groupAsRun, noteAfter}
+use Rattle.resolve.specs.Groups.{GroupAnswer, Found, NoGroup, groupAccepted, judge}
+use Rattle.item.specs.Group.{Group, groupOf}
+use Rattle.rows.specs.Rows.{rowsLength}
+use Rattle.resolve.specs.Resolve.{closeAsRun, groupAsRun, noteAfter}
 use Rattle.lookup.specs.Refusals.{tooFew, lookUpRefusal}
 use Rattle.lookup.specs.LookUps.{LookedUp, lookUpRefused, lookUpGives, lookUpAnswers, lookedUp, lookUpBuilds, ranWith, lookUpRun}
 use Rattle.lookup.specs.Others.{sized, located, notLocated, locatorCall, sizeCall}
@@ -32,8 +33,8 @@ use Rattle.sweep.specs.Stops.{stopFrom}
 use Rattle.sweep.specs.Facts.{goneOn}
 use Rattle.sweep.specs.Rows.{itemCount}
 use Rattle.sweep.proofs.Sizes.{items-size, size-enough-run}
-use Rattle.lookup.specs.Looks.{Inside}
-use Rattle.lookup.proofs.Steps.{run-inside}
+use Rattle.resolve.specs.Looks.{Inside}
+use Rattle.resolve.proofs.Runs.{run-inside}
 use Rattle.sweep.proofs.Stops.{sweep-in-two}
 use Rattle.annotation.specs.Content.{Areas, tallyOf, contentOf}
 use Rattle.annotation.specs.Call.{AnnotateRan, annotateRefused, annotateRefusal, roomFor, zeroFilled, annotateGives, answerOf, annotateRan, annotateSwept, annotateRun}

@@ -9,11 +9,12 @@ use lib.Dec.{eqb, ltb}
 use borrow.Author.Tests.{eq-eqb, eqb-true, lt-ltb, le-ltb}
 use Rattle.base.specs.Pick.{pick}
 use Rattle.base.specs.Lists.{isAt}
-use Rattle.text.specs.Utf8.{tooLong, utf8}
+use Rattle.utf8.specs.Utf8.{tooLong, utf8}
 use Rattle.text.specs.Escape.{escapedAt}
-use Rattle.text.specs.Refusal.{afterText}
-use Rattle.lookup.specs.Groups.{Group, GroupAnswer, Found, NoGroup, groupAt}
-use Rattle.lookup.specs.Rows.{rowsLength}
+use Rattle.utf8.specs.Refusal.{afterText}
+use Rattle.resolve.specs.Groups.{GroupAnswer, Found, NoGroup, groupAt}
+use Rattle.item.specs.Group.{Group}
+use Rattle.rows.specs.Rows.{rowsLength}
 use Rattle.lookup.specs.Refusals.{tooFew, lookUpRefusal}
 use Rattle.lookup.specs.LookUps.{LookedUp, lookUpGives, lookUpRefused, lookUpAnswers, lookedUp, lookUpPlain}
 use Rattle.lookup.proofs.RefusalLaws.{unrefused}

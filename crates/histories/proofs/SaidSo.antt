@@ -13,8 +13,8 @@ use Rattle.base.specs.Fold.{fold}
 use Rattle.base.specs.Lists.{part}
 use Rattle.base.specs.Spans.{span}
 use Rattle.item.specs.declared.Item.{Item}
-use Rattle.lookup.specs.Groups.{Group}
-use Rattle.lookup.specs.Rows.{itemWidth, recordOf, rowOf, rowsIn, rowsOf}
+use Rattle.item.specs.Group.{Group}
+use Rattle.rows.specs.Rows.{itemWidth, recordOf, rowOf, rowsIn, rowsOf}
 use Rattle.pool.specs.Layout.{hasPool}
 use Rattle.definition.specs.Lines.{inLine, groupEnd, keyOf}
 use Rattle.definition.specs.Defs.{defOf}

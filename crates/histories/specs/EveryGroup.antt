@@ -9,11 +9,12 @@ use lib.ListN.{length}
 use Rattle.base.specs.Sorted.{Each, Sorted}
 use Rattle.index.specs.declared.Bracket.{Bracket}
 use Rattle.index.specs.Entries.{opensAt}
-use Rattle.lookup.specs.Groups.{Group, Found, groupAt}
-use Rattle.lookup.specs.Rows.{rowsLength}
+use Rattle.resolve.specs.Groups.{Found, groupAt}
+use Rattle.item.specs.Group.{Group}
+use Rattle.rows.specs.Rows.{rowsLength}
 use Rattle.lookup.specs.Refusals.{lookUpRefusal}
 use Rattle.lookup.specs.LookUps.{LookedUp, lookUpGives, lookUpRefused, lookUpRun}
-use Rattle.lookup.specs.Lefts.{Left}
+use Rattle.resolve.specs.Lefts.{Left}
 use Rattle.definition.specs.Lines.{groupEnd}
 use Rattle.sweep.specs.Sweep.{sweepOf}
 use Rattle.annotation.specs.Content.{Areas, contentOf}

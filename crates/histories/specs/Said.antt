@@ -8,8 +8,8 @@ use lib.Dec.{eqb}
 use Rattle.base.specs.Pick.{pick}
 use Rattle.base.specs.Lists.{part}
 use Rattle.item.specs.declared.Item.{Item}
-use Rattle.lookup.specs.Groups.{Group}
-use Rattle.lookup.specs.Rows.{itemWidth}
+use Rattle.item.specs.Group.{Group}
+use Rattle.rows.specs.Rows.{itemWidth}
 use Rattle.pool.specs.Layout.{hasPool}
 use Rattle.sweep.specs.Rows.{Placed, itemCount, itemRows, groupRows}
 use Rattle.annotation.specs.Sources.{Source}

@@ -11,8 +11,8 @@ use Rattle.base.specs.Pick.{pick}
 use Rattle.base.specs.Lists.{byteAt}
 use Rattle.base.proofs.Bools.{and-left, and-right}
 use Rattle.base.proofs.Picks.{pick-yes, pick-no, pick-eq, pick-ne}
-use Rattle.text.specs.White.{isWhite}
-use Rattle.text.proofs.Whites.{white-ascii}
+use Rattle.white.specs.White.{isWhite}
+use Rattle.white.proofs.Whites.{white-ascii}
 use Rattle.key.specs.Keys.{keyEnd}
 use Rattle.key.proofs.Laws.{key-by}
 use Rattle.index.specs.declared.Bracket.{Bracket}

@@ -12,7 +12,7 @@ use Rattle.base.specs.Sorted.{Each}
 use Rattle.base.specs.declared.Span.{Span}
 use Rattle.base.specs.Spans.{missing, presentOf, InOrder}
 use Rattle.base.proofs.Spans.{span-there}
-use Rattle.text.specs.White.{trimStart, trimEnd}
+use Rattle.text.specs.Trim.{trimStart, trimEnd}
 use Rattle.key.specs.Keys.{keyEnd}
 use Rattle.locator.specs.Answers.{codeOf}
 use Rattle.locator.proofs.Laws.{code-small, value-missing, suffix-missing}

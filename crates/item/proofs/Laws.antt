@@ -15,7 +15,7 @@ use Rattle.base.specs.Spans.{spanOf}
 use Rattle.base.proofs.Bools.{and-left}
 use Rattle.base.proofs.Searches.{first-out, first-stop, first-more}
 use Rattle.text.specs.Escape.{escapedAt}
-use Rattle.text.specs.White.{trimStart, trimEnd}
+use Rattle.text.specs.Trim.{trimStart, trimEnd}
 use Rattle.text.proofs.Trims.{end-by}
 use Rattle.key.specs.Keys.{keyEnd}
 use Rattle.key.proofs.Laws.{key-by}

@@ -6,7 +6,8 @@ use Rattle.base.specs.Ascii.{ascii}
 use Rattle.base.specs.First.{first}
 use Rattle.base.specs.Spans.{span, missing, spanOf}
 use Rattle.text.specs.Escape.{escapedAt, slashes}
-use Rattle.text.specs.White.{spaceWidth, isWhite, trimStart, trimEnd, contentEnd}
+use Rattle.white.specs.White.{spaceWidth, isWhite}
+use Rattle.text.specs.Trim.{trimStart, trimEnd, contentEnd}
 use Rattle.key.specs.Keys.{isFirst, isMark, isKey, keyRun, runEnd, keyEnd}
 use Rattle.locator.specs.declared.Locator.{Locator}
 use Rattle.locator.specs.declared.Locator.the-variants.{Nothing, Plain, Labelled}

@@ -8,7 +8,7 @@ use Rattle.base.specs.First.{first}
 use Rattle.base.specs.Lists.{byteAt}
 use Rattle.base.specs.Spans.{spanOf}
 use Rattle.text.specs.Escape.{escapedAt}
-use Rattle.text.specs.White.{trimStart, trimEnd}
+use Rattle.text.specs.Trim.{trimStart, trimEnd}
 use Rattle.key.specs.Keys.{keyEnd}
 use Rattle.locator.specs.Locators.{locatorOf}
 use Rattle.item.specs.declared.Item.{Item}

@@ -1,10 +1,10 @@
 // One item of a group, and the judgement on all items between a bracket and its close.
 use base::Span;
+use base::bytes::byte_at;
 use base::span_of;
 use key::parse_key;
 use locator::Locator;
 use locator::parse_locator;
-use text::byte_at;
 use text::is_escaped_at;
 use text::trim_end;
 use text::trim_start;

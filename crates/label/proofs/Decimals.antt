@@ -13,8 +13,9 @@ use Rattle.base.specs.Pick.{pick}
 use Rattle.base.specs.First.{first}
 use Rattle.base.specs.Lists.{byteAt}
 use Rattle.base.proofs.Bools.{split}
-use Rattle.text.specs.White.{isWhite, trimStart, contentEnd, trimEnd}
-use Rattle.text.proofs.Whites.{white-ascii}
+use Rattle.white.specs.White.{isWhite}
+use Rattle.text.specs.Trim.{trimStart, contentEnd, trimEnd}
+use Rattle.white.proofs.Whites.{white-ascii}
 use Rattle.pool.specs.Numbers.{signed}
 use Rattle.decimal.specs.Decimal.{digitCount, countIn, lastDigits, decimal}
 use Rattle.decimal.proofs.Laws.{decimal-length}

@@ -15,8 +15,9 @@ use Rattle.base.specs.Lists.{byteAt, part}
 use Rattle.base.proofs.Bools.{split}
 use Rattle.base.proofs.Searches.{first-near, first-far, first-shift}
 use Rattle.base.proofs.Parts.{byte-past, part-is}
-use Rattle.text.specs.White.{spaceWidth, isWhite, trimStart, contentEnd, trimEnd, trim}
-use Rattle.text.proofs.Whites.{widthBy, width-is, width-second, width-third, second-by, white-ascii}
+use Rattle.white.specs.White.{spaceWidth, isWhite}
+use Rattle.text.specs.Trim.{trimStart, contentEnd, trimEnd, trim}
+use Rattle.white.proofs.Whites.{widthBy, width-is, width-second, width-third, second-by, white-ascii}
 use Rattle.text.proofs.Trims.{start-by, end-from, end-by, content-after, content-before, content-shift}
 
 -- the tests of `isWhite` at the start of a list, where the places before stop at 0

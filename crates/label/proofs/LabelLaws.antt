@@ -12,12 +12,14 @@ use borrow.Author.Tests.{eq-eqb, ne-eqb, ltb-true, ltb-false}
 use Rattle.base.specs.Lists.{part}
 use Rattle.base.specs.declared.Span.{Span}
 use Rattle.base.proofs.Parts.{part-is, part-length}
-use Rattle.text.specs.White.{isWhite, trimStart, contentEnd, trimEnd, trim}
+use Rattle.white.specs.White.{isWhite}
+use Rattle.text.specs.Trim.{trimStart, contentEnd, trimEnd, trim}
 use Rattle.text.proofs.Trims.{start-by, start-plain, end-from, end-by, content-behind}
 use Rattle.pool.specs.Numbers.{signed}
 use Rattle.pool.specs.Entries.{bytesOr}
 use Rattle.source.specs.Text.{isEmpty}
-use Rattle.source.specs.Decimal.{decimal, signedDecimal}
+use Rattle.decimal.specs.Decimal.{decimal}
+use Rattle.source.specs.Decimal.{signedDecimal}
 use Rattle.definition.specs.declared.Author.{Author}
 use Rattle.definition.specs.declared.Year.{Year}
 use Rattle.definition.specs.declared.Year.the-variants.{InText, InPool, Number, Missing}

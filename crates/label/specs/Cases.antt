@@ -7,7 +7,8 @@ use mathlib.Core.Option.{none, some}
 use Rattle.base.specs.Ascii.{ascii}
 use Rattle.base.specs.First.{first}
 use Rattle.base.specs.Lists.{part}
-use Rattle.text.specs.White.{spaceWidth, isWhite, trimStart, contentEnd, trimEnd, trim}
+use Rattle.white.specs.White.{spaceWidth, isWhite}
+use Rattle.text.specs.Trim.{trimStart, contentEnd, trimEnd, trim}
 use Rattle.decimal.specs.Decimal.{countIn, lastDigits, decimal}
 use Rattle.label.specs.Labels.{orNumber, authorYear, yearOnly, labelBy}
 

@@ -5,7 +5,7 @@ use mathlib.Core.Bool.{Bool}
 use mathlib.Core.Option.{Option}
 use lib.Dec.{eqb}
 use Rattle.base.specs.Pick.{pick}
-use Rattle.text.specs.White.{trim}
+use Rattle.text.specs.Trim.{trim}
 use Rattle.pool.specs.Entries.{bytesOr}
 use Rattle.decimal.specs.Decimal.{decimal}
 use Rattle.source.specs.Text.{isEmpty}

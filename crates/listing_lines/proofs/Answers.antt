@@ -10,7 +10,7 @@ use borrow.Author.Tests.{leb-true, le-ltb}
 use Rattle.base.specs.Pick.{pick}
 use Rattle.index.specs.Built.{blank}
 use Rattle.base.proofs.Bools.{and-left, and-right}
-use Rattle.lookup.specs.Groups.{Group}
+use Rattle.item.specs.Group.{Group}
 use Rattle.lookup.specs.Refusals.{tooFew}
 use Rattle.definition.specs.Lines.{inLine, groupEnd}
 use Rattle.sweep.specs.Sweep.{sweepOf}

@@ -13,11 +13,11 @@ use Rattle.base.specs.Pick.{pick}
 use Rattle.base.specs.Lists.{part, written}
 use Rattle.base.specs.Ascii.{ascii}
 use Rattle.item.specs.declared.Item.{Item}
-use Rattle.lookup.specs.Groups.{Group}
-use Rattle.lookup.specs.Rows.{recordOf, rowOf, rowsIn, rowsOf, rowsLength}
-use Rattle.lookup.proofs.RowLaws.{row-length, rows-length}
+use Rattle.item.specs.Group.{Group}
+use Rattle.rows.specs.Rows.{recordOf, rowOf, rowsIn, rowsOf, rowsLength}
+use Rattle.rows.proofs.RowLaws.{row-length, rows-length}
 use Rattle.definition.specs.Lines.{inLine, groupEnd}
-use Rattle.source.specs.Decimal.{decimal}
+use Rattle.decimal.specs.Decimal.{decimal}
 use Rattle.decimal.proofs.Laws.{decimal-short}
 use Rattle.sweep.specs.Sweep.{lentOf, sweepOf, sweepRun}
 use Rattle.sweep.specs.Rows.{Placed, groupRow, groupRows, itemCount, itemRows}

@@ -11,7 +11,8 @@ use borrow.Author.Tests.{ltb-true, eqb-true, lt-ltb}
 use Rattle.base.specs.Pick.{pick}
 use Rattle.base.specs.Lists.{byteAt}
 use Rattle.base.specs.Spans.{spanOf}
-use Rattle.text.specs.White.{isWhite, trimStart, trimEnd}
+use Rattle.white.specs.White.{isWhite}
+use Rattle.text.specs.Trim.{trimStart, trimEnd}
 use Rattle.key.specs.Keys.{keyEnd}
 use Rattle.close.specs.declared.Close.{Close}
 use Rattle.close.specs.declared.Close.the-variants.{At, Nothing}
@@ -24,7 +25,8 @@ use Rattle.index.specs.Entries.{opensAt}
 use Rattle.base.proofs.Bools.{and-left, and-right}
 use Rattle.base.proofs.Searches.{first-from, first-holds}
 use Rattle.text.proofs.Trims.{content-by}
-use Rattle.lookup.specs.Groups.{Group, GroupAnswer, Found, NoGroup, groupOf, groupAccepted, judge, groupAt}
+use Rattle.resolve.specs.Groups.{GroupAnswer, Found, NoGroup, groupAccepted, judge, groupAt}
+use Rattle.item.specs.Group.{Group, groupOf}
 use Rattle.close.proofs.Laws.{close-there}
 use Rattle.definition.specs.Lines.{groupEnd}
 use Rattle.sweep.specs.Sweep.{listed, nextAt, foundAt, sweepIn, sweepOf}

@@ -8,7 +8,7 @@ use lib.Seq.{getD-drop, drop-drop}
 use borrow.Author.Tests.{eq-eqb, ne-eqb}
 use Rattle.base.specs.Lists.{part}
 use Rattle.base.specs.Ascii.{ascii}
-use Rattle.source.specs.Decimal.{decimal}
+use Rattle.decimal.specs.Decimal.{decimal}
 use Rattle.records.specs.Records.{itemField, groupField, keyIn}
 use Rattle.listing_lines.specs.declared.Told.{Told}
 use Rattle.listing_lines.specs.Listing.{itemLine, itemLines, groupLines, countLine, refusedLine, listed}

@@ -8,7 +8,7 @@ use mir.Syntax.{w64}
 use lib.ListN.{length, take, drop, set, length-append, length-take, length-drop}
 use lib.Seq.{sets-eq}
 use Rattle.base.specs.Lists.{written}
-use Rattle.source.specs.Decimal.{decimal}
+use Rattle.decimal.specs.Decimal.{decimal}
 use Rattle.base.proofs.Areas.{copied}
 use Rattle.sweep.specs.Stops.{writtenAt}
 use Rattle.sweep.proofs.Laws.{written-none, written-length, written-more, written-part}

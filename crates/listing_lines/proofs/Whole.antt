@@ -8,7 +8,7 @@ use lib.Seq.{take-at, length-take-le}
 use borrow.Author.Tests.{lt-ltb}
 use Rattle.base.specs.Lists.{written}
 use Rattle.base.specs.Ascii.{ascii}
-use Rattle.source.specs.Decimal.{decimal}
+use Rattle.decimal.specs.Decimal.{decimal}
 use Rattle.decimal.proofs.Laws.{decimal-short}
 use Rattle.sweep.specs.Stops.{writtenAt}
 use Rattle.sweep.proofs.Laws.{written-front}

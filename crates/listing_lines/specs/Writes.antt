@@ -5,7 +5,7 @@ use mathlib.Core.List.{List, [], _∷_, _++_}
 use lib.ListN.{length, getD, take, drop, replicate}
 use Rattle.base.specs.Lists.{part, written}
 use Rattle.base.specs.Ascii.{ascii}
-use Rattle.source.specs.Decimal.{decimal}
+use Rattle.decimal.specs.Decimal.{decimal}
 use Rattle.sweep.specs.Stops.{writtenAt}
 use Rattle.annotation.specs.Call.{Annotated}
 use Rattle.annotation.specs.Halves.{areas}

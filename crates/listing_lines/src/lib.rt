@@ -8,7 +8,7 @@ ghost use mathlib.Core.List.{[], _∷_, _++_};
 ghost use Prim.Native.Nat.{_+_, _*_, _≤_, _<_};
 ghost use lib.ListN.{length, drop, take};
 ghost use Rattle.base.specs.Lists.{written};
-ghost use Rattle.source.specs.Decimal.{decimal};
+ghost use Rattle.decimal.specs.Decimal.{decimal};
 ghost use Rattle.annotation.specs.Values.{annotationValues};
 ghost use Rattle.listing_lines.specs.Listing.{itemLine, groupLines, countLine, listed, listingOf};
 ghost use Rattle.listing_lines.specs.Writes.{Put, Room, groupPart, itemPart, linesOf, answerBy, zeroes, Ready, Listed, Counts};

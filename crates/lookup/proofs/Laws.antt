@@ -1,196 +1,22 @@
--- The close of a bracket and the group at it, in the form of the code's needs: `r` is what a call gave.
-use Prim.Native.Nat.{ℕ, _+_, _-_, _*_, _≤_, _<_}
+-- What the caller of `match_citation` knows of a group that was found: `m` is what the call gave.
+use Prim.Native.Nat.{ℕ, _*_, _≤_}
 use native.Mathlib.Omega.{arith}
 use mathlib.Core.Path.{_≡_, refl, sym, _∙_, ap, subst}
 use mathlib.Core.List.{List}
-use mathlib.Core.Bool.{Bool, true, false, _&&_, _||_, not}
-use lib.ListN.{length, getD, List·getD-eq-default}
-use lib.Dec.{eqb, leb, ltb}
-use borrow.Author.Tests.{lt-ltb, le-ltb, le-leb, lt-leb, eq-eqb, ne-eqb, ltb-true, eqb-true}
+use mathlib.Core.Bool.{Bool, true, false, not}
+use lib.ListN.{length}
 use Rattle.base.specs.Pick.{pick}
-use Rattle.base.specs.Lists.{byteAt, isAt}
-use Rattle.base.proofs.Bools.{and-left, and-right}
+use Rattle.base.proofs.Bools.{and-right}
 use Rattle.close.specs.declared.Close.{Close}
 use Rattle.close.specs.declared.Close.the-variants.{At, Nothing}
-use Rattle.close.specs.Scan.{closeWithin}
-use Rattle.close.proofs.Laws.{close-found, close-there}
-use Rattle.item.specs.declared.Judged.{Judged}
-use Rattle.item.specs.declared.Judged.the-variants.{Good, Bad}
 use Rattle.item.specs.Pieces.{itemsOf}
-use Rattle.item.specs.Judge.{judgedOf}
-use Rattle.item.proofs.Judge.{good-all, good-count, bad-some}
-use Rattle.index.specs.Entries.{goodItems}
-use Rattle.lookup.specs.declared.Look.{Look}
-use Rattle.lookup.specs.declared.Look.the-variants.{At as LookAt, Nothing as LookNothing, Build}
-use Rattle.lookup.specs.declared.Matched.{Matched}
-use Rattle.lookup.specs.declared.Matched.the-variants.{Group as MatchedGroup, Nothing as NotMatched}
-use Rattle.lookup.specs.Groups.{GroupAnswer, Found, NoGroup, groupOf, barred, groupAccepted, judge}
-use Rattle.lookup.specs.Rows.{rowsLength, Writable}
-use Rattle.lookup.specs.Resolve.{isBuilt, storedClose, shortLook}
-use Rattle.lookup.specs.Looks.{settled, shortened, lookOf, closeAfter, matched, Inside, LookInside}
-
--- what an index has for a bracket --------------------------------------------------------------------------------------------------
-
-module _ (s : List ℕ) (p : ℕ) (index : List ℕ) where
-  pub stored-before : getD index p 0 ≤ p → Nothing ≡ storedClose s p index
-  unfolding storedClose
-  stored-before h = rw (le-ltb p (getD index p 0) h)
-
-  -- the index ends before the bracket
-  pub stored-past : length index ≤ p → Nothing ≡ storedClose s p index
-  stored-past h = stored-before (omega (arith, List·getD-eq-default index 0 h))
-
-  module _ (g : p < getD index p 0) where
-    pub stored-outside : length s ≤ getD index p 0 → Nothing ≡ storedClose s p index
-    unfolding storedClose
-    stored-outside h = rw (lt-ltb p (getD index p 0) g, le-ltb (getD index p 0) (length s) h)
-
-    module _ (h : getD index p 0 < length s) where
-      pub stored-other : (byteAt s (getD index p 0) ≡ 93 → ⊥) → Nothing ≡ storedClose s p index
-      unfolding storedClose
-      stored-other n = rw (lt-ltb p (getD index p 0) g, lt-ltb (getD index p 0) (length s) h, ne-eqb _ _ n)
-
-      pub stored-there : byteAt s (getD index p 0) ≡ 93 → At (getD index p 0) ≡ storedClose s p index
-      unfolding storedClose
-      stored-there e = rw (lt-ltb p (getD index p 0) g, lt-ltb (getD index p 0) (length s) h, eq-eqb _ _ e)
-
-pub ruleset stored-laws = (stored-before, stored-past, stored-outside, stored-other, stored-there)
-
--- what a bracket gives before a build, and its close after one ---------------------------------------------------------------------
-
-module _ {d : Close} where
-  pub settle-at : {c : ℕ} → d ≡ At c → LookAt c ≡ settled d
-  settle-at e = rw e
-
-  pub settle-none : d ≡ Nothing → LookNothing ≡ settled d
-  settle-none e = rw e
-
-  module _ (s : List ℕ) (p : ℕ) where
-    pub short-at : {c : ℕ} → d ≡ At c → LookAt c ≡ shortened s p d
-    unfolding shortened
-    short-at e = rw e
-
-    pub short-end : d ≡ Nothing → length s - p ≤ 64 → LookNothing ≡ shortened s p d
-    unfolding shortened
-    short-end e h = rw (e, le-leb _ _ h)
-
-    pub short-on : d ≡ Nothing → 64 < length s - p → Build ≡ shortened s p d
-    unfolding shortened
-    short-on e h = rw (e, lt-leb _ _ h)
-
-module _ (s : List ℕ) (p : ℕ) (index : List ℕ) where
-  pub look-built : {note : ℕ} {d : Close} {r : Look} → note ≡ 1 → d ≡ storedClose s p index → r ≡ settled d → r ≡ lookOf s p note index
-  unfolding lookOf
-  look-built {note} n d r = r ∙ rw (eq-eqb note 1 n, d)
-
-  pub look-short : {note : ℕ} {d : Close} {r : Look} → (note ≡ 1 → ⊥) → d ≡ closeWithin 64 s p → r ≡ shortened s p d → r ≡ lookOf s p note index
-  unfolding lookOf shortLook
-  look-short {note} n d r = r ∙ rw (ne-eqb note 1 n, d)
-
-  module _ {l : Look} where
-    pub after-at : {c : ℕ} → l ≡ LookAt c → At c ≡ closeAfter s p index l
-    unfolding closeAfter
-    after-at e = rw e
-
-    pub after-none : l ≡ LookNothing → Nothing ≡ closeAfter s p index l
-    unfolding closeAfter
-    after-none e = rw e
-
-    pub after-build : {r : Close} → l ≡ Build → r ≡ storedClose s p index → r ≡ closeAfter s p index l
-    unfolding closeAfter
-    after-build e r = r ∙ rw e
-
-pub ruleset look-laws = (settle-at, settle-none, short-at, short-end, short-on, look-built, look-short, after-at, after-none, after-build)
-
--- the group at a bracket -----------------------------------------------------------------------------------------------------------
-
-pub barred-is : (s : List ℕ) (c : ℕ) {b : ℕ} → b ≡ byteAt s (c + 1) → (eqb b 40 || eqb b 91 || eqb b 123) ≡ barred s c
-unfolding barred
-barred-is s c e = rw e
-
-module _ (s : List ℕ) (p : ℕ) {d : Close} where
-  pub match-none : d ≡ Nothing → NotMatched ≡ matched (judge s p d)
-  unfolding judge matched
-  match-none e = rw e
-
-  module _ {c : ℕ} (e : d ≡ At c) where
-    pub at-after : Inside s p d → p < c
-    at-after i = (rw e at i) .0
-
-    pub at-inside : Inside s p d → c < length s
-    at-inside i = (rw e at i) .1
-
-    pub at-byte : Inside s p d → byteAt s c ≡ 93
-    at-byte i = (rw e at i) .2
-
-    module _ {b : Bool} (q : b ≡ barred s c) where
-      pub match-barred : b ≡ true → NotMatched ≡ matched (judge s p d)
-      unfolding judge groupAccepted matched
-      match-barred t = rw (e, sym q ∙ t)
-
-      module _ {j : Judged} {n : ℕ} (f : b ≡ false) (g : j ≡ judgedOf s p c) where
-        pub match-good : j ≡ Good n → MatchedGroup c n ≡ matched (judge s p d)
-        unfolding judge groupAccepted goodItems matched groupOf
-        match-good h = rw (e, sym q ∙ f, good-all s p c (sym g ∙ h), good-count s p c (sym g ∙ h))
-
-        pub match-bad : j ≡ Bad n → NotMatched ≡ matched (judge s p d)
-        unfolding judge groupAccepted goodItems matched
-        match-bad h = rw (e, sym q ∙ f, bad-some s p c (sym g ∙ h))
-
-pub ruleset match-laws = (barred-is, match-none, at-after, at-inside, at-byte, match-barred, match-good, match-bad)
-
--- the closes that the code finds lie after their bracket, in the text, at a `]` ----------------------------------------------------
-
--- whatever an index holds
-pub stored-inside : (s : List ℕ) (p : ℕ) (index : List ℕ) → Inside s p (storedClose s p index)
-unfolding storedClose
-stored-inside s p index = go (getD index p 0) _ refl
-  where
-    go : (v : ℕ) (t : Bool) → ltb p v && isAt s v 93 ≡ t → Inside s p (pick t (At v) Nothing)
-    go v true q =
-        let k = and-right (ltb p v) _ q in
-        (ltb-true _ _ (and-left (ltb p v) _ q), ltb-true _ _ (and-left (ltb v (length s)) _ k), eqb-true _ _ (and-right (ltb v (length s)) _ k))
-    go v false q = tt
-
-pub within-inside : (limit : ℕ) (s : List ℕ) (p : ℕ) → Inside s p (closeWithin limit s p)
-within-inside limit s p = go (closeWithin limit s p) refl
-  where
-    go : (d : Close) → closeWithin limit s p ≡ d → Inside s p d
-    go (At c) e = close-there s p c (close-found s p c limit e)
-    go Nothing e = tt
-
--- and the one that a look gives
-pub look-inside : (s : List ℕ) (p note : ℕ) (index : List ℕ) → LookInside s p (lookOf s p note index)
-unfolding lookOf shortened shortLook
-look-inside s p note index = go (isBuilt note)
-  where
-    by-index : (d : Close) → Inside s p d → LookInside s p (settled d)
-    by-index (At c) i = i
-    by-index Nothing i = tt
-
-    end : (t : Bool) → LookInside s p (pick t LookNothing Build)
-    end true = tt
-    end false = tt
-
-    by-short : (d : Close) → Inside s p d → LookInside s p (shortened s p d)
-    by-short (At c) i = i
-    by-short Nothing i = end (leb (length s - p) 64)
-
-    short : Inside s p (shortLook s p)
-    short = within-inside 64 s p
-
-    go : (t : Bool) → LookInside s p (pick t (settled (storedClose s p index)) (shortened s p (shortLook s p)))
-    go true = by-index (storedClose s p index) (stored-inside s p index)
-    go false = by-short (shortLook s p) short
-
--- so is the close after it, whatever the index holds then
-pub after-inside : (s : List ℕ) (p : ℕ) (index : List ℕ) (l : Look) → LookInside s p l → Inside s p (closeAfter s p index l)
-unfolding closeAfter
-after-inside s p index (LookAt c) i = i
-after-inside s p index LookNothing i = tt
-after-inside s p index Build i = stored-inside s p index
-
--- what a caller knows of a group that was found ------------------------------------------------------------------------------------
+use Rattle.item.specs.Group.{goodItems, groupOf}
+use Rattle.resolve.specs.declared.Matched.{Matched}
+use Rattle.resolve.specs.declared.Matched.the-variants.{Group as MatchedGroup, Nothing as NotMatched}
+use Rattle.resolve.specs.Groups.{GroupAnswer, Found, NoGroup, barred, groupAccepted, judge}
+use Rattle.resolve.specs.Looks.{matched, Inside}
+use Rattle.resolve.proofs.Laws.{at-after, at-inside}
+use Rattle.rows.specs.Rows.{rowsLength, Writable}
 
 module _ (s : List ℕ) (p : ℕ) (d : Close) where
   matched-is : {c n : ℕ} → matched (judge s p d) ≡ MatchedGroup c n

@@ -10,10 +10,10 @@ use borrow.Author.Tests.{lt-ltb, le-ltb, eq-eqb, ne-eqb, ltb-true, ltb-false}
 use Rattle.base.specs.Pick.{pick}
 use Rattle.base.specs.Lists.{byteAt, isAt}
 use Rattle.base.proofs.Bools.{and-left}
-use Rattle.text.specs.Utf8.{tooLong, utf8}
+use Rattle.utf8.specs.Utf8.{tooLong, utf8}
 use Rattle.text.specs.Escape.{escapedAt}
-use Rattle.text.specs.Refusal.{afterText, textRefusal}
-use Rattle.text.proofs.Characters.{refused-after, accepted-after}
+use Rattle.utf8.specs.Refusal.{afterText, textRefusal}
+use Rattle.utf8.proofs.Characters.{refused-after, accepted-after}
 use Rattle.locator.specs.declared.Locator.{Locator}
 use Rattle.locator.specs.Locators.{locatorOf}
 use Rattle.index.specs.Entries.{opensAt}

@@ -1,36 +1,37 @@
 -- The two halves of a look-up: in the form of the code's needs, and together, with the build between them, the call as run.
-use Prim.Native.Nat.{ℕ, _-_, _*_, _/_, _≤_, _<_}
+use Prim.Native.Nat.{ℕ, _*_, _/_, _≤_, _<_}
 use native.Mathlib.Omega.{arith}
-use mathlib.Core.Path.{_≡_, refl, sym, _∙_, ap, subst}
+use mathlib.Core.Path.{_≡_, refl, sym, _∙_, ap}
 use mathlib.Core.List.{List, [], _∷_}
-use mathlib.Core.Bool.{Bool, true, false, _&&_, not}
+use mathlib.Core.Bool.{Bool, true, false, _&&_}
 use lib.ListN.{length}
-use lib.Dec.{eqb, leb, ltb}
-use borrow.Author.Tests.{lt-ltb, le-ltb, leb-true, leb-false, eq-eqb, ne-eqb, eqb-true}
+use lib.Dec.{eqb, ltb}
+use borrow.Author.Tests.{lt-ltb, le-ltb, eq-eqb, ne-eqb, eqb-true}
 use Rattle.base.specs.Pick.{pick}
 use Rattle.base.specs.Lists.{written}
 use Rattle.base.proofs.Bools.{and-left}
 use Rattle.close.specs.declared.Close.{Close}
-use Rattle.close.specs.declared.Close.the-variants.{At, Nothing}
 use Rattle.index.specs.declared.Bracket.{Bracket}
 use Rattle.index.specs.Built.{builtIndex, builtRecords}
-use Rattle.lookup.specs.declared.Look.{Look}
-use Rattle.lookup.specs.declared.Look.the-variants.{Nothing as LookNothing, Build}
+use Rattle.resolve.specs.declared.Look.{Look}
 use Rattle.lookup.specs.declared.LookUp.{LookUp}
 use Rattle.lookup.specs.declared.LookUp.the-variants.{Accepted, Refused}
-use Rattle.lookup.specs.declared.Matched.{Matched}
-use Rattle.lookup.specs.declared.Matched.the-variants.{Group as MatchedGroup, Nothing as NotMatched}
+use Rattle.resolve.specs.declared.Matched.{Matched}
+use Rattle.resolve.specs.declared.Matched.the-variants.{Group as MatchedGroup, Nothing as NotMatched}
 use Rattle.lookup.specs.declared.Prepared.{Prepared}
 use Rattle.lookup.specs.declared.Prepared.the-variants.{Refused as NotReady, Ready}
-use Rattle.lookup.specs.Groups.{GroupAnswer, Found, NoGroup, groupOf, judge}
-use Rattle.lookup.specs.Rows.{rowsOf, rowsLength}
-use Rattle.lookup.specs.Resolve.{isBuilt, storedClose, shortLook, orElse, isNothing, closeAsRun, wantsBuild, groupAsRun, noteAfter, indexAfter, recordsAfter}
-use Rattle.lookup.specs.Looks.{settled, shortened, lookOf, isBuild, closeAfter, matched, Inside}
+use Rattle.resolve.specs.Groups.{GroupAnswer, Found, NoGroup, judge}
+use Rattle.item.specs.Group.{groupOf}
+use Rattle.rows.specs.Rows.{rowsOf, rowsLength}
+use Rattle.resolve.specs.Resolve.{closeAsRun, wantsBuild, groupAsRun, noteAfter, indexAfter, recordsAfter}
+use Rattle.resolve.specs.Looks.{lookOf, isBuild, closeAfter, matched, Inside}
 use Rattle.lookup.specs.Refusals.{lookUpRefusal}
 use Rattle.lookup.specs.LookUps.{lookUpRefused, lookUpGives, lookUpAnswers, lookedUp, lookUpBuilds, ranWith, lookUpRun}
 use Rattle.lookup.specs.Values.{lookUpValues, lookUpNumbers}
 use Rattle.lookup.specs.Steps.{preparedOf, buildWanted, Fine, answered, finishedOf, finishedItems}
-use Rattle.lookup.proofs.Laws.{look-inside, after-inside, matched-none, matched-found, matched-count}
+use Rattle.lookup.proofs.Laws.{matched-none, matched-found, matched-count}
+use Rattle.resolve.proofs.Laws.{look-inside, after-inside}
+use Rattle.resolve.proofs.Runs.{look-wants, look-close}
 use Rattle.lookup.proofs.RefusalLaws.{Unrefused, unrefused}
 
 -- in the form of the needs ---------------------------------------------------------------------------------------------------------
@@ -141,50 +142,6 @@ module _ (s : List ℕ) (at note : ℕ) (index items : List ℕ) {p : Prepared} 
 pub ruleset finish-laws = (finish-refused, finish-kept, ready-short, ready-there, ready-inside, finish-answer, finish-items)
 
 -- the call as run ------------------------------------------------------------------------------------------------------------------
-
-past-64 : (n : ℕ) → isBuild (pick (leb n 64) LookNothing Build) ≡ ltb 64 n
-past-64 n = go (leb n 64) refl
-  where
-    go : (t : Bool) → leb n 64 ≡ t → isBuild (pick t LookNothing Build) ≡ ltb 64 n
-    go true q = sym (le-ltb 64 n (leb-true n 64 q))
-    go false q = sym (lt-ltb 64 n (leb-false n 64 q))
-
-module _ (s : List ℕ) (at note : ℕ) (index : List ℕ) where
-  -- a look asks for the build exactly where the call as run wants one
-  pub look-wants : isBuild (lookOf s at note index) ≡ wantsBuild s at note
-  unfolding lookOf shortened wantsBuild
-  look-wants = go (isBuilt note) (shortLook s at) (storedClose s at index)
-    where
-      go : (t : Bool) (c d : Close) → isBuild (pick t (settled d) (shortened s at c)) ≡ not t && isNothing c && ltb 64 (length s - at)
-      go true c (At k) = refl
-      go true c Nothing = refl
-      go false (At k) d = refl
-      go false Nothing d = past-64 (length s - at)
-
-  -- and then the close after it is that of the call as run
-  pub look-close : closeAfter s at (pick (isBuild (lookOf s at note index)) (builtIndex s index) index) (lookOf s at note index) ≡ closeAsRun s at note index
-  unfolding lookOf shortened closeAsRun closeAfter
-  look-close = go (isBuilt note) (shortLook s at) (storedClose s at index)
-    where
-      end : (t : Bool)
-          → closeAfter s at (pick (isBuild (pick t LookNothing Build)) (builtIndex s index) index) (pick t LookNothing Build)
-          ≡ pick t Nothing (storedClose s at (builtIndex s index))
-      end true = refl
-      end false = refl
-
-      go : (t : Bool) (c d : Close)
-          → closeAfter s at (pick (isBuild (pick t (settled d) (shortened s at c))) (builtIndex s index) index) (pick t (settled d) (shortened s at c))
-          ≡ pick t d (orElse c (pick (leb (length s - at) 64) Nothing (storedClose s at (builtIndex s index))))
-      go true c (At k) = refl
-      go true c Nothing = refl
-      go false (At k) d = refl
-      go false Nothing d = end (leb (length s - at) 64)
-
-  -- which so lies after its bracket, in the text, at a `]`
-  pub run-inside : Inside s at (closeAsRun s at note index)
-  run-inside =
-      subst (λ (d : Close). Inside s at d) look-close
-      (after-inside s at (pick (isBuild (lookOf s at note index)) (builtIndex s index) index) (lookOf s at note index) (look-inside s at note index))
 
 -- the first half gives what the second asks for
 pub prepared-fine : (s : List ℕ) (at note : ℕ) (index : List ℕ) (m : ℕ) → Fine s at (preparedOf s at note index m)

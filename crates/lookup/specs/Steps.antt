@@ -9,10 +9,10 @@ use Rattle.lookup.specs.declared.LookUp.{LookUp}
 use Rattle.lookup.specs.declared.LookUp.the-variants.{Accepted, Refused}
 use Rattle.lookup.specs.declared.Prepared.{Prepared}
 use Rattle.lookup.specs.declared.Prepared.the-variants.{Refused as NotReady, Ready}
-use Rattle.lookup.specs.Groups.{GroupAnswer, Found, NoGroup, judge}
-use Rattle.lookup.specs.Rows.{rowsLength}
-use Rattle.lookup.specs.Resolve.{noteAfter}
-use Rattle.lookup.specs.Looks.{lookOf, isBuild, closeAfter, LookInside}
+use Rattle.resolve.specs.Groups.{GroupAnswer, Found, NoGroup, judge}
+use Rattle.rows.specs.Rows.{rowsLength}
+use Rattle.resolve.specs.Resolve.{noteAfter}
+use Rattle.resolve.specs.Looks.{lookOf, isBuild, closeAfter, LookInside}
 use Rattle.lookup.specs.Refusals.{lookUpRefusal}
 use Rattle.lookup.specs.LookUps.{lookUpAnswers}
 

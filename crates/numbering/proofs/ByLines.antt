@@ -13,8 +13,8 @@ use Rattle.base.specs.Last.{last}
 use Rattle.base.specs.Lists.{same}
 use Rattle.base.specs.Sorted.{Each}
 use Rattle.item.specs.declared.Item.{Item}
-use Rattle.lookup.specs.Groups.{Group}
-use Rattle.lookup.specs.Rows.{itemWidth, marksOf, recordOf, rowOf, rowsIn, rowsOf}
+use Rattle.item.specs.Group.{Group}
+use Rattle.rows.specs.Rows.{itemWidth, marksOf, recordOf, rowOf, rowsIn, rowsOf}
 use Rattle.pool.specs.Layout.{entriesOf}
 use Rattle.sweep.specs.Rows.{Placed, groupWidth, groupRow, groupRows, sweptFrom, itemRows}
 use Rattle.definition.specs.Lines.{startsLine, colonAfter, bareItem, onlyKey, defines, inLine, groupEnd, nextOpen, keyOf, definedKey}

@@ -9,7 +9,7 @@ use lib.Dec.{eqb, leb}
 use borrow.Author.Tests.{lt-ltb, le-ltb, leb-true, le-leb, lt-leb, eq-eqb, ne-eqb}
 use Rattle.base.specs.Lists.{byteAt, part}
 use Rattle.base.proofs.Parts.{part-is, part-length}
-use Rattle.text.specs.Utf8.{utf8}
+use Rattle.utf8.specs.Utf8.{utf8}
 use Rattle.pool.specs.Fields.{fieldEnd, fieldAt, fieldsOf, fill, follows, contentGood, fieldsGood, entryGood}
 use Rattle.pool.specs.Layout.{countOf, offsetOf, endOf, entriesGood, laidOut, wellFormed}
 use Rattle.pool.specs.Steps.{fieldGood, goodFrom, pairGood}

@@ -6,7 +6,7 @@ use lib.ListN.{length, getD}
 use lib.Dec.{eqb, ltb}
 use Rattle.base.specs.Pick.{pick}
 use Rattle.base.specs.Lists.{part}
-use Rattle.lookup.specs.Rows.{itemWidth}
+use Rattle.rows.specs.Rows.{itemWidth}
 use Rattle.sweep.specs.Rows.{groupWidth}
 
 -- the number at place `c` of item record `k`, and of group record `g`

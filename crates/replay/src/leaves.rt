@@ -5,7 +5,7 @@ use crate::body::number;
 
 // Whether the text is UTF-8.
 pub fn utf8_agrees(body: &[u8]) -> bool {
-    flag(text::is_utf8(after(body, 2))) == number(body, 0)
+    flag(utf8::is_utf8(after(body, 2))) == number(body, 0)
 }
 
 // Whether a place is escaped.

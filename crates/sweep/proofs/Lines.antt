@@ -16,8 +16,8 @@ use Rattle.item.specs.declared.Parsed.the-variants.{Good, Bad}
 use Rattle.item.specs.Items.{itemOf, isGood}
 use Rattle.item.specs.Pieces.{partsAt, pieces, itemsStart, piecesOf, allGood, kept, itemsIn, itemsOf}
 use Rattle.item.proofs.Pieces.{piece-by, pieces-more, pieces-last, items-more, items-last, first-good, rest-good, items-count}
-use Rattle.index.specs.Entries.{goodItems}
-use Rattle.lookup.specs.Groups.{groupOf, barred, groupAccepted}
+use Rattle.item.specs.Group.{goodItems, groupOf}
+use Rattle.resolve.specs.Groups.{barred, groupAccepted}
 use Rattle.definition.specs.Lines.{breakAt, startsLine, bareItem, onlyKey, colonAfter, defines, inLine}
 use Rattle.sweep.specs.Steps.{GroupFrom}
 use Rattle.sweep.proofs.Sizes.{item-size}

@@ -13,10 +13,10 @@ use Rattle.base.specs.Pick.{pick}
 use Rattle.base.specs.Lists.{written}
 use Rattle.base.proofs.Bools.{and-left, and-right}
 use Rattle.item.specs.Pieces.{itemsOf}
-use Rattle.index.specs.Entries.{goodItems}
-use Rattle.lookup.specs.Groups.{groupOf, barred, groupAccepted}
-use Rattle.lookup.specs.Rows.{rowsOf, rowsLength}
-use Rattle.lookup.proofs.RowLaws.{rows-length}
+use Rattle.item.specs.Group.{goodItems, groupOf}
+use Rattle.resolve.specs.Groups.{barred, groupAccepted}
+use Rattle.rows.specs.Rows.{rowsOf, rowsLength}
+use Rattle.rows.proofs.RowLaws.{rows-length}
 use Rattle.definition.specs.Lines.{inLine}
 use Rattle.sweep.specs.declared.SweepState.{SweepState}
 use Rattle.sweep.specs.Rows.{groupRow, groupRows, itemCount, itemRows, sweptFrom, insideAfter, endAfter}

@@ -11,15 +11,15 @@ use Rattle.base.specs.Lists.{byteAt}
 use Rattle.text.specs.Escape.{escapedAt}
 use Rattle.close.specs.declared.Close.the-variants.{At}
 use Rattle.index.specs.Entries.{opensAt}
-use Rattle.lookup.specs.declared.Look.{Look}
-use Rattle.lookup.specs.declared.Look.the-variants.{At as LookAt, Nothing as LookNothing, Build as LookBuild}
-use Rattle.lookup.specs.declared.Matched.{Matched}
-use Rattle.lookup.specs.declared.Matched.the-variants.{Group as MatchedGroup, Nothing as NotMatched}
-use Rattle.lookup.specs.Groups.{GroupAnswer, Found, NoGroup, judge}
-use Rattle.lookup.specs.Resolve.{closeAsRun, groupAsRun, wantsBuild}
-use Rattle.lookup.specs.Looks.{lookOf, isBuild, closeAfter, matched, Inside}
-use Rattle.lookup.proofs.Laws.{look-inside}
-use Rattle.lookup.proofs.Steps.{look-wants, look-close}
+use Rattle.resolve.specs.declared.Look.{Look}
+use Rattle.resolve.specs.declared.Look.the-variants.{At as LookAt, Nothing as LookNothing, Build as LookBuild}
+use Rattle.resolve.specs.declared.Matched.{Matched}
+use Rattle.resolve.specs.declared.Matched.the-variants.{Group as MatchedGroup, Nothing as NotMatched}
+use Rattle.resolve.specs.Groups.{GroupAnswer, Found, NoGroup, judge}
+use Rattle.resolve.specs.Resolve.{closeAsRun, groupAsRun, wantsBuild}
+use Rattle.resolve.specs.Looks.{lookOf, isBuild, closeAfter, matched, Inside}
+use Rattle.resolve.proofs.Laws.{look-inside}
+use Rattle.resolve.proofs.Runs.{look-wants, look-close}
 use Rattle.sweep.specs.declared.Step.the-variants.{Next, Group as StepGroup, Build}
 use Rattle.sweep.specs.Stops.{foundWith, wantsAt}
 use Rattle.sweep.specs.Steps.{stepOf, stepAt}

@@ -12,13 +12,14 @@ use Rattle.close.specs.declared.Close.{Close}
 use Rattle.close.specs.declared.Close.the-variants.{At, Nothing}
 use Rattle.index.specs.Entries.{opensAt}
 use Rattle.index.specs.Built.{builtIndex}
-use Rattle.lookup.specs.Groups.{Group, GroupAnswer, Found, NoGroup, groupOf, groupAccepted, judge}
-use Rattle.lookup.specs.Resolve.{storedClose, shortLook, orElse, isNothing, closeAsRun, groupAsRun, wantsBuild, noteAfter, indexAfter, recordsAfter}
+use Rattle.resolve.specs.Groups.{GroupAnswer, Found, NoGroup, groupAccepted, judge}
+use Rattle.item.specs.Group.{Group, groupOf}
+use Rattle.resolve.specs.Resolve.{storedClose, shortLook, orElse, isNothing, closeAsRun, groupAsRun, wantsBuild, noteAfter, indexAfter, recordsAfter}
 use Rattle.sweep.specs.Sweep.{Lent, swept, listed, nextAt, lentAfter, foundRun, buildsAt, sweepRunIn, sweepRun}
 use Rattle.sweep.specs.Stops.{Stop, stop, foundWith, wantsAt, after, stopIn, stopFrom}
 use Rattle.sweep.specs.Facts.{goneOn, SweepInTwo}
-use Rattle.lookup.specs.Looks.{Inside}
-use Rattle.lookup.proofs.Steps.{run-inside}
+use Rattle.resolve.specs.Looks.{Inside}
+use Rattle.resolve.proofs.Runs.{run-inside}
 
 -- a sweep goes on by a byte or more
 next-judged : (s : List ℕ) (p : ℕ) (c : Close) → Inside s p c → p < nextAt p (judge s p c)

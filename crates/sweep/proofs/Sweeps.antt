@@ -9,10 +9,11 @@ use lib.Dec.{ltb}
 use Rattle.base.specs.Pick.{pick}
 use Rattle.index.specs.Entries.{opensAt}
 use Rattle.index.proofs.Built.{length-built, take-built}
-use Rattle.lookup.specs.Groups.{Group, GroupAnswer, NoGroup, groupAt}
-use Rattle.lookup.specs.Resolve.{groupAsRun, noteAfter, indexAfter}
-use Rattle.lookup.specs.Lefts.{Left}
-use Rattle.lookup.proofs.AtBracket.{bracket-true}
+use Rattle.resolve.specs.Groups.{GroupAnswer, NoGroup, groupAt}
+use Rattle.item.specs.Group.{Group}
+use Rattle.resolve.specs.Resolve.{groupAsRun, noteAfter, indexAfter}
+use Rattle.resolve.specs.Lefts.{Left}
+use Rattle.resolve.proofs.AtBracket.{bracket-true}
 use Rattle.sweep.specs.Sweep.{Lent, Swept, swept, listed, nextAt, lentAfter, foundAt, foundRun, buildsAt, sweepIn, sweepRunIn}
 
 -- what a look-up leaves is again such an index, as long as it was

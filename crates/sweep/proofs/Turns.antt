@@ -15,10 +15,11 @@ use Rattle.close.specs.declared.Close.{Close}
 use Rattle.close.specs.declared.Close.the-variants.{At, Nothing}
 use Rattle.item.specs.Pieces.{itemsOf}
 use Rattle.index.specs.Entries.{opensAt}
-use Rattle.lookup.specs.Groups.{Group, GroupAnswer, Found, NoGroup, groupOf, groupAccepted, judge}
-use Rattle.lookup.specs.Resolve.{closeAsRun, groupAsRun}
-use Rattle.lookup.specs.Looks.{Inside}
-use Rattle.lookup.proofs.Steps.{run-inside}
+use Rattle.resolve.specs.Groups.{GroupAnswer, Found, NoGroup, groupAccepted, judge}
+use Rattle.item.specs.Group.{Group, groupOf}
+use Rattle.resolve.specs.Resolve.{closeAsRun, groupAsRun}
+use Rattle.resolve.specs.Looks.{Inside}
+use Rattle.resolve.proofs.Runs.{run-inside}
 use Rattle.sweep.specs.declared.SweepState.{SweepState}
 use Rattle.sweep.specs.declared.Step.{Step}
 use Rattle.sweep.specs.declared.Step.the-variants.{Next, Group as StepGroup, Build}

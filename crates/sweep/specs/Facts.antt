@@ -3,7 +3,7 @@ use Prim.Native.Nat.{ℕ, _/_, _≤_}
 use mathlib.Core.List.{List, [], _++_}
 use mathlib.Core.Path.{_≡_}
 use lib.ListN.{length}
-use Rattle.lookup.specs.Groups.{Group}
+use Rattle.item.specs.Group.{Group}
 use Rattle.sweep.specs.Sweep.{Lent, Swept, swept, lentAfter, sweepOf, sweepRun}
 use Rattle.sweep.specs.Rows.{itemCount}
 use Rattle.sweep.specs.Stops.{Stop, stopFrom}

@@ -4,8 +4,8 @@ use mathlib.Core.List.{List, [], _∷_, _++_}
 use mathlib.Core.Bool.{Bool, true, false}
 use lib.ListN.{length}
 use Rattle.base.specs.Pick.{pick}
-use Rattle.lookup.specs.Groups.{Group}
-use Rattle.lookup.specs.Rows.{rowsOf}
+use Rattle.item.specs.Group.{Group}
+use Rattle.rows.specs.Rows.{rowsOf}
 use Rattle.definition.specs.Lines.{inLine, groupEnd}
 
 -- a group of the sweep, with its standing

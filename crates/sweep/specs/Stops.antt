@@ -7,9 +7,10 @@ use lib.ListN.{length, take, drop}
 use lib.Dec.{leb, ltb}
 use Rattle.base.specs.Pick.{pick}
 use Rattle.index.specs.Entries.{opensAt}
-use Rattle.lookup.specs.Groups.{Group, GroupAnswer, NoGroup}
-use Rattle.lookup.specs.Resolve.{groupAsRun, wantsBuild}
-use Rattle.lookup.specs.Rows.{itemWidth}
+use Rattle.resolve.specs.Groups.{GroupAnswer, NoGroup}
+use Rattle.item.specs.Group.{Group}
+use Rattle.resolve.specs.Resolve.{groupAsRun, wantsBuild}
+use Rattle.rows.specs.Rows.{itemWidth}
 use Rattle.sweep.specs.declared.SweepState.{SweepState}
 use Rattle.sweep.specs.Sweep.{listed, nextAt}
 use Rattle.sweep.specs.Rows.{groupWidth, groupRows, itemCount, itemRows, sweptFrom, insideAfter, endAfter}

@@ -7,11 +7,11 @@ use definition::line::starts_line;
 use item::Parsed;
 use item::items_start;
 use item::parse_item;
-use lookup::Look;
-use lookup::Matched;
-use lookup::look_at;
-use lookup::match_citation;
-use lookup::write_rows;
+use resolve::Look;
+use resolve::Matched;
+use resolve::look_at;
+use resolve::match_citation;
+use rows::write_rows;
 use text::is_escaped_at;
 ghost use mathlib.Core.Path.{_≡_};
 ghost use mathlib.Core.Bool.{true, false};
@@ -21,9 +21,9 @@ ghost use mathlib.Core.List.{[], _∷_};
 ghost use Rattle.base.specs.Pick.{pick};
 ghost use Rattle.base.specs.Lists.{byteAt};
 ghost use Rattle.item.specs.Pieces.{itemsOf};
-ghost use Rattle.lookup.specs.Groups.{groupOf};
+ghost use Rattle.item.specs.Group.{groupOf};
 ghost use Rattle.definition.specs.Lines.{onlyKey, defines, inLine};
-ghost use Rattle.lookup.specs.Rows.{rowsOf};
+ghost use Rattle.rows.specs.Rows.{rowsOf};
 ghost use Rattle.sweep.specs.Stops.{
   writtenAt,
   startState,

@@ -5,7 +5,8 @@ ghost use mathlib.Core.Path.{_≡_};
 ghost use Prim.Native.Nat.{_≤_, _<_};
 ghost use lib.ListN.{length};
 ghost use Rattle.text.specs.Escape.{escapedAt};
-ghost use Rattle.text.specs.White.{isWhite, trimStart, trimEnd};
+ghost use Rattle.white.specs.White.{isWhite};
+ghost use Rattle.text.specs.Trim.{trimStart, trimEnd};
 
 // "Escape and white space are read by a reader that keeps the text and a position."
 pub struct Reader<'a> {
@@ -26,7 +27,7 @@ pub fn is_white<'a>(r: Reader<'a>) -> bool
     requires { ⌜ r .at < length (now (r .text)) ⌝ }
     ensures { λ b. ⌜ b ≡ isWhite (now (r .entry .text)) (r .entry .at) ⌝ }
 {
-    crate::is_white_byte(r.text, r.at)
+    white::is_white_byte(r.text, r.at)
 }
 
 // The reader moved on to the first byte before `end` that is not white, or to `end`.

@@ -9,7 +9,7 @@ use lib.Seq.{getD-append-add, getD-set-other}
 use Rattle.base.specs.declared.Span.{Span}
 use Rattle.base.specs.Spans.{span}
 use Rattle.item.specs.declared.Item.{Item}
-use Rattle.lookup.specs.Rows.{itemWidth, recordOf}
+use Rattle.rows.specs.Rows.{itemWidth, recordOf}
 use Rattle.sweep.specs.Rows.{Placed, placed, groupWidth, groupRow}
 use Rattle.records.specs.Records.{itemField, groupField}
 use Rattle.uses.specs.Uses.{setLast}

@@ -1,5 +1,5 @@
-use Rattle.lookup.proofs.AtBracket.{bracket-true}
-use Rattle.lookup.proofs.Parts.{group-in-order}
+use Rattle.resolve.proofs.AtBracket.{bracket-true}
+use Rattle.resolve.proofs.Parts.{group-in-order}
 use Rattle.lookup.proofs.LooksUp.{look-up-true, look-up-leaves, look-up-keeps}
 use Rattle.lookup.proofs.theorems.Statement.{statement}
 use Rattle.lookup.proofs.theorems.Tie as tie

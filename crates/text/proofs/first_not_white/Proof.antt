@@ -3,7 +3,7 @@
 use Prim.Native.Nat.{_-_}
 use mathlib.Core.Path.{_≡_}
 use borrow.Author.Needs.{needs}
-use Rattle.text.specs.White.{trimStart}
+use Rattle.text.specs.Trim.{trimStart}
 use Rattle.text.proofs.Laws.{trim-laws}
 use Rattle.text.proofs.first_not_white.Statement.{statement}
 use Rattle.text.proofs.first_not_white.Tie as tie

@@ -35,7 +35,7 @@ use denote.Triple.Table.{entered, cited}
 use denote.Triple.Walked.{says, needs, Stays, stay-none, stay-none-slice, walkOf, goes-none, goes-none-slice, ends-at, walked, walk-meets}
 use denote.Exit.{yes}
 use Rattle.base.proofs.Calling.{calls-row}
-use Rattle.text.specs.White.{isWhite}
+use Rattle.white.specs.White.{isWhite}
 use Rattle.text.proofs.reader.Held.{reader, slice, mach, Text, Held, made}
 use Rattle.text.proofs.reader.is_white as g
 use Rattle.text.proofs.reader.is_white.Symbol as g-def

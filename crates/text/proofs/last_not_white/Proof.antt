@@ -3,7 +3,7 @@
 use Prim.Native.Nat.{_-_, _≤_}
 use mathlib.Core.Path.{_≡_}
 use borrow.Author.Needs.{needs}
-use Rattle.text.specs.White.{trimEnd}
+use Rattle.text.specs.Trim.{trimEnd}
 use Rattle.text.proofs.Laws.{trim-laws}
 use Rattle.text.proofs.last_not_white.Statement.{statement}
 use Rattle.text.proofs.last_not_white.Tie as tie

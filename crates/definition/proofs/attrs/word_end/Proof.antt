@@ -5,7 +5,7 @@ use mathlib.Core.Path.{_≡_}
 use lib.ListN.{length}
 use borrow.Author.Needs.{needs}
 use Rattle.base.specs.First.{first}
-use Rattle.text.specs.White.{isWhite}
+use Rattle.white.specs.White.{isWhite}
 use Rattle.definition.specs.Attributes.{wordEnd}
 use Rattle.definition.proofs.Words.{word-laws}
 use Rattle.definition.proofs.attrs.word_end.Statement.{statement}

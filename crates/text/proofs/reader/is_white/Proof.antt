@@ -33,13 +33,13 @@ use denote.Triple.Table.{entered, cited}
 use denote.Triple.Walked.{says, needs, Stays, stay-none, walkOf, goes-none, ends-at, walked, walk-meets}
 use denote.Exit.{yes}
 use Rattle.base.proofs.Calling.{calls-row}
-use Rattle.text.specs.White.{isWhite}
+use Rattle.white.specs.White.{isWhite}
 use Rattle.text.specs.declared.reader.Reader.{Reader}
 use Rattle.text.proofs.reader.Held.{B, slice, mach, Typed, typed, reader-tells, Text, Held, held}
-use Rattle.text.proofs.is_white_byte as g
-use Rattle.text.proofs.is_white_byte.Symbol as g-def
-use Rattle.text.proofs.is_white_byte.Symbol.{name as #text·is-white-byte}
-use Rattle.text.proofs.is_white_byte.Met as g-thm
+use Rattle.white.proofs.is_white_byte as g
+use Rattle.white.proofs.is_white_byte.Symbol as g-def
+use Rattle.white.proofs.is_white_byte.Symbol.{name as #white·is-white-byte}
+use Rattle.white.proofs.is_white_byte.Met as g-thm
 use Rattle.text.proofs.reader.is_white.Key.{name as #text·reader·is-white}
 use Rattle.text.proofs.reader.is_white as f
 use Rattle.text.proofs.reader.is_white.Statement as stated
@@ -66,7 +66,7 @@ module _ {M : Type 1} (𝓤 : URA M) (H : Heap 𝓤) (A : Atoms 𝓤) (W : Given
       suffices ! _ (ends-at 𝓤 H A f.ended stayed (f.clauses 𝓤 H A mem run) W (((κ, tt), (q, tt), tt, (d, tt), (mach d ∷ [], tt)), tt) (vbool found) found (tt, tt) (tt, tt)) $ says ! refl $
       nothing ! $ move ! (1 ∷ 0 ∷ []) $ join ! $ frame ! $ nothing ! $ move ! (1 ∷ 0 ∷ []) $ fjoin ! $ frame ! $ owned ! Boolean (Is Boolean) (bool-makes 𝓤 H A W) found _ refl $ done !
 
-  module _ (C : Calls 𝓤 H) (Λ : Loops 𝓤 H) (fm : FmC 𝓤 H (W .laws) C) (known : Triple 𝓤 (C #text·is-white-byte) (IsWhiteByte 𝓤 H A mem run)) where
+  module _ (C : Calls 𝓤 H) (Λ : Loops 𝓤 H) (fm : FmC 𝓤 H (W .laws) C) (known : Triple 𝓤 (C #white·is-white-byte) (IsWhiteByte 𝓤 H A mem run)) where
     walk : Typed (named 0) d → d .at < length (now (d .text)) → ent 𝓤 (onEntry 𝓤 H A f.signature (κ, tt) (q, tt) (d, tt) (mach d ∷ [], tt)) (WpFn 𝓤 H C Λ code.function (mach d ∷ []) Post)
     walk wt within =
         qed W ((‵ (flft κ q) ⊛ ‵ ftrue) ∷ ‵ (owns (B (κ, tt) ∷ []) (d, tt) (mach d ∷ [], tt)) ∷ []) ∵ enter ! C Λ code.function (mach d ∷ []) _ $
@@ -87,7 +87,7 @@ module _ {M : Type 1} (𝓤 : URA M) (H : Heap 𝓤) (A : Atoms 𝓤) (W : Given
         move ! (10 ∷ 11 ∷ []) $ free1 ! $ move ! (8 ∷ 9 ∷ []) $ free1 ! $ move ! (6 ∷ 7 ∷ []) $ free1 ! $ move ! (4 ∷ 5 ∷ []) $ free1 ! $ free0 ! $ keep ! (0 ∷ 3 ∷ []) $ by ! exits)))))
 
 is-white-meets : {M : Type 1} (𝓤 : URA M) (H : Heap 𝓤) (A : Atoms 𝓤) (W : Given 𝓤 H A) (mem : Memory → SProp 𝓤) (run : Routine → Fun 𝓤) (𝓣 : Tables 𝓤 H)
-    → Triple 𝓤 (𝓣 .C #text·is-white-byte) (IsWhiteByte 𝓤 H A mem run)
+    → Triple 𝓤 (𝓣 .C #white·is-white-byte) (IsWhiteByte 𝓤 H A mem run)
     → Meets 𝓤 H A f.signature (WpFn 𝓤 H (𝓣 .C) (𝓣 .Λ) code.function) (f.spec 𝓤 H A mem run)
 is-white-meets 𝓤 H A W mem run 𝓣 known =
     walk-meets 𝓤 H A f.ended stayed W (goes-none 𝓤 H A W 1 B yes (λ κs x f. refl), tt) (f.clauses 𝓤 H A mem run)
@@ -101,4 +101,4 @@ is-white-spec 𝓤 H 𝓜 𝓖 𝓡 =
     entered 𝓤 H (tripleOf 𝓤 H (𝓖 .A) f.signature (f.spec 𝓤 H (𝓖 .A) (𝓜 .mem) (𝓡 .run)))
     (tables 𝓤 H 𝓜 𝓡 code.env .C) (tables 𝓤 H 𝓜 𝓡 code.env .Λ) #text·reader·is-white code.function (code.unfolded 𝓤 H 𝓜 𝓡)
     (is-white-meets 𝓤 H (𝓖 .A) (givenOf 𝓤 H 𝓜 𝓖) (𝓜 .mem) (𝓡 .run) (tablesOf 𝓤 H 𝓜 (tables 𝓤 H 𝓜 𝓡 code.env))
-    (cited 𝓤 H (IsWhiteByte 𝓤 H (𝓖 .A) (𝓜 .mem) (𝓡 .run)) 𝓜 𝓡 code.env #text·is-white-byte g-def.routine code.calls-text·is-white-byte (g-thm.met 𝓤 H 𝓜 𝓖 𝓡)))
+    (cited 𝓤 H (IsWhiteByte 𝓤 H (𝓖 .A) (𝓜 .mem) (𝓡 .run)) 𝓜 𝓡 code.env #white·is-white-byte g-def.routine code.calls-white·is-white-byte (g-thm.met 𝓤 H 𝓜 𝓖 𝓡)))

@@ -1,0 +1,5 @@
+pub mod Groups
+pub mod Resolve
+pub mod Looks
+pub mod Lefts
+pub mod Facts
