@@ -16,7 +16,7 @@ use Rattle.text.specs.White.{isWhite, trimStart, contentEnd, trimEnd, trim}
 use Rattle.text.proofs.Trims.{start-by, start-plain, end-from, end-by, content-behind}
 use Rattle.pool.specs.Numbers.{signed}
 use Rattle.pool.specs.Entries.{bytesOr}
-use Rattle.source.specs.Text.{isEmpty}
+use Rattle.source.specs.Entry.{isEmpty}
 use Rattle.source.specs.Decimal.{decimal, signedDecimal}
 use Rattle.definition.specs.declared.Author.{Author}
 use Rattle.definition.specs.declared.Year.{Year}

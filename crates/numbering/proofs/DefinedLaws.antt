@@ -7,7 +7,7 @@ use mathlib.Core.Option.{none}
 use lib.ListN.{length}
 use borrow.Author.Tests.{lt-ltb, le-ltb}
 use Rattle.pool.specs.Layout.{countOf}
-use Rattle.source.specs.Text.{authorOf, yearOf}
+use Rattle.source.specs.Entry.{authorOf, yearOf}
 use Rattle.definition.specs.declared.Author.{Author}
 use Rattle.definition.specs.declared.Author.the-variants.{Missing}
 use Rattle.definition.specs.declared.Year.{Year}

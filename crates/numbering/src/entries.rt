@@ -11,7 +11,7 @@ ghost use Rattle.pool.specs.Fields.{fieldsOf};
 ghost use Rattle.pool.specs.Entries.{namesIn, nameAfter};
 ghost use Rattle.pool.specs.Layout.{countOf, wellFormed};
 ghost use Rattle.pool.specs.Places.{FieldsIn};
-ghost use Rattle.source.specs.Text.{isEmpty, orBytes, authorBy, authorOf, yearOf};
+ghost use Rattle.source.specs.Entry.{isEmpty, orBytes, authorBy, authorOf, yearOf};
 ghost use Rattle.numbering.specs.Defined.{
   entryAt,
   entryHas,
