@@ -18,7 +18,7 @@ use Rattle.base.proofs.Bools.{and-left}
 use Rattle.index.specs.Entries.{opensAt}
 use Rattle.lookup.specs.Groups.{Group, GroupAnswer, Found, NoGroup, groupAt}
 use Rattle.lookup.proofs.Parts.{group-in-order}
-use Rattle.definition.specs.Lines.{groupEnd}
+use Rattle.definition_line.specs.Lines.{groupEnd}
 use Rattle.sweep.specs.Sweep.{listed, nextAt, foundAt, sweepIn, sweepOf}
 use Rattle.histories.specs.EveryGroup.{Admits, Some, AllOf}
 

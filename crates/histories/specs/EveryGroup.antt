@@ -14,7 +14,7 @@ use Rattle.lookup.specs.Rows.{rowsLength}
 use Rattle.lookup.specs.Refusals.{lookUpRefusal}
 use Rattle.lookup.specs.LookUps.{LookedUp, lookUpGives, lookUpRefused, lookUpRun}
 use Rattle.lookup.specs.Lefts.{Left}
-use Rattle.definition.specs.Lines.{groupEnd}
+use Rattle.definition_line.specs.Lines.{groupEnd}
 use Rattle.sweep.specs.Sweep.{sweepOf}
 use Rattle.annotation.specs.Content.{Areas, contentOf}
 use Rattle.annotation.specs.Call.{

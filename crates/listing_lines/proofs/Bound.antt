@@ -16,7 +16,7 @@ use Rattle.item.specs.declared.Item.{Item}
 use Rattle.lookup.specs.Groups.{Group}
 use Rattle.lookup.specs.Rows.{recordOf, rowOf, rowsIn, rowsOf, rowsLength}
 use Rattle.lookup.proofs.RowLaws.{row-length, rows-length}
-use Rattle.definition.specs.Lines.{inLine, groupEnd}
+use Rattle.definition_line.specs.Lines.{inLine, groupEnd}
 use Rattle.source.specs.Decimal.{decimal}
 use Rattle.decimal.proofs.Laws.{decimal-short}
 use Rattle.sweep.specs.Sweep.{lentOf, sweepOf, sweepRun}

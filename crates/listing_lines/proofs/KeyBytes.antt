@@ -26,7 +26,7 @@ use Rattle.base.proofs.Searches.{first-from, first-holds}
 use Rattle.text.proofs.Trims.{content-by}
 use Rattle.lookup.specs.Groups.{Group, GroupAnswer, Found, NoGroup, groupOf, groupAccepted, judge, groupAt}
 use Rattle.close.proofs.Laws.{close-there}
-use Rattle.definition.specs.Lines.{groupEnd}
+use Rattle.definition_line.specs.Lines.{groupEnd}
 use Rattle.sweep.specs.Sweep.{listed, nextAt, foundAt, sweepIn, sweepOf}
 
 -- the bytes of items' keys, and two more for each

@@ -12,8 +12,8 @@ use Rattle.definition.specs.declared.Author.{Author}
 use Rattle.definition.specs.declared.Author.the-variants.{Missing}
 use Rattle.definition.specs.declared.Year.{Year}
 use Rattle.definition.specs.declared.Year.the-variants.{Missing as NoYear}
-use Rattle.definition.specs.Attributes.{attrValue, valueIn, wordsOf, wordsIn, authorWord, yearWord}
-use Rattle.definition.specs.Lines.{attributesOf}
+use Rattle.attributes.specs.Attributes.{attrValue, valueIn, wordsOf, wordsIn, authorWord, yearWord}
+use Rattle.definition_line.specs.Lines.{attributesOf}
 use Rattle.definition.specs.Parts.{authorBytes, yearBytes}
 use Rattle.definition.specs.Defs.{lineDef, entryDef, defAuthor, defYear}
 use Rattle.numbering.specs.declared.Defined.{Defined}

@@ -8,8 +8,8 @@ use lib.ListN.{length, List·getD-eq-default}
 use borrow.Author.Tests.{eq-eqb, ne-eqb}
 use Rattle.base.specs.Last.{last}
 use Rattle.base.specs.Lists.{same}
-use Rattle.definition.specs.Lines.{startsLine, colonAfter}
-use Rattle.definition.proofs.Laws.{colon-cut}
+use Rattle.definition_line.specs.Lines.{startsLine, colonAfter}
+use Rattle.definition_line.proofs.Laws.{colon-cut}
 use Rattle.numbering.specs.Records.{groupField, keyIn, bareIn, closeOfRecord, definesIn, definesKeyIn, lineIn}
 use Rattle.base.proofs.Lasts.{last-out, last-stop, last-more}
 

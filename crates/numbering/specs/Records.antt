@@ -11,7 +11,7 @@ use Rattle.base.specs.Lists.{part, same}
 use Rattle.lookup.specs.Rows.{itemWidth}
 use Rattle.sweep.specs.Rows.{groupWidth}
 use Rattle.pool.specs.Layout.{entriesOf}
-use Rattle.definition.specs.Lines.{startsLine, colonAfter}
+use Rattle.definition_line.specs.Lines.{startsLine, colonAfter}
 use Rattle.definition.specs.Defs.{Def, lineDef, firstEntry}
 
 -- the number at place `c` of item record `k`, and of group record `g`

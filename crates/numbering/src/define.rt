@@ -2,7 +2,7 @@
 use crate::records;
 ghost use mathlib.Core.Path.{_≡_};
 ghost use Prim.Native.Nat.{_<_};
-ghost use Rattle.definition.specs.Lines.{startsLine, colonAfter};
+ghost use Rattle.definition_line.specs.Lines.{startsLine, colonAfter};
 ghost use Rattle.numbering.specs.Records.{definesIn, definesKeyIn, lineIn};
 
 // Whether a line starts at the place `at`, which may lie past the text.
@@ -10,7 +10,7 @@ fn starts(text: &[u8], at: usize) -> bool
     ensures { λ r. ⌜ r ≡ startsLine (now (text .entry)) at ⌝ }
 {
     if at <= text.len() {
-        definition::line::starts_line(text, at)
+        definition_line::starts_line(text, at)
     } else {
         false
     }
@@ -21,7 +21,7 @@ fn colon(text: &[u8], close: usize) -> bool
     ensures { λ r. ⌜ r ≡ colonAfter (now (text .entry)) close ⌝ }
 {
     if close < text.len() {
-        definition::line::colon_after(text, close)
+        definition_line::colon_after(text, close)
     } else {
         false
     }

@@ -17,7 +17,7 @@ use Rattle.index.specs.Entries.{goodItems}
 use Rattle.lookup.specs.Groups.{groupOf, barred, groupAccepted}
 use Rattle.lookup.specs.Rows.{rowsOf, rowsLength}
 use Rattle.lookup.proofs.RowLaws.{rows-length}
-use Rattle.definition.specs.Lines.{inLine}
+use Rattle.definition_line.specs.Lines.{inLine}
 use Rattle.sweep.specs.declared.SweepState.{SweepState}
 use Rattle.sweep.specs.Rows.{groupRow, groupRows, itemCount, itemRows, sweptFrom, insideAfter, endAfter}
 use Rattle.sweep.specs.Stops.{writtenAt, recordsFit, Counted}

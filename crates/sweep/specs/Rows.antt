@@ -6,7 +6,7 @@ use lib.ListN.{length}
 use Rattle.base.specs.Pick.{pick}
 use Rattle.lookup.specs.Groups.{Group}
 use Rattle.lookup.specs.Rows.{rowsOf}
-use Rattle.definition.specs.Lines.{inLine, groupEnd}
+use Rattle.definition_line.specs.Lines.{inLine, groupEnd}
 
 -- a group of the sweep, with its standing
 pub record Placed : Type 0 where
