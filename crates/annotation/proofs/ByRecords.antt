@@ -18,7 +18,7 @@ use Rattle.base.proofs.Bools.{and-left, and-right}
 use Rattle.base.proofs.Sames.{same-true}
 use Rattle.item.specs.Group.{Group}
 use Rattle.pool.specs.Layout.{hasPool}
-use Rattle.definition.specs.Lines.{inLine, groupEnd}
+use Rattle.definition_line.specs.Lines.{inLine, groupEnd}
 use Rattle.definition.specs.Defs.{defOf}
 use Rattle.sweep.specs.Rows.{Placed, groupWidth, groupRow, groupRows, itemCount}
 use Rattle.defined.specs.Definitions.{definitionIn}

@@ -8,7 +8,7 @@ use lib.ListN.{length, length-append, length-map}
 use lib.Dec.{eqb}
 use Rattle.base.specs.Pick.{pick}
 use Rattle.item.specs.Group.{Group}
-use Rattle.definition.specs.Lines.{inLine, groupEnd, keyOf}
+use Rattle.definition_line.specs.Lines.{inLine, groupEnd, keyOf}
 use Rattle.sweep.specs.Rows.{itemCount}
 use Rattle.annotation.specs.Sources.{Source}
 use Rattle.annotation.specs.Content.{standingOf, allDefined, placedFrom, placedOf, tallyOf}

@@ -13,7 +13,7 @@ use Rattle.base.specs.Sorted.{Each}
 use Rattle.item.specs.declared.Item.{Item}
 use Rattle.base.proofs.Bools.{and-left, and-right}
 use Rattle.item.specs.Group.{Group}
-use Rattle.definition.specs.Lines.{keyOf, inLine, groupEnd}
+use Rattle.definition_line.specs.Lines.{keyOf, inLine, groupEnd}
 use Rattle.definition.specs.Defs.{defOf, isDefined}
 use Rattle.annotation.specs.Sources.{Source, source, used}
 use Rattle.annotation.specs.Content.{allDefined, standingOf, placedFrom, placedOf, tallyOf}

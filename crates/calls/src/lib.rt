@@ -12,14 +12,14 @@ pub use index::Bracket;
 pub use lookup::LocatorAnswer;
 pub use lookup::LookUp;
 pub use lookup::Size;
-pub use source::SourceText;
+pub use source_text::SourceText;
 ghost use mathlib.Core.Path.{_≡_};
 ghost use Rattle.annotation.specs.Halves.{areas};
 ghost use Rattle.histories.specs.Promises.{LookUpPromise, AnnotatePromise};
 ghost use Rattle.lookup.specs.Others.{locatorCall, sizeCall};
 ghost use Rattle.lookup.specs.Values.{locatorValues, locatorNumbers, sizeValues, sizeNumbers};
-ghost use Rattle.source.specs.Call.{sourceTextCall};
-ghost use Rattle.source.specs.Values.{sourceTextValues, sourceTextNumbers};
+ghost use Rattle.source_text.specs.Call.{sourceTextCall};
+ghost use Rattle.source_text.specs.Values.{sourceTextValues, sourceTextNumbers};
 
 // The group at the bracket at `at`: the place of its close, the count of its items and the note, and the item records at the front of `items`.
 // Refusals: 1, 2, 3, 4, 9, 5, 10.
@@ -98,5 +98,5 @@ pub fn source_text(pool: &[u8], entry: usize, area: &mut [u8]) -> SourceText
     ensures { λ r. let ran = sourceTextCall (now (pool .entry)) entry (now (area .entry)) in
         ⌜ (sourceTextValues r ≡ sourceTextNumbers ran) × (now (area .exit) ≡ ran .area) ⌝ }
 {
-    source::source_text(pool, entry, area)
+    source_text::source_text(pool, entry, area)
 }

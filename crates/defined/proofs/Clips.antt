@@ -12,7 +12,7 @@ use Rattle.base.specs.First.{firstOf, firstOther}
 use Rattle.base.specs.Lists.{byteAt, isAt, part}
 use Rattle.base.proofs.Searches.{first-from, first-by, first-beyond}
 use Rattle.base.proofs.Parts.{byte-past}
-use Rattle.definition.specs.Lines.{breakAt, braceAt, afterSpaces, bracedAt, attributesOf}
+use Rattle.definition_line.specs.Lines.{breakAt, braceAt, afterSpaces, bracedAt, attributesOf}
 
 past : (s : List ℕ) (b : ℕ) → 0 < b → (k : ℕ) → length s ≤ k → eqb (byteAt s k) b ≡ false
 past s b n k h = rw (← byte-past s k h) (ne-eqb 0 b (λ e. omega arith))

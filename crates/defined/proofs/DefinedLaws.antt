@@ -7,13 +7,13 @@ use mathlib.Core.Option.{none}
 use lib.ListN.{length}
 use borrow.Author.Tests.{lt-ltb, le-ltb}
 use Rattle.pool.specs.Layout.{countOf}
-use Rattle.source.specs.Text.{authorOf, yearOf}
+use Rattle.source.specs.Entry.{authorOf, yearOf}
 use Rattle.definition.specs.declared.Author.{Author}
 use Rattle.definition.specs.declared.Author.the-variants.{Missing}
 use Rattle.definition.specs.declared.Year.{Year}
 use Rattle.definition.specs.declared.Year.the-variants.{Missing as NoYear}
-use Rattle.definition.specs.Attributes.{attrValue, valueIn, wordsOf, wordsIn, authorWord, yearWord}
-use Rattle.definition.specs.Lines.{attributesOf}
+use Rattle.attributes.specs.Attributes.{attrValue, valueIn, wordsOf, wordsIn, authorWord, yearWord}
+use Rattle.definition_line.specs.Lines.{attributesOf}
 use Rattle.definition.specs.Parts.{authorBytes, yearBytes}
 use Rattle.definition.specs.Defs.{lineDef, entryDef, defAuthor, defYear}
 use Rattle.defined.specs.declared.Defined.{Defined}

@@ -10,8 +10,8 @@ use lib.Dec.{eqb}
 use borrow.Author.Tests.{eq-eqb, ne-eqb, eqb-true, eqb-false}
 use Rattle.base.specs.Last.{last}
 use Rattle.base.specs.Lists.{same}
-use Rattle.definition.specs.Lines.{startsLine, colonAfter}
-use Rattle.definition.proofs.Laws.{colon-cut}
+use Rattle.definition_line.specs.Lines.{startsLine, colonAfter}
+use Rattle.definition_line.proofs.Laws.{colon-cut}
 use Rattle.defined.specs.Definitions.{definesIn, definesKeyIn, lineIn, LinesBelow}
 use Rattle.records.specs.Records.{groupField, keyIn, bareIn, closeOfRecord}
 use Rattle.base.proofs.Bools.{split}

@@ -9,7 +9,7 @@ use Rattle.base.specs.Pick.{pick}
 use Rattle.base.specs.Last.{last}
 use Rattle.base.specs.Lists.{same}
 use Rattle.pool.specs.Layout.{entriesOf}
-use Rattle.definition.specs.Lines.{startsLine, colonAfter}
+use Rattle.definition_line.specs.Lines.{startsLine, colonAfter}
 use Rattle.definition.specs.Defs.{Def, lineDef, firstEntry}
 use Rattle.records.specs.Records.{groupField, keyIn, bareIn, closeOfRecord, nextIn}
 

@@ -1,7 +1,7 @@
 // Definition lines among the group records.
 ghost use mathlib.Core.Path.{_≡_};
 ghost use Prim.Native.Nat.{_<_};
-ghost use Rattle.definition.specs.Lines.{startsLine, colonAfter};
+ghost use Rattle.definition_line.specs.Lines.{startsLine, colonAfter};
 ghost use Rattle.defined.specs.Definitions.{definesIn, definesKeyIn, lineIn, LinesBelow};
 
 // Whether a line starts at the place `at`, which may lie past the text.
@@ -9,7 +9,7 @@ fn starts(text: &[u8], at: usize) -> bool
     ensures { λ r. ⌜ r ≡ startsLine (now (text .entry)) at ⌝ }
 {
     if at <= text.len() {
-        definition::line::starts_line(text, at)
+        definition_line::starts_line(text, at)
     } else {
         false
     }
@@ -20,7 +20,7 @@ fn colon(text: &[u8], close: usize) -> bool
     ensures { λ r. ⌜ r ≡ colonAfter (now (text .entry)) close ⌝ }
 {
     if close < text.len() {
-        definition::line::colon_after(text, close)
+        definition_line::colon_after(text, close)
     } else {
         false
     }

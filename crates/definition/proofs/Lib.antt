@@ -1,4 +1,1 @@
-pub mod Parts
-pub mod Laws
-pub mod Words
 pub mod Values

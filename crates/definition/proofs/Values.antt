@@ -6,17 +6,17 @@ use mathlib.Core.List.{List, []}
 use mathlib.Core.Option.{Option, none, some}
 use lib.ListN.{length}
 use Rattle.base.specs.Lists.{part}
-use Rattle.base.specs.Spans.{span}
+use Rattle.base.specs.Spans.{span, bytesOf}
 use Rattle.base.specs.declared.Span.{Span}
-use Rattle.definition.specs.declared.Value.{Value}
-use Rattle.definition.specs.declared.Value.the-variants.{Given, Missing as NoValue}
+use Rattle.attributes.specs.declared.Value.{Value}
+use Rattle.attributes.specs.declared.Value.the-variants.{Given, Missing as NoValue}
 use Rattle.definition.specs.declared.Author.{Author}
 use Rattle.definition.specs.declared.Author.the-variants.{InText, InPool, Missing}
 use Rattle.definition.specs.declared.Year.{Year}
 use Rattle.definition.specs.declared.Year.the-variants.{InText as YearInText, InPool as YearInPool, Number, Missing as NoYear}
-use Rattle.definition.specs.Attributes.{attrValue}
-use Rattle.definition.specs.Lines.{bytesOf}
-use Rattle.definition.specs.Parts.{valueBytes, ValueWithin, authorBytes, yearBytes, authorGiven, yearPart}
+use Rattle.attributes.specs.Attributes.{attrValue}
+use Rattle.definition.specs.Parts.{authorBytes, yearBytes, authorGiven, yearPart}
+use Rattle.attributes.specs.Values.{valueBytes, ValueWithin}
 use Rattle.base.proofs.Parts.{part-length, part-part}
 
 -- a value of the attributes, which are the `len` bytes of the text from `at` on

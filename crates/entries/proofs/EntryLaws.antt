@@ -25,7 +25,7 @@ use Rattle.pool.proofs.PoolLaws.{pair-there, entry-there}
 use Rattle.source.specs.declared.Year.{Year as SourceYear}
 use Rattle.source.specs.declared.Year.the-variants.{Number as SourceNumber, At as SourceAt, Missing as SourceMissing}
 use Rattle.source.specs.Years.{yearBytes as yearTextOf, ReadsYear}
-use Rattle.source.specs.Text.{isEmpty, orBytes, authorBy, authorOf, yearOf}
+use Rattle.source.specs.Entry.{isEmpty, orBytes, authorBy, authorOf, yearOf}
 use Rattle.definition.specs.declared.Author.{Author}
 use Rattle.definition.specs.declared.Author.the-variants.{InPool, Missing as NoAuthor}
 use Rattle.definition.specs.declared.Year.the-variants.{InPool as YearInPool, Number, Missing as NoYear}

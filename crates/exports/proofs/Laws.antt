@@ -23,10 +23,10 @@ use Rattle.lookup.specs.declared.Size.the-variants.{Accepted as SizeIs, Refused
 use Rattle.lookup.specs.Others.{locatorCall, sizeCall}
 use Rattle.lookup.specs.LookUps.{LookUpRan, lookUpRun}
 use Rattle.lookup.specs.Values.{lookUpValues, lookUpNumbers, locatorValues, locatorNumbers, sizeValues, sizeNumbers}
-use Rattle.source.specs.declared.SourceText.{SourceText}
-use Rattle.source.specs.declared.SourceText.the-variants.{Accepted as SourceIs, Refused as NoSource}
-use Rattle.source.specs.Call.{sourceTextCall}
-use Rattle.source.specs.Values.{sourceTextValues, sourceTextNumbers}
+use Rattle.source_text.specs.declared.SourceText.{SourceText}
+use Rattle.source_text.specs.declared.SourceText.the-variants.{Accepted as SourceIs, Refused as NoSource}
+use Rattle.source_text.specs.Call.{sourceTextCall}
+use Rattle.source_text.specs.Values.{sourceTextValues, sourceTextNumbers}
 use Rattle.annotation.specs.declared.Annotation.{Annotation}
 use Rattle.annotation.specs.declared.Annotation.the-variants.{Accepted as Annotates, Refused as NoAnnotation}
 use Rattle.annotation.specs.Content.{Areas}

@@ -20,9 +20,12 @@ use Rattle.pool.proofs.PoolLaws.{entry-there, count-is, entry-is}
 use Rattle.decimal.proofs.Laws.{decimal-short}
 use Rattle.decimal.specs.Decimal.{decimal}
 use Rattle.source.specs.Decimal.{signedDecimal}
-use Rattle.source.specs.Text.{isEmpty, beside, nameBy, nameOf, addName, namesOf, yearBy, yearOf, inParens, headOf, ended, sourceTextOf}
-use Rattle.source.specs.Call.{sourceRefused, entryAt, sourceWritten, sourceTextCall}
-use Rattle.source.specs.Values.{sourceTextNumbers}
+use Rattle.source.specs.Entry.{isEmpty, yearBy, yearOf}
+use Rattle.source_text.specs.Text.{beside, addName, namesOf, headOf, ended, sourceTextOf}
+use Rattle.source_parts.specs.Names.{nameBy, nameOf}
+use Rattle.source_parts.specs.Parens.{inParens}
+use Rattle.source_text.specs.Call.{sourceRefused, entryAt, sourceWritten, sourceTextCall}
+use Rattle.source_text.specs.Values.{sourceTextNumbers}
 use Rattle.exports.specs.Words.{Words}
 
 -- the fields -----------------------------------------------------------------------------------------------------------------------

@@ -12,8 +12,8 @@ use Rattle.index.specs.declared.Bracket.{Bracket}
 use Rattle.lookup.specs.LookUps.{LookUpRan, lookUpRun}
 use Rattle.lookup.specs.Others.{locatorCall, sizeCall}
 use Rattle.lookup.specs.Values.{lookUpNumbers, locatorNumbers, sizeNumbers}
-use Rattle.source.specs.Call.{SourceAnswer, sourceTextCall}
-use Rattle.source.specs.Values.{sourceTextNumbers}
+use Rattle.source_text.specs.Call.{SourceAnswer, sourceTextCall}
+use Rattle.source_text.specs.Values.{sourceTextNumbers}
 use Rattle.annotation.specs.Content.{Areas}
 use Rattle.annotation.specs.Call.{AnnotateRan, annotateRun}
 use Rattle.annotation.specs.Values.{annotationNumbers}

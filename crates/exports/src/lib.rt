@@ -5,7 +5,7 @@ use index::Bracket;
 use lookup::LocatorAnswer;
 use lookup::LookUp;
 use lookup::Size;
-use source::SourceText;
+use source_text::SourceText;
 ghost use mathlib.Core.List.{[], _∷_};
 ghost use mathlib.Core.Path.{_≡_};
 ghost use Prim.Native.Nat.{_≤_};
@@ -15,7 +15,7 @@ ghost use Rattle.annotation.specs.Halves.{areas};
 ghost use Rattle.annotation.specs.Values.{annotationValues};
 ghost use Rattle.base.specs.Lists.{written};
 ghost use Rattle.lookup.specs.Values.{lookUpValues, locatorValues, sizeValues};
-ghost use Rattle.source.specs.Values.{sourceTextValues};
+ghost use Rattle.source_text.specs.Values.{sourceTextValues};
 ghost use Rattle.exports.specs.Words.{Words};
 ghost use Rattle.exports.specs.Areas.{
   lookUpAreas,

@@ -19,7 +19,7 @@ use Rattle.index.specs.Entries.{opensAt}
 use Rattle.resolve.specs.Groups.{GroupAnswer, Found, NoGroup, groupAt}
 use Rattle.item.specs.Group.{Group}
 use Rattle.resolve.proofs.Parts.{group-in-order}
-use Rattle.definition.specs.Lines.{groupEnd}
+use Rattle.definition_line.specs.Lines.{groupEnd}
 use Rattle.sweep.specs.Sweep.{listed, nextAt, foundAt, sweepIn, sweepOf}
 use Rattle.histories.specs.EveryGroup.{Admits, Some, AllOf}
 

@@ -15,18 +15,10 @@ use Rattle.rows.specs.Rows.{rowsLength}
 use Rattle.lookup.specs.Refusals.{lookUpRefusal}
 use Rattle.lookup.specs.LookUps.{LookedUp, lookUpGives, lookUpRefused, lookUpRun}
 use Rattle.resolve.specs.Lefts.{Left}
-use Rattle.definition.specs.Lines.{groupEnd}
+use Rattle.definition_line.specs.Lines.{groupEnd}
 use Rattle.sweep.specs.Sweep.{sweepOf}
 use Rattle.annotation.specs.Content.{Areas, contentOf}
-use Rattle.annotation.specs.Call.{
-  Annotated,
-  annotateRefusal,
-  annotateRefused,
-  annotateGives,
-  annotateRun,
-  roomFor,
-  zeroFilled,
-}
+use Rattle.annotation.specs.Call.{Annotated, annotateRefusal, annotateRefused, annotateGives, annotateRun, roomFor, zeroFilled}
 use Rattle.histories.specs.Said.{Says}
 
 -- The rules admit the group `g` at `p`: an unescaped `[` stands there, the unlimited scan gives its close, and `match_citation` takes the

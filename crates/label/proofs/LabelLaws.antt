@@ -17,7 +17,7 @@ use Rattle.text.specs.Trim.{trimStart, contentEnd, trimEnd, trim}
 use Rattle.text.proofs.Trims.{start-by, start-plain, end-from, end-by, content-behind}
 use Rattle.pool.specs.Numbers.{signed}
 use Rattle.pool.specs.Entries.{bytesOr}
-use Rattle.source.specs.Text.{isEmpty}
+use Rattle.source.specs.Entry.{isEmpty}
 use Rattle.decimal.specs.Decimal.{decimal}
 use Rattle.source.specs.Decimal.{signedDecimal}
 use Rattle.definition.specs.declared.Author.{Author}

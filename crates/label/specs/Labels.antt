@@ -8,7 +8,7 @@ use Rattle.base.specs.Pick.{pick}
 use Rattle.text.specs.Trim.{trim}
 use Rattle.pool.specs.Entries.{bytesOr}
 use Rattle.decimal.specs.Decimal.{decimal}
-use Rattle.source.specs.Text.{isEmpty}
+use Rattle.source.specs.Entry.{isEmpty}
 use Rattle.definition.specs.Defs.{Def, defAuthor, defYear}
 
 -- `s`, or the number in decimal where `s` is empty

@@ -12,7 +12,7 @@ use Rattle.index.specs.Built.{blank}
 use Rattle.base.proofs.Bools.{and-left, and-right}
 use Rattle.item.specs.Group.{Group}
 use Rattle.lookup.specs.Refusals.{tooFew}
-use Rattle.definition.specs.Lines.{inLine, groupEnd}
+use Rattle.definition_line.specs.Lines.{inLine, groupEnd}
 use Rattle.sweep.specs.Sweep.{sweepOf}
 use Rattle.sweep.specs.Rows.{groupRows}
 use Rattle.sweep.proofs.Laws.{group-rows-length, written-front}

@@ -1,11 +1,11 @@
 -- No listing is longer than 150,000 bytes. A line has five numbers of 20 digits at most, six bytes between and after them, and a key; there are
 -- at most a third as many lines as the text has bytes, and all keys together are no longer than the text.
-use Prim.Native.Nat.{ℕ, zero, suc, _+_, _-_, _*_, _≤_, _<_, min}
+use Prim.Native.Nat.{ℕ, zero, suc, _+_, _-_, _*_, _≤_}
 use native.Mathlib.Omega.{arith}
-use mathlib.Core.Path.{_≡_, refl, sym, _∙_, ap, subst}
+use mathlib.Core.Path.{_≡_, refl, _∙_, ap, subst}
 use mathlib.Core.List.{List, [], _∷_, _++_, append-assoc}
 use mathlib.Core.Bool.{Bool, true, false, _&&_}
-use lib.ListN.{length, getD, take, drop, replicate, length-append, length-take}
+use lib.ListN.{length, getD, take, drop, length-append, length-take}
 use lib.Dec.{eqb, leb, ltb}
 use lib.Seq.{getD-drop, drop-drop}
 use borrow.Author.Tests.{ltb-false}
@@ -16,8 +16,7 @@ use Rattle.item.specs.declared.Item.{Item}
 use Rattle.item.specs.Group.{Group}
 use Rattle.rows.specs.Rows.{recordOf, rowOf, rowsIn, rowsOf, rowsLength}
 use Rattle.rows.proofs.RowLaws.{row-length, rows-length}
-use Rattle.definition.specs.Lines.{inLine, groupEnd}
-use Rattle.decimal.specs.Decimal.{decimal}
+use Rattle.definition_line.specs.Lines.{inLine, groupEnd}
 use Rattle.decimal.proofs.Laws.{decimal-short}
 use Rattle.sweep.specs.Sweep.{lentOf, sweepOf, sweepRun}
 use Rattle.sweep.specs.Rows.{Placed, groupRow, groupRows, itemCount, itemRows}

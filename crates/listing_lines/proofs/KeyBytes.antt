@@ -28,7 +28,7 @@ use Rattle.text.proofs.Trims.{content-by}
 use Rattle.resolve.specs.Groups.{GroupAnswer, Found, NoGroup, groupAccepted, judge, groupAt}
 use Rattle.item.specs.Group.{Group, groupOf}
 use Rattle.close.proofs.Laws.{close-there}
-use Rattle.definition.specs.Lines.{groupEnd}
+use Rattle.definition_line.specs.Lines.{groupEnd}
 use Rattle.sweep.specs.Sweep.{listed, nextAt, foundAt, sweepIn, sweepOf}
 
 -- the bytes of items' keys, and two more for each

@@ -16,7 +16,7 @@ use Rattle.base.proofs.Searches.{first-holds}
 use Rattle.base.proofs.Sames.{same-true}
 use Rattle.base.proofs.Bools.{and-right}
 use Rattle.pool.specs.Layout.{countOf}
-use Rattle.source.specs.Text.{isEmpty}
+use Rattle.source.specs.Entry.{isEmpty}
 use Rattle.base.proofs.Areas.{written-front, written-none, written-byte, written-over}
 use Rattle.definition.specs.Defs.{isDefined, entryDefines}
 use Rattle.defined.specs.declared.Defined.{Defined}

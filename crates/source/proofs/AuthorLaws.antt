@@ -13,8 +13,7 @@ use Rattle.pool.specs.Fields.{fieldEnd, fieldAt, fieldsOf}
 use Rattle.pool.specs.Entries.{nameAfter, nameAt, namesIn, entryOf}
 use Rattle.pool.specs.Places.{bytesAt, Inside, Reads, ReadsName}
 use Rattle.pool.proofs.FieldLaws.{fields-next, fields-end}
-use Rattle.source.specs.Text.{orBytes, authorBy, authorOf}
-use Rattle.source.specs.Lengths.{orFound}
+use Rattle.source.specs.Entry.{orBytes, authorBy, authorOf, orFound}
 
 module _ (n : NameParts) where
   pub or-literal : {p : Span} → n .literal ≡ At p → At p ≡ orFound (n .literal) (n .family)

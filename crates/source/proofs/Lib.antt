@@ -1,7 +1,2 @@
-pub mod WriteLaws
-pub mod NameLaws
-pub mod NamesLaws
 pub mod AuthorLaws
 pub mod YearLaws
-pub mod TextLaws
-pub mod CallLaws

@@ -1,12 +1,11 @@
 -- A year of an entry: a number, or where its bytes lie in the pool.
 use Prim.Native.Nat.{ℕ, _+_, _≤_}
 use mathlib.Core.Path.{_≡_}
-use mathlib.Core.List.{List, []}
+use mathlib.Core.List.{List}
 use mathlib.Core.Option.{Option, none, some}
 use lib.ListN.{length}
 use Rattle.base.specs.Lists.{part}
 use Rattle.pool.specs.Numbers.{signed}
-use Rattle.pool.specs.Entries.{bytesOr}
 use Rattle.source.specs.declared.Year.{Year}
 use Rattle.source.specs.declared.Year.the-variants.{Number, At, Missing}
 use Rattle.source.specs.Decimal.{signedDecimal}
@@ -27,19 +26,3 @@ YearInside s Missing = Unit {0}
 pub record ReadsYear (s : List ℕ) (r : Year) (o : Option (List ℕ)) : Type 0 where
   pub bytes : yearBytes s r ≡ o
   pub inside : YearInside s r
-
--- the bytes of the pool that it has
-abbrev pub yearLen : Year → ℕ
-yearLen (Number negative magnitude) = 0
-yearLen (At p) = p .len
-yearLen Missing = 0
-
--- the length of the year in parentheses
-unfoldable pub parensLen : Year → ℕ
-parensLen (Number negative magnitude) = 2 + length (signedDecimal (signed negative magnitude))
-parensLen (At p) = 2 + p .len
-parensLen Missing = 0
-
--- its bytes; none where it is missing
-abbrev pub yearText : List ℕ → Year → List ℕ
-yearText s y = bytesOr (yearBytes s y) []

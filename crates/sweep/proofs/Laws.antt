@@ -15,7 +15,7 @@ use Rattle.base.proofs.Areas.{came-back}
 use Rattle.item.specs.Group.{Group}
 use Rattle.rows.specs.Rows.{rowsOf, rowsLength}
 use Rattle.rows.proofs.RowLaws.{rows-length}
-use Rattle.definition.specs.Lines.{inLine, groupEnd}
+use Rattle.definition_line.specs.Lines.{inLine, groupEnd}
 use Rattle.sweep.specs.declared.SweepState.{SweepState}
 use Rattle.sweep.specs.Sweep.{Lent, Swept, lentAfter, sweepRun}
 use Rattle.sweep.specs.Rows.{Placed, placed, groupRow, groupRows, itemCount, itemRows, sweptFrom, insideAfter, endAfter}

@@ -18,7 +18,7 @@ use Rattle.item.specs.Pieces.{partsAt, pieces, itemsStart, piecesOf, allGood, k
 use Rattle.item.proofs.Pieces.{piece-by, pieces-more, pieces-last, items-more, items-last, first-good, rest-good, items-count}
 use Rattle.item.specs.Group.{goodItems, groupOf}
 use Rattle.resolve.specs.Groups.{barred, groupAccepted}
-use Rattle.definition.specs.Lines.{breakAt, startsLine, bareItem, onlyKey, colonAfter, defines, inLine}
+use Rattle.definition_line.specs.Lines.{breakAt, startsLine, bareItem, onlyKey, colonAfter, defines, inLine}
 use Rattle.sweep.specs.Steps.{GroupFrom}
 use Rattle.sweep.proofs.Sizes.{item-size}
 

@@ -17,7 +17,7 @@ use Rattle.item.specs.Group.{goodItems, groupOf}
 use Rattle.resolve.specs.Groups.{barred, groupAccepted}
 use Rattle.rows.specs.Rows.{rowsOf, rowsLength}
 use Rattle.rows.proofs.RowLaws.{rows-length}
-use Rattle.definition.specs.Lines.{inLine}
+use Rattle.definition_line.specs.Lines.{inLine}
 use Rattle.sweep.specs.declared.SweepState.{SweepState}
 use Rattle.sweep.specs.Rows.{groupRow, groupRows, itemCount, itemRows, sweptFrom, insideAfter, endAfter}
 use Rattle.sweep.specs.Stops.{writtenAt, recordsFit, Counted}

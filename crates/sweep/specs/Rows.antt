@@ -1,12 +1,12 @@
 -- The records of a sweep: its groups with their standing, and their items.
 use Prim.Native.Nat.{ℕ, _+_, _-_}
 use mathlib.Core.List.{List, [], _∷_, _++_}
-use mathlib.Core.Bool.{Bool, true, false}
+use mathlib.Core.Bool.{Bool}
 use lib.ListN.{length}
 use Rattle.base.specs.Pick.{pick}
 use Rattle.item.specs.Group.{Group}
 use Rattle.rows.specs.Rows.{rowsOf}
-use Rattle.definition.specs.Lines.{inLine, groupEnd}
+use Rattle.definition_line.specs.Lines.{inLine, groupEnd}
 
 -- a group of the sweep, with its standing
 pub record Placed : Type 0 where

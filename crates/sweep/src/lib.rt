@@ -1,9 +1,9 @@
 // The sweep: left to right, each unescaped `[`; the records of the groups found.
 use base::bytes::find_byte;
 use close::Close;
-use definition::line::break_at;
-use definition::line::colon_after;
-use definition::line::starts_line;
+use definition_line::break_at;
+use definition_line::colon_after;
+use definition_line::starts_line;
 use item::Parsed;
 use item::items_start;
 use item::parse_item;
@@ -22,25 +22,10 @@ ghost use Rattle.base.specs.Pick.{pick};
 ghost use Rattle.base.specs.Lists.{byteAt};
 ghost use Rattle.item.specs.Pieces.{itemsOf};
 ghost use Rattle.item.specs.Group.{groupOf};
-ghost use Rattle.definition.specs.Lines.{onlyKey, defines, inLine};
+ghost use Rattle.definition_line.specs.Lines.{onlyKey, defines, inLine};
 ghost use Rattle.rows.specs.Rows.{rowsOf};
-ghost use Rattle.sweep.specs.Stops.{
-  writtenAt,
-  startState,
-  recordsFit,
-  Counted,
-  SweptTo,
-};
-ghost use Rattle.sweep.specs.Steps.{
-  stepAt,
-  GroupFrom,
-  ItemsRoom,
-  Recordable,
-  RecordedOne,
-  afterGroup,
-  movedTo,
-  Turned,
-};
+ghost use Rattle.sweep.specs.Stops.{writtenAt, startState, recordsFit, Counted, SweptTo};
+ghost use Rattle.sweep.specs.Steps.{stepAt, GroupFrom, ItemsRoom, Recordable, RecordedOne, afterGroup, movedTo, Turned};
 ghost use Rattle.sweep.specs.Facts.{SizeEnough, SizeEnoughRun, SweepInTwo};
 
 // Where a sweep stands: its place, the counts of the groups and items so far, whether the last group stands in a definition line and

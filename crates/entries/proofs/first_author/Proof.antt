@@ -5,7 +5,7 @@ use mathlib.Core.Path.{_≡_}
 use Rattle.pool.specs.Fields.{fieldsOf}
 use Rattle.pool.specs.Entries.{namesIn}
 use Rattle.pool.specs.Places.{FieldsIn}
-use Rattle.source.specs.Text.{authorBy}
+use Rattle.source.specs.Entry.{authorBy}
 use Rattle.pool.proofs.ReaderLaws.{walk-laws}
 use borrow.Author.Needs.{needs}
 use Rattle.entries.proofs.EntryLaws.{author-laws}

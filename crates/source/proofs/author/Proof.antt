@@ -1,14 +1,13 @@
 -- `source::author` meets its contract. The loop's invariant: the first name from `i` on is the entry's first. Assumes nothing.
 use borrow.Author.Needs.{needs}
 use Rattle.source.proofs.AuthorLaws.{author-laws}
-use Rattle.pool.proofs.ReaderLaws.{walk-laws}
-use Rattle.pool.proofs.ReaderLaws.{fields-of-entry}
+use Rattle.pool.proofs.ReaderLaws.{walk-laws, fields-of-entry}
 use Prim.Native.Nat.{_-_}
 use mathlib.Core.Path.{_≡_}
 use Rattle.pool.specs.Fields.{fieldsOf}
 use Rattle.pool.specs.Entries.{entryOf, namesIn}
 use Rattle.pool.specs.Places.{FieldsIn}
-use Rattle.source.specs.Text.{authorBy, authorOf}
+use Rattle.source.specs.Entry.{authorBy, authorOf}
 use Rattle.source.proofs.author.Statement.{statement}
 use Rattle.source.proofs.author.Tie as tie
 

@@ -1,0 +1,2 @@
+pub mod ParensLaws
+pub mod NameLaws

@@ -1,0 +1,4 @@
+pub mod WriteLaws
+pub mod NamesLaws
+pub mod TextLaws
+pub mod CallLaws

@@ -1,0 +1,56 @@
+-- A few computed cases: the layout and the text of pools of one entry.
+use mathlib.Core.Path.{_≡_, refl}
+use mathlib.Core.List.{List, [], _∷_}
+use mathlib.Core.Bool.{true}
+use Prim.Native.Nat.{ℕ}
+use Rattle.base.specs.Fold.{fold}
+use Rattle.base.specs.Lists.{part, written}
+use Rattle.utf8.specs.Utf8.{utf8, utf8In, charWidth}
+use Rattle.pool.specs.Numbers.{leAt, signedOf}
+use Rattle.pool.specs.Fields.{fieldEnd, fieldAt, fieldsIn, fillIn, fieldsOf, fill, follows, contentGood, fieldsGood, entryGood}
+use Rattle.pool.specs.Entries.{fieldWith, inName, nameAfter, nameAt, namesIn, yearIn, entryOf}
+use Rattle.pool.specs.Layout.{entriesGood, laidOut, wellFormed, entriesIn, entriesOf}
+use Rattle.decimal.specs.Decimal.{countIn, lastDigits, decimal}
+use Rattle.source.specs.Decimal.{signedDecimal}
+use Rattle.source_text.specs.Text.{beside, addName, namesOf, headOf, ended, sourceTextOf}
+use Rattle.source_parts.specs.Names.{nameBy, nameOf}
+use Rattle.source.specs.Entry.{yearBy, yearOf}
+use Rattle.source_parts.specs.Parens.{inParens}
+use Rattle.source_text.specs.Call.{sourceRefused, entryAt, sourceWritten, sourceTextCall}
+
+-- one entry: id `a`; names `Ant`, `A.` and an empty literal; year -44; no date; title `T`
+abbrev ants : List ℕ
+ants =
+    1 ∷ 0 ∷ 6 ∷ 0 ∷ 39 ∷ 0
+    ∷ 1 ∷ 1 ∷ 0 ∷ 97
+    ∷ 2 ∷ 0 ∷ 0 ∷ 3 ∷ 3 ∷ 0 ∷ 65 ∷ 110 ∷ 116 ∷ 4 ∷ 2 ∷ 0 ∷ 65 ∷ 46
+    ∷ 2 ∷ 0 ∷ 0 ∷ 5 ∷ 0 ∷ 0
+    ∷ 6 ∷ 8 ∷ 0 ∷ 212 ∷ 255 ∷ 255 ∷ 255 ∷ 255 ∷ 255 ∷ 255 ∷ 255
+    ∷ 8 ∷ 1 ∷ 0 ∷ 84 ∷ []
+
+ants-good : wellFormed ants ≡ true
+unfolding wellFormed laidOut entriesGood entryGood fill fillIn fieldsOf fieldsIn fieldsGood fieldAt fieldEnd follows contentGood utf8 utf8In charWidth part leAt
+ants-good = refl
+
+-- `Ant, A. (-44). T.`
+ants-text : sourceTextCall ants 0 (7 ∷ 7 ∷ 7 ∷ 7 ∷ 7 ∷ 7 ∷ 7 ∷ 7 ∷ 7 ∷ 7 ∷ 7 ∷ 7 ∷ 7 ∷ 7 ∷ 7 ∷ 7 ∷ 7 ∷ 7 ∷ [])
+    ≡ record { number = 0; bytes = 17; area = 65 ∷ 110 ∷ 116 ∷ 44 ∷ 32 ∷ 65 ∷ 46 ∷ 32 ∷ 40 ∷ 45 ∷ 52 ∷ 52 ∷ 41 ∷ 46 ∷ 32 ∷ 84 ∷ 46 ∷ 7 ∷ [] }
+unfolding wellFormed laidOut entriesGood entryGood fill fillIn fieldsOf fieldsIn fieldsGood fieldAt fieldEnd follows contentGood utf8 utf8In charWidth part leAt sourceTextCall sourceWritten entryAt entriesOf entriesIn entryOf fieldWith namesIn nameAt nameAfter inName yearIn signedOf sourceTextOf headOf namesOf addName nameOf nameBy beside yearOf yearBy inParens ended signedDecimal decimal lastDigits countIn fold written
+ants-text = refl
+
+-- 10, 8, 7, and 8 with no pool
+ants-short : sourceTextCall ants 0 (7 ∷ []) ≡ sourceRefused 10 (7 ∷ [])
+unfolding wellFormed laidOut entriesGood entryGood fill fillIn fieldsOf fieldsIn fieldsGood fieldAt fieldEnd follows contentGood utf8 utf8In charWidth part leAt sourceTextCall sourceWritten entryAt entriesOf entriesIn entryOf fieldWith namesIn nameAt nameAfter inName yearIn signedOf sourceTextOf headOf namesOf addName nameOf nameBy beside yearOf yearBy inParens ended signedDecimal decimal lastDigits countIn fold written
+ants-short = refl
+
+ants-one : sourceTextCall ants 1 [] ≡ sourceRefused 8 []
+unfolding wellFormed laidOut entriesGood entryGood fill fillIn fieldsOf fieldsIn fieldsGood fieldAt fieldEnd follows contentGood utf8 utf8In charWidth part leAt sourceTextCall sourceWritten entryAt entriesOf entriesIn
+ants-one = refl
+
+zero-byte : sourceTextCall (0 ∷ []) 0 [] ≡ sourceRefused 7 []
+unfolding wellFormed laidOut sourceTextCall leAt entriesGood
+zero-byte = refl
+
+no-pool : sourceTextCall [] 0 [] ≡ sourceRefused 8 []
+unfolding wellFormed laidOut sourceTextCall leAt entriesGood entriesOf entriesIn
+no-pool = refl

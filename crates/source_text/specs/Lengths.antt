@@ -1,0 +1,25 @@
+-- The lengths of what is joined, and what stands before a part that is to follow.
+use Prim.Native.Nat.{ℕ, _+_}
+use mathlib.Core.List.{List, [], _∷_, _++_}
+use lib.ListN.{length}
+use lib.Dec.{eqb}
+use Rattle.base.specs.Pick.{pick}
+use Rattle.pool.specs.Entries.{Name, Entry, bytesOr}
+use Rattle.source_parts.specs.Names.{nameOf}
+use Rattle.source_text.specs.Text.{beside, headOf}
+
+-- the length of `beside`, with a separator of `sep` bytes
+unfoldable pub besideLen : ℕ → ℕ → ℕ → ℕ
+besideLen a sep b = pick (eqb a 0) b (pick (eqb b 0) a (a + sep + b))
+
+-- `a`, and `sep` where neither `a` nor the `m` bytes to follow are empty
+unfoldable pub opened : List ℕ → List ℕ → ℕ → List ℕ
+opened sep a m = pick (eqb (length a) 0) a (pick (eqb m 0) a (a ++ sep))
+
+-- the length of the names so far, and one more
+unfoldable pub addLen : ℕ → Name → ℕ
+addLen n name = besideLen n 2 (length (nameOf name))
+
+-- the text without its stop
+unfoldable pub bodyOf : Entry → List ℕ
+bodyOf e = beside (46 ∷ 32 ∷ []) (headOf e) (bytesOr (e .title) [])

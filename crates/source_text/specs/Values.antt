@@ -1,0 +1,16 @@
+-- "For an answer that is an enum, a definition gives this paper's number and values for each of its cases": the number (0 accepted),
+-- then "the bytes written".
+use Prim.Native.Nat.{ℕ}
+use mathlib.Core.List.{List, [], _∷_}
+use Rattle.source_text.specs.declared.SourceText.{SourceText}
+use Rattle.source_text.specs.declared.SourceText.the-variants.{Accepted, Refused}
+use Rattle.source_text.specs.Call.{SourceAnswer}
+
+-- "the source text call returns the bytes written"
+unfoldable pub sourceTextValues : SourceText → List ℕ
+sourceTextValues (Accepted bytes) = 0 ∷ bytes ∷ []
+sourceTextValues (Refused number) = number ∷ 0 ∷ []
+
+-- the same numbers of the call by its definition
+unfoldable pub sourceTextNumbers : SourceAnswer → List ℕ
+sourceTextNumbers a = a .number ∷ a .bytes ∷ []
