@@ -1,5 +1,5 @@
 -- THEOREMS `ReferencesAgree` and `ContentAgrees`: the references by the records, and the whole content.
-use Prim.Native.Nat.{ℕ, zero, suc, _+_, _-_, _*_, _≤_, _<_}
+use Prim.Native.Nat.{ℕ, suc, _+_, _-_, _*_, _≤_, _<_}
 use native.Mathlib.Omega.{arith}
 use mathlib.Core.Path.{_≡_, refl, sym, _∙_, ap}
 use mathlib.Core.List.{List, [], _∷_, map}
@@ -20,7 +20,8 @@ use Rattle.lookup.specs.Groups.{Group}
 use Rattle.pool.specs.Layout.{hasPool}
 use Rattle.definition.specs.Lines.{inLine, groupEnd}
 use Rattle.definition.specs.Defs.{defOf}
-use Rattle.sweep.specs.Rows.{Placed, groupWidth, groupRow, groupRows, itemCount}
+use Rattle.sweep.specs.Rows.{groupWidth, itemCount}
+use Rattle.sweep.proofs.Laws.{group-rows-length}
 use Rattle.numbering.specs.Records.{itemField, keyIn, definitionIn}
 use Rattle.numbering.specs.Numbers.{Numbered, usedAt}
 use Rattle.numbering.specs.Order.{less, Ranked, insert}
@@ -158,11 +159,6 @@ placed-length : (text : List ℕ) (all : List Group) (pool : List ℕ) (before :
 unfolding placedFrom
 placed-length text all pool before from [] = refl
 placed-length text all pool before from (g ∷ gs) = ap suc (placed-length text all pool (inLine text before from g) (groupEnd g) gs)
-
-group-rows-length : (k : ℕ) (ps : List Placed) → length (groupRows k ps) ≡ groupWidth * length ps
-unfolding groupRows groupRow
-group-rows-length k [] = refl
-group-rows-length k (p ∷ ps) = omega (arith, group-rows-length (k + length (p .group .items)) ps)
 
 insert-length : (qs : List Ranked) (r : Ranked) → length (insert qs r) ≡ suc (length qs)
 unfolding insert

@@ -36,11 +36,12 @@ use Rattle.lookup.specs.Looks.{Inside}
 use Rattle.lookup.proofs.Steps.{run-inside}
 use Rattle.sweep.proofs.Stops.{sweep-in-two}
 use Rattle.annotation.specs.Content.{Areas, tallyOf, contentOf}
-use Rattle.annotation.specs.Call.{AnnotateRan, annotateRefused, annotateRefusal, roomFor, zeroFilled, annotateGives, answerOf, annotateRan, annotateSwept, annotateRun}
+use Rattle.annotation.specs.Call.{AnnotateRan, annotateRefused, roomFor, zeroFilled, annotateGives, answerOf, annotateRan, annotateSwept, annotateRun}
+use Rattle.preparation.specs.Refusal.{annotateRefusal}
 use Rattle.annotation.specs.Values.{annotationNumbers}
 use Rattle.annotation.proofs.Counts.{sources-by}
 use Rattle.annotation.proofs.ByRecords.{references-length}
-use Rattle.annotation.proofs.RefusalLaws.{unrefused as annotate-unrefused}
+use Rattle.preparation.proofs.RefusalLaws.{unrefused as annotate-unrefused}
 use Rattle.exports.specs.Words.{Words}
 
 -- the size and the locator call ---------------------------------------------------------------------------------------------------

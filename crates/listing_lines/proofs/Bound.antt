@@ -25,7 +25,8 @@ use Rattle.sweep.proofs.Sweeps.{sweep-same}
 use Rattle.numbering.specs.Records.{itemField}
 use Rattle.numbering.proofs.Fields.{item-field, SameItems}
 use Rattle.annotation.specs.Content.{Areas, placedFrom, placedOf, tallyOf, contentOf}
-use Rattle.annotation.specs.Call.{Annotated, annotateRefused, annotateRefusal, roomFor, filled, zeroFilled, annotateGives, answerOf, annotatePlain}
+use Rattle.annotation.specs.Call.{Annotated, annotateRefused, roomFor, filled, zeroFilled, annotateGives, answerOf, annotatePlain}
+use Rattle.preparation.specs.Refusal.{annotateRefusal}
 use Rattle.annotation.specs.Steps.{Fits}
 use Rattle.annotation.proofs.Found.{swept-fits}
 use Rattle.annotation.proofs.Passes.{tally-agrees}

@@ -8,7 +8,7 @@ use Rattle.base.specs.Ascii.{ascii}
 use Rattle.source.specs.Decimal.{decimal}
 use Rattle.sweep.specs.Stops.{writtenAt}
 use Rattle.annotation.specs.Call.{Annotated}
-use Rattle.annotation.specs.Halves.{areas}
+use Rattle.annotation.specs.Content.{areas}
 use Rattle.listing_lines.specs.declared.Told.{Told}
 use Rattle.listing_lines.specs.Listing.{itemLines, listingOf}
 

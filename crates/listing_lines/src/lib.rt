@@ -1,5 +1,5 @@
 // The lines that the listing program writes, by one function on slices: `list`.
-use annotation::Annotation;
+use annotation_answer::Annotation;
 use numbering::records::group_field;
 use numbering::records::item_field;
 use numbering::records::key_in;
@@ -9,7 +9,7 @@ ghost use Prim.Native.Nat.{_+_, _*_, _≤_, _<_};
 ghost use lib.ListN.{length, drop, take};
 ghost use Rattle.base.specs.Lists.{written};
 ghost use Rattle.source.specs.Decimal.{decimal};
-ghost use Rattle.annotation.specs.Values.{annotationValues};
+ghost use Rattle.annotation_answer.specs.Values.{annotationValues};
 ghost use Rattle.listing_lines.specs.Listing.{itemLine, groupLines, countLine, listed, listingOf};
 ghost use Rattle.listing_lines.specs.Writes.{Put, Room, groupPart, itemPart, linesOf, answerBy, zeroes, Ready, Listed, Counts};
 
