@@ -2,9 +2,9 @@
 // or 10 where the labels or the references have no room.
 use annotation_answer::Annotation;
 use annotation_answer::refuse_ten;
+use group_records::SweepState;
 use numbering::number_groups;
 use numbering::order_references;
-use sweep::SweepState;
 ghost use mathlib.Core.Path.{_≡_};
 ghost use Prim.Native.Nat.{_≤_};
 ghost use mathlib.Core.Bool.{true};

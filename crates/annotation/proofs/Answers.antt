@@ -13,10 +13,11 @@ use Rattle.index.specs.declared.Bracket.{Bracket}
 use Rattle.index.specs.Built.{builtIndex, builtRecords}
 use Rattle.lookup.specs.Groups.{Group}
 use Rattle.lookup.specs.Resolve.{noteAfter, indexAfter, recordsAfter}
-use Rattle.sweep.specs.declared.SweepState.{SweepState}
+use Rattle.group_records.specs.declared.SweepState.{SweepState}
 use Rattle.sweep.specs.Sweep.{Lent, lentOf, lentAfter, sweepRun}
-use Rattle.sweep.specs.Rows.{groupRows, itemCount, itemRows, sweptFrom}
-use Rattle.sweep.specs.Stops.{startState, Recorded, SweptTo}
+use Rattle.standing.specs.Rows.{groupRows, itemCount, itemRows, sweptFrom}
+use Rattle.sweep.specs.Stops.{startState, SweptTo}
+use Rattle.group_records.specs.Recording.{Recorded}
 use Rattle.sweep.proofs.Laws.{item-rows-length, group-rows-length, swept-length, all-groups-count, all-items-count, all-fitted, all-item-rows, all-group-rows, swept-whole, swept-lent}
 use Rattle.numbering.specs.Numbers.{Numbered, numberAll}
 use Rattle.numbering.specs.References.{SourcesKnown}

@@ -20,7 +20,7 @@ use Rattle.lookup.specs.Groups.{Group}
 use Rattle.pool.specs.Layout.{hasPool}
 use Rattle.definition.specs.Lines.{inLine, groupEnd}
 use Rattle.definition.specs.Defs.{defOf}
-use Rattle.sweep.specs.Rows.{groupWidth, itemCount}
+use Rattle.standing.specs.Rows.{groupWidth, itemCount}
 use Rattle.sweep.proofs.Laws.{group-rows-length}
 use Rattle.numbering.specs.Records.{itemField, keyIn, definitionIn}
 use Rattle.numbering.specs.Numbers.{Numbered, usedAt}

@@ -18,7 +18,7 @@ use Rattle.lookup.specs.Rows.{itemWidth, recordOf, rowOf, rowsIn, rowsOf}
 use Rattle.pool.specs.Layout.{hasPool}
 use Rattle.definition.specs.Lines.{inLine, groupEnd, keyOf}
 use Rattle.definition.specs.Defs.{defOf, isDefined}
-use Rattle.sweep.specs.Rows.{Placed, placed, groupWidth, groupRow, groupRows, sweptFrom, itemRows, itemCount}
+use Rattle.standing.specs.Rows.{Placed, placed, groupWidth, groupRow, groupRows, sweptFrom, itemRows, itemCount}
 use Rattle.numbering.specs.Records.{itemField, groupField, keyIn, suppressedIn, definitionIn}
 use Rattle.numbering.specs.Numbers.{
   Numbered,

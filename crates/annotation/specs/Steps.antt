@@ -10,7 +10,7 @@ use Rattle.lookup.specs.Groups.{Group}
 use Rattle.lookup.specs.Rows.{itemWidth}
 use Rattle.definition.specs.Defs.{defOf}
 use Rattle.sweep.specs.Sweep.{Lent, sweepRun}
-use Rattle.sweep.specs.Rows.{groupWidth, groupRows, sweptFrom, itemRows, itemCount}
+use Rattle.standing.specs.Rows.{groupWidth, groupRows, sweptFrom, itemRows, itemCount}
 use Rattle.numbering.specs.Records.{definitionIn}
 use Rattle.numbering.specs.Numbers.{Numbered, numberAll}
 use Rattle.numbering.specs.References.{referencesIn}

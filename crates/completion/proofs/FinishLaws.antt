@@ -7,8 +7,9 @@ use mathlib.Core.Bool.{true, false}
 use lib.ListN.{length}
 use Rattle.pool.specs.Layout.{wellFormed}
 use Rattle.lookup.specs.Resolve.{noteAfter}
-use Rattle.sweep.specs.declared.SweepState.{SweepState}
-use Rattle.sweep.specs.Stops.{Counted, SweptTo}
+use Rattle.group_records.specs.declared.SweepState.{SweepState}
+use Rattle.group_records.specs.Recording.{Counted}
+use Rattle.sweep.specs.Stops.{SweptTo}
 use Rattle.numbering.specs.Numbers.{numberAll}
 use Rattle.annotation_answer.specs.declared.Annotation.{Annotation}
 use Rattle.annotation_answer.specs.declared.Annotation.the-variants.{Refused}

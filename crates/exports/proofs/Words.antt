@@ -30,8 +30,9 @@ use Rattle.pool.specs.Layout.{wellFormed}
 use Rattle.sweep.specs.Sweep.{Lent, Swept, lentOf, lentAfter, swept, listed, nextAt, foundRun, buildsAt, sweepRunIn, sweepRun}
 use Rattle.sweep.specs.Stops.{stopFrom}
 use Rattle.sweep.specs.Facts.{goneOn}
-use Rattle.sweep.specs.Rows.{itemCount}
-use Rattle.sweep.proofs.Sizes.{items-size, size-enough-run}
+use Rattle.standing.specs.Rows.{itemCount}
+use Rattle.standing.proofs.ItemSizes.{items-size}
+use Rattle.sweep.proofs.Sizes.{size-enough-run}
 use Rattle.lookup.specs.Looks.{Inside}
 use Rattle.lookup.proofs.Steps.{run-inside}
 use Rattle.sweep.proofs.Stops.{sweep-in-two}

@@ -14,8 +14,9 @@ use Rattle.lookup.specs.Groups.{Group}
 use Rattle.lookup.specs.Refusals.{tooFew}
 use Rattle.definition.specs.Lines.{inLine, groupEnd}
 use Rattle.sweep.specs.Sweep.{sweepOf}
-use Rattle.sweep.specs.Rows.{groupRows}
-use Rattle.sweep.proofs.Laws.{group-rows-length, written-front}
+use Rattle.standing.specs.Rows.{groupRows}
+use Rattle.sweep.proofs.Laws.{group-rows-length}
+use Rattle.group_records.proofs.Areas.{written-front}
 use Rattle.annotation_answer.specs.declared.Annotation.{Annotation}
 use Rattle.annotation_answer.specs.declared.Annotation.the-variants.{Accepted, Refused}
 use Rattle.annotation_answer.specs.Values.{annotationValues}

@@ -20,7 +20,7 @@ use Rattle.definition.specs.Lines.{inLine, groupEnd}
 use Rattle.source.specs.Decimal.{decimal}
 use Rattle.decimal.proofs.Laws.{decimal-short}
 use Rattle.sweep.specs.Sweep.{lentOf, sweepOf, sweepRun}
-use Rattle.sweep.specs.Rows.{Placed, groupRow, groupRows, itemCount, itemRows}
+use Rattle.standing.specs.Rows.{Placed, groupRow, groupRows, itemCount, itemRows}
 use Rattle.sweep.proofs.Sweeps.{sweep-same}
 use Rattle.numbering.specs.Records.{itemField}
 use Rattle.numbering.proofs.Fields.{item-field, SameItems}

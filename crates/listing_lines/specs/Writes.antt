@@ -6,7 +6,7 @@ use lib.ListN.{length, getD, take, drop, replicate}
 use Rattle.base.specs.Lists.{part, written}
 use Rattle.base.specs.Ascii.{ascii}
 use Rattle.source.specs.Decimal.{decimal}
-use Rattle.sweep.specs.Stops.{writtenAt}
+use Rattle.group_records.specs.Areas.{writtenAt}
 use Rattle.annotation.specs.Call.{Annotated}
 use Rattle.annotation.specs.Content.{areas}
 use Rattle.listing_lines.specs.declared.Told.{Told}

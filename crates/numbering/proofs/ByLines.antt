@@ -16,7 +16,7 @@ use Rattle.item.specs.declared.Item.{Item}
 use Rattle.lookup.specs.Groups.{Group}
 use Rattle.lookup.specs.Rows.{itemWidth, marksOf, recordOf, rowOf, rowsIn, rowsOf}
 use Rattle.pool.specs.Layout.{entriesOf}
-use Rattle.sweep.specs.Rows.{Placed, groupWidth, groupRow, groupRows, sweptFrom, itemRows}
+use Rattle.standing.specs.Rows.{Placed, groupWidth, groupRow, groupRows, sweptFrom, itemRows}
 use Rattle.definition.specs.Lines.{startsLine, colonAfter, bareItem, onlyKey, defines, inLine, groupEnd, nextOpen, keyOf, definedKey}
 use Rattle.definition.specs.Defs.{Def, lineDef, definesKey, lastLine, firstEntry, orDef, defOf}
 use Rattle.numbering.specs.Records.{

@@ -10,7 +10,7 @@ use Rattle.base.specs.declared.Span.{Span}
 use Rattle.base.specs.Spans.{span}
 use Rattle.item.specs.declared.Item.{Item}
 use Rattle.lookup.specs.Rows.{itemWidth, recordOf}
-use Rattle.sweep.specs.Rows.{Placed, placed, groupWidth, groupRow}
+use Rattle.standing.specs.Rows.{Placed, placed, groupWidth, groupRow}
 use Rattle.numbering.specs.Records.{itemField, groupField}
 use Rattle.numbering.specs.Numbers.{setLast}
 

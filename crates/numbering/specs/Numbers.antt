@@ -8,7 +8,7 @@ use Rattle.base.specs.Pick.{pick}
 use Rattle.base.specs.Last.{last}
 use Rattle.base.specs.Lists.{same}
 use Rattle.lookup.specs.Rows.{itemWidth}
-use Rattle.sweep.specs.Rows.{groupWidth}
+use Rattle.standing.specs.Rows.{groupWidth}
 use Rattle.pool.specs.Layout.{hasPool}
 use Rattle.definition.specs.Defs.{isDefined}
 use Rattle.numbering.specs.Records.{itemField, groupField, keyIn, suppressedIn, definitionIn}

@@ -9,7 +9,7 @@ use Rattle.base.specs.Pick.{pick}
 use Rattle.base.specs.Last.{last}
 use Rattle.base.specs.Lists.{part, same}
 use Rattle.lookup.specs.Rows.{itemWidth}
-use Rattle.sweep.specs.Rows.{groupWidth}
+use Rattle.standing.specs.Rows.{groupWidth}
 use Rattle.pool.specs.Layout.{entriesOf}
 use Rattle.definition.specs.Lines.{startsLine, colonAfter}
 use Rattle.definition.specs.Defs.{Def, lineDef, firstEntry}

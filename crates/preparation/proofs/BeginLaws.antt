@@ -6,8 +6,9 @@ use mathlib.Core.Bool.{Bool, true, false, true≢false}
 use lib.ListN.{length}
 use lib.Dec.{eqb}
 use borrow.Author.Tests.{eqb-true, eqb-false}
-use Rattle.sweep.specs.declared.SweepState.{SweepState}
-use Rattle.sweep.specs.Stops.{startState, Counted, SweptTo}
+use Rattle.group_records.specs.declared.SweepState.{SweepState}
+use Rattle.sweep.specs.Stops.{startState, SweptTo}
+use Rattle.group_records.specs.Recording.{Counted}
 use Rattle.sweep.proofs.Laws.{start-counted}
 use Rattle.preparation.specs.declared.Begun.{Begun}
 use Rattle.preparation.specs.Refusal.{annotateRefusal}

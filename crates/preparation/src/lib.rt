@@ -1,7 +1,7 @@
 // An annotation up to the build of the index: what refuses it before the sweep,
 // and the sweep up to a bracket that wants a build.
+use group_records::SweepState;
 use pool::is_well_formed;
-use sweep::SweepState;
 use sweep::start;
 use sweep::sweep;
 use text::text_refusal;

@@ -1,8 +1,8 @@
--- `sweep::is_in_line` meets its contract. Assumes nothing.
+-- `standing::is_in_line` meets its contract. Assumes nothing.
 use borrow.Author.Needs.{needs}
-use Rattle.sweep.proofs.Lines.{line-laws}
-use Rattle.sweep.proofs.is_in_line.Statement.{statement}
-use Rattle.sweep.proofs.is_in_line.Tie as tie
+use Rattle.standing.proofs.Lines.{line-laws}
+use Rattle.standing.proofs.is_in_line.Statement.{statement}
+use Rattle.standing.proofs.is_in_line.Tie as tie
 
 pub is-in-line-spec : {M : Type 1} → statement M
 is-in-line-spec =

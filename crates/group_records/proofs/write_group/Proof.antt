@@ -1,10 +1,10 @@
--- `sweep::write_group` meets its contract. Assumes nothing.
+-- `group_records::write_group` meets its contract. Assumes nothing.
 use native.Mathlib.Omega.{arith}
 use lib.ListN.{length-set}
 use borrow.Author.Needs.{needs}
-use Rattle.sweep.proofs.Laws.{five-written}
-use Rattle.sweep.proofs.write_group.Statement.{statement}
-use Rattle.sweep.proofs.write_group.Tie as tie
+use Rattle.group_records.proofs.Areas.{five-written}
+use Rattle.group_records.proofs.write_group.Statement.{statement}
+use Rattle.group_records.proofs.write_group.Tie as tie
 
 pub write-group-spec : {M : Type 1} → statement M
 write-group-spec =

@@ -19,8 +19,8 @@ use Rattle.item.proofs.Pieces.{piece-by, pieces-more, pieces-last, items-more, 
 use Rattle.index.specs.Entries.{goodItems}
 use Rattle.lookup.specs.Groups.{groupOf, barred, groupAccepted}
 use Rattle.definition.specs.Lines.{breakAt, startsLine, bareItem, onlyKey, colonAfter, defines, inLine}
-use Rattle.sweep.specs.Steps.{GroupFrom}
-use Rattle.sweep.proofs.Sizes.{item-size}
+use Rattle.standing.specs.Stands.{GroupFrom}
+use Rattle.standing.proofs.ItemSizes.{item-size}
 
 -- there is a piece
 some-piece : (s : List ℕ) (a e : ℕ) → 1 ≤ length (pieces s a e)

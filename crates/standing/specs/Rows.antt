@@ -1,7 +1,7 @@
 -- The records of a sweep: its groups with their standing, and their items.
 use Prim.Native.Nat.{ℕ, _+_, _-_}
 use mathlib.Core.List.{List, [], _∷_, _++_}
-use mathlib.Core.Bool.{Bool, true, false}
+use mathlib.Core.Bool.{Bool}
 use lib.ListN.{length}
 use Rattle.base.specs.Pick.{pick}
 use Rattle.lookup.specs.Groups.{Group}

@@ -1,8 +1,8 @@
--- `sweep::is_definition` meets its contract. Assumes nothing.
+-- `standing::is_definition` meets its contract. Assumes nothing.
 use borrow.Author.Needs.{needs}
-use Rattle.sweep.proofs.Lines.{definition-laws}
-use Rattle.sweep.proofs.is_definition.Statement.{statement}
-use Rattle.sweep.proofs.is_definition.Tie as tie
+use Rattle.standing.proofs.Lines.{definition-laws}
+use Rattle.standing.proofs.is_definition.Statement.{statement}
+use Rattle.standing.proofs.is_definition.Tie as tie
 
 pub is-definition-spec : {M : Type 1} → statement M
 is-definition-spec =

@@ -1,8 +1,8 @@
--- `sweep::record_group` meets its contract. Assumes nothing.
+-- `group_records::record_group` meets its contract. Assumes nothing.
 use borrow.Author.Needs.{needs}
-use Rattle.sweep.proofs.Records.{room-laws, record-laws}
-use Rattle.sweep.proofs.record_group.Statement.{statement}
-use Rattle.sweep.proofs.record_group.Tie as tie
+use Rattle.group_records.proofs.Records.{room-laws, record-laws}
+use Rattle.group_records.proofs.record_group.Statement.{statement}
+use Rattle.group_records.proofs.record_group.Tie as tie
 
 pub record-group-spec : {M : Type 1} → statement M
 record-group-spec =

@@ -1,8 +1,8 @@
--- `sweep::is_only_key` meets its contract. Assumes nothing.
+-- `standing::is_only_key` meets its contract. Assumes nothing.
 use borrow.Author.Needs.{needs}
-use Rattle.sweep.proofs.Lines.{only-laws}
-use Rattle.sweep.proofs.is_only_key.Statement.{statement}
-use Rattle.sweep.proofs.is_only_key.Tie as tie
+use Rattle.standing.proofs.Lines.{only-laws}
+use Rattle.standing.proofs.is_only_key.Statement.{statement}
+use Rattle.standing.proofs.is_only_key.Tie as tie
 
 pub is-only-key-spec : {M : Type 1} → statement M
 is-only-key-spec =

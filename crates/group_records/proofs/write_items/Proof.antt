@@ -1,8 +1,8 @@
--- `sweep::write_items` meets its contract. Assumes nothing.
+-- `group_records::write_items` meets its contract. Assumes nothing.
 use borrow.Author.Needs.{needs}
-use Rattle.sweep.proofs.Records.{item-laws}
-use Rattle.sweep.proofs.write_items.Statement.{statement}
-use Rattle.sweep.proofs.write_items.Tie as tie
+use Rattle.group_records.proofs.Records.{item-laws}
+use Rattle.group_records.proofs.write_items.Statement.{statement}
+use Rattle.group_records.proofs.write_items.Tie as tie
 
 pub write-items-spec : {M : Type 1} → statement M
 write-items-spec =
