@@ -14,9 +14,13 @@ use Rattle.index.specs.Built.{builtIndex, builtRecords}
 use Rattle.item.specs.Group.{Group}
 use Rattle.resolve.specs.Resolve.{noteAfter, indexAfter, recordsAfter}
 use Rattle.sweep.specs.declared.SweepState.{SweepState}
+use Rattle.lookup.specs.Groups.{Group}
+use Rattle.lookup.specs.Resolve.{noteAfter, indexAfter, recordsAfter}
+use Rattle.group_records.specs.declared.SweepState.{SweepState}
 use Rattle.sweep.specs.Sweep.{Lent, lentOf, lentAfter, sweepRun}
-use Rattle.sweep.specs.Rows.{groupRows, itemCount, itemRows, sweptFrom}
-use Rattle.sweep.specs.Stops.{startState, Recorded, SweptTo}
+use Rattle.standing.specs.Rows.{groupRows, itemCount, itemRows, sweptFrom}
+use Rattle.sweep.specs.Stops.{startState, SweptTo}
+use Rattle.group_records.specs.Recording.{Recorded}
 use Rattle.sweep.proofs.Laws.{item-rows-length, group-rows-length, swept-length, all-groups-count, all-items-count, all-fitted, all-item-rows, all-group-rows, swept-whole, swept-lent}
 use Rattle.numbering.specs.Numbers.{Numbered, numberAll}
 use Rattle.order.specs.References.{SourcesKnown}
@@ -26,13 +30,24 @@ use Rattle.annotation.specs.declared.Begun.{Begun}
 use Rattle.annotation.specs.Content.{Areas, contentOf}
 use Rattle.annotation.specs.Call.{annotateRefusal, annotateRefused, roomFor, filled, zeros, zeroFilled, annotateGives, answerOf, AnnotateRan, annotateRan, annotateSwept, annotateRun}
 use Rattle.annotation.specs.Values.{annotationValues, annotationNumbers}
+use Rattle.numbering.specs.References.{SourcesKnown}
+use Rattle.annotation_answer.specs.declared.Annotation.{Annotation}
+use Rattle.annotation_answer.specs.declared.Annotation.the-variants.{Refused}
+use Rattle.preparation.specs.declared.Begun.{Begun}
+use Rattle.annotation.specs.Content.{Areas, contentOf, areas}
+use Rattle.preparation.specs.Refusal.{annotateRefusal}
+use Rattle.annotation.specs.Call.{annotateRefused, roomFor, filled, zeroFilled, annotateGives, answerOf, AnnotateRan, annotateRan, annotateSwept, annotateRun}
+use Rattle.annotation_answer.specs.Zeros.{zeros, Zeroed}
+use Rattle.annotation_answer.specs.Values.{annotationValues}
+use Rattle.annotation.specs.Values.{annotationNumbers, Done}
 use Rattle.annotation.specs.Steps.{sweptItems, sweptGroups, numberedFrom, referencesFrom, Fits, ContentAs}
-use Rattle.annotation.specs.Halves.{areas, BegunBy, Done, Zeroed, roomThen, referencesThen, Ordered}
+use Rattle.preparation.specs.FirstHalf.{BegunBy}
+use Rattle.after_sweep.specs.Ordering.{roomThen, referencesThen, Ordered}
 use Rattle.annotation.proofs.Counts.{sources-by}
 use Rattle.annotation.proofs.Passes.{numbers-agree}
 use Rattle.annotation.proofs.Found.{swept-fits}
 use Rattle.annotation.proofs.ByRecords.{known-sources, content-agrees}
-use Rattle.annotation.proofs.RefusalLaws.{Unrefused, unrefused}
+use Rattle.preparation.proofs.RefusalLaws.{Unrefused, unrefused}
 
 -- tests --------------------------------------------------------------------------------------------------------------------------------
 
@@ -294,5 +309,3 @@ module _ {text : List ℕ} {mode : ℕ} {pool : List ℕ} {note : ℕ} {index₀
       go : (t : Bool) → eqb (p .number) 0 ≡ t → ran .records ≡ pick (p .sweep .wants) (builtRecords text records) records
       go true q = rw (ran-swept (eqb-true (p .number) 0 q))
       go false q = let n = eqb-false (p .number) 0 q in rw (ran-refused n, b .no-build n)
-
-pub ruleset ran-laws = (ran-index, ran-records)

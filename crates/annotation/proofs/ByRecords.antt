@@ -1,5 +1,5 @@
 -- THEOREMS `ReferencesAgree` and `ContentAgrees`: the references by the records, and the whole content.
-use Prim.Native.Nat.{ℕ, zero, suc, _+_, _-_, _*_, _≤_, _<_}
+use Prim.Native.Nat.{ℕ, suc, _+_, _-_, _*_, _≤_, _<_}
 use native.Mathlib.Omega.{arith}
 use mathlib.Core.Path.{_≡_, refl, sym, _∙_, ap}
 use mathlib.Core.List.{List, [], _∷_, map}
@@ -27,6 +27,12 @@ use Rattle.numbering.specs.Numbers.{Numbered}
 use Rattle.uses.specs.Uses.{usedAt}
 use Rattle.order.specs.Order.{less, Ranked, insert}
 use Rattle.order.specs.References.{firstWith, sourceKeyIn, rankIn, rankedIn, referencesIn, numberOfKey, SourcesKnown}
+use Rattle.standing.specs.Rows.{groupWidth, itemCount}
+use Rattle.sweep.proofs.Laws.{group-rows-length}
+use Rattle.numbering.specs.Records.{itemField, keyIn, definitionIn}
+use Rattle.numbering.specs.Numbers.{Numbered, usedAt}
+use Rattle.numbering.specs.Order.{less, Ranked, insert}
+use Rattle.numbering.specs.References.{firstWith, sourceKeyIn, rankIn, rankedIn, referencesIn, numberOfKey, SourcesKnown}
 use Rattle.numbering.proofs.ByLines.{definition-same}
 use Rattle.annotation.specs.Sources.{Source, placeOf, numberOf}
 use Rattle.annotation.specs.Order.{rankOf, rankedFrom, referencesOf}
@@ -160,11 +166,6 @@ placed-length : (text : List ℕ) (all : List Group) (pool : List ℕ) (before :
 unfolding placedFrom
 placed-length text all pool before from [] = refl
 placed-length text all pool before from (g ∷ gs) = ap suc (placed-length text all pool (inLine text before from g) (groupEnd g) gs)
-
-group-rows-length : (k : ℕ) (ps : List Placed) → length (groupRows k ps) ≡ groupWidth * length ps
-unfolding groupRows groupRow
-group-rows-length k [] = refl
-group-rows-length k (p ∷ ps) = omega (arith, group-rows-length (k + length (p .group .items)) ps)
 
 insert-length : (qs : List Ranked) (r : Ranked) → length (insert qs r) ≡ suc (length qs)
 unfolding insert

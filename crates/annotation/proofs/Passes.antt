@@ -24,6 +24,25 @@ use Rattle.records.specs.Records.{itemField, groupField, keyIn, suppressedIn}
 use Rattle.numbering.specs.Numbers.{Numbered, labelIn, citeAs, citeIn, citeFrom, definedFrom, standsNumbered, isNumbered, numberGroup, numberFrom, numberAll}
 use Rattle.uses.specs.Uses.{numberIn, useIn, sourcesIn}
 use Rattle.uses.proofs.Fields.{item-field, set-last, set-standing, SameItems, SameGroups, set-last-same, set-standing-same, set-last-other}
+use Rattle.standing.specs.Rows.{Placed, placed, groupWidth, groupRow, groupRows, sweptFrom, itemRows, itemCount}
+use Rattle.numbering.specs.Records.{itemField, groupField, keyIn, suppressedIn, definitionIn}
+use Rattle.numbering.specs.Numbers.{
+  Numbered,
+  numberIn,
+  useIn,
+  sourcesIn,
+  labelIn,
+  citeAs,
+  citeIn,
+  citeFrom,
+  definedFrom,
+  standsNumbered,
+  isNumbered,
+  numberGroup,
+  numberFrom,
+  numberAll,
+}
+use Rattle.numbering.proofs.Fields.{item-field, set-last, set-standing, SameItems, SameGroups, set-last-same, set-standing-same, set-last-other}
 use Rattle.numbering.proofs.ByLines.{
   key-same,
   definition-same,

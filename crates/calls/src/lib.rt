@@ -7,14 +7,14 @@
 // bracket; 6 mode not 0 or 1; 7 pool breaks its layout; 8 entry number N or more, or no pool; 9 index or bracket records fewer than text
 // bytes; 10 answer longer than its area, or labels above 65,535 bytes.
 // A refusal returns its number and the note as it was given, and touches nothing; but 5 and 10 keep an index built on the way, with its note.
-pub use annotation::Annotation;
+pub use annotation_answer::Annotation;
 pub use index::Bracket;
 pub use lookup::LocatorAnswer;
 pub use lookup::LookUp;
 pub use lookup::Size;
 pub use source_text::SourceText;
 ghost use mathlib.Core.Path.{_≡_};
-ghost use Rattle.annotation.specs.Halves.{areas};
+ghost use Rattle.annotation.specs.Content.{areas};
 ghost use Rattle.histories.specs.Promises.{LookUpPromise, AnnotatePromise};
 ghost use Rattle.lookup.specs.Others.{locatorCall, sizeCall};
 ghost use Rattle.lookup.specs.Values.{locatorValues, locatorNumbers, sizeValues, sizeNumbers};
@@ -62,10 +62,10 @@ pub fn annotate<'a>(
         r (now (index .exit)) (now (records .exit)) left ⌝ }
 {
     let n = pairs::count(records);
-    let p = annotation::prepare(text, mode, pool, note, index, n, items, groups);
-    let w = annotation::wants_build(p);
+    let p = preparation::prepare(text, mode, pool, note, index, n, items, groups);
+    let w = preparation::wants_build(p);
     pairs::build_when(w, text, index, records);
-    annotation::finish(
+    completion::finish(
         text,
         mode,
         pool,

@@ -29,9 +29,16 @@ use Rattle.source_text.specs.Call.{sourceTextCall}
 use Rattle.source_text.specs.Values.{sourceTextValues, sourceTextNumbers}
 use Rattle.annotation.specs.declared.Annotation.{Annotation}
 use Rattle.annotation.specs.declared.Annotation.the-variants.{Accepted as Annotates, Refused as NoAnnotation}
+use Rattle.source.specs.declared.SourceText.{SourceText}
+use Rattle.source.specs.declared.SourceText.the-variants.{Accepted as SourceIs, Refused as NoSource}
+use Rattle.source.specs.Call.{sourceTextCall}
+use Rattle.source.specs.Values.{sourceTextValues, sourceTextNumbers}
+use Rattle.annotation_answer.specs.declared.Annotation.{Annotation}
+use Rattle.annotation_answer.specs.declared.Annotation.the-variants.{Accepted as Annotates, Refused as NoAnnotation}
 use Rattle.annotation.specs.Content.{Areas}
 use Rattle.annotation.specs.Call.{AnnotateRan, annotateRun}
-use Rattle.annotation.specs.Values.{annotationValues, annotationNumbers}
+use Rattle.annotation_answer.specs.Values.{annotationValues}
+use Rattle.annotation.specs.Values.{annotationNumbers}
 use Rattle.index.specs.declared.Bracket.{Bracket}
 use Rattle.exports.specs.Words.{Words}
 use Rattle.exports.proofs.Words.{size-words, locator-words, look-up-words, annotation-words}

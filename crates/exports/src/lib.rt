@@ -1,6 +1,6 @@
 // The five calls for C and Rust, under the names of include/citations.h. A slice is a pointer and a length in elements.
 // `answer` gets the number (0 accepted), then the values in the paper's order; a call with a shorter one does nothing.
-use annotation::Annotation;
+use annotation_answer::Annotation;
 use index::Bracket;
 use lookup::LocatorAnswer;
 use lookup::LookUp;
@@ -11,8 +11,8 @@ ghost use mathlib.Core.Path.{_≡_};
 ghost use Prim.Native.Nat.{_≤_};
 ghost use lib.Dec.{leb};
 ghost use lib.ListN.{length};
-ghost use Rattle.annotation.specs.Halves.{areas};
-ghost use Rattle.annotation.specs.Values.{annotationValues};
+ghost use Rattle.annotation.specs.Content.{areas};
+ghost use Rattle.annotation_answer.specs.Values.{annotationValues};
 ghost use Rattle.base.specs.Lists.{written};
 ghost use Rattle.lookup.specs.Values.{lookUpValues, locatorValues, sizeValues};
 ghost use Rattle.source_text.specs.Values.{sourceTextValues};

@@ -20,7 +20,8 @@ use Rattle.lookup.specs.LookUps.{LookedUp, lookUpGives, lookUpRefused, lookUpAn
 use Rattle.lookup.proofs.RefusalLaws.{unrefused}
 use Rattle.lookup.proofs.LooksUp.{look-up-true}
 use Rattle.annotation.specs.Content.{Areas}
-use Rattle.annotation.specs.Call.{Annotated, annotateRefusal, annotateRefused, annotateGives, answerOf, annotatePlain, roomFor, zeroFilled}
+use Rattle.annotation.specs.Call.{Annotated, annotateRefused, annotateGives, answerOf, annotatePlain, roomFor, zeroFilled}
+use Rattle.preparation.specs.Refusal.{annotateRefusal}
 use Rattle.annotation.proofs.Truth.{annotate-true}
 use Rattle.sweep.specs.Sweep.{sweepOf}
 use Rattle.histories.specs.EveryGroup.{Admits, LookUpFinds, AnnotationFinds, said, EveryGroup}

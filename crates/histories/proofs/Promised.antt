@@ -7,11 +7,12 @@ use Rattle.lookup.specs.declared.LookUp.{LookUp}
 use Rattle.lookup.specs.declared.LookUp.the-variants.{Accepted as FoundOne, Refused as FoundNone}
 use Rattle.lookup.specs.LookUps.{LookedUp, LookUpRan, lookUpRun}
 use Rattle.lookup.specs.Values.{lookUpValues, lookUpNumbers}
-use Rattle.annotation.specs.declared.Annotation.{Annotation}
-use Rattle.annotation.specs.declared.Annotation.the-variants.{Accepted, Refused}
+use Rattle.annotation_answer.specs.declared.Annotation.{Annotation}
+use Rattle.annotation_answer.specs.declared.Annotation.the-variants.{Accepted, Refused}
 use Rattle.annotation.specs.Content.{Areas}
 use Rattle.annotation.specs.Call.{Annotated, AnnotateRan, annotateRun}
-use Rattle.annotation.specs.Values.{annotationValues, annotationNumbers}
+use Rattle.annotation_answer.specs.Values.{annotationValues}
+use Rattle.annotation.specs.Values.{annotationNumbers}
 use Rattle.histories.specs.Histories.{
   OfLookUp,
   OfAnnotation,

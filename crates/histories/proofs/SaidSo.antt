@@ -20,7 +20,7 @@ use Rattle.definition_line.specs.Lines.{inLine, groupEnd, keyOf}
 use Rattle.definition.specs.Defs.{defOf}
 use Rattle.base.proofs.Parts.{part-is}
 use Rattle.label.specs.Labels.{labelText}
-use Rattle.sweep.specs.Rows.{Placed, itemRows}
+use Rattle.standing.specs.Rows.{Placed, itemRows}
 use Rattle.sweep.proofs.Laws.{item-rows-length}
 use Rattle.annotation.specs.Sources.{Source, numberOf, useOf, used}
 use Rattle.annotation.specs.Content.{

@@ -19,6 +19,8 @@ use Rattle.definition_line.specs.Lines.{groupEnd}
 use Rattle.sweep.specs.Sweep.{sweepOf}
 use Rattle.annotation.specs.Content.{Areas, contentOf}
 use Rattle.annotation.specs.Call.{Annotated, annotateRefusal, annotateRefused, annotateGives, annotateRun, roomFor, zeroFilled}
+use Rattle.annotation.specs.Call.{Annotated, annotateRefused, annotateGives, annotateRun, roomFor, zeroFilled}
+use Rattle.preparation.specs.Refusal.{annotateRefusal}
 use Rattle.histories.specs.Said.{Says}
 
 -- The rules admit the group `g` at `p`: an unescaped `[` stands there, the unlimited scan gives its close, and `match_citation` takes the

@@ -11,7 +11,7 @@ use Rattle.item.specs.declared.Item.{Item}
 use Rattle.item.specs.Group.{Group}
 use Rattle.rows.specs.Rows.{itemWidth}
 use Rattle.pool.specs.Layout.{hasPool}
-use Rattle.sweep.specs.Rows.{Placed, itemCount, itemRows, groupRows}
+use Rattle.standing.specs.Rows.{Placed, itemCount, itemRows, groupRows}
 use Rattle.annotation.specs.Sources.{Source}
 use Rattle.annotation.specs.Content.{Areas, placedOf, labelFor, tallyOf}
 use Rattle.annotation.specs.Facts.{numberedKeys, firstUses, itemNumbers, itemKeys, useAfter}

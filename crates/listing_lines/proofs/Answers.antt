@@ -14,25 +14,16 @@ use Rattle.item.specs.Group.{Group}
 use Rattle.lookup.specs.Refusals.{tooFew}
 use Rattle.definition_line.specs.Lines.{inLine, groupEnd}
 use Rattle.sweep.specs.Sweep.{sweepOf}
-use Rattle.sweep.specs.Rows.{groupRows}
-use Rattle.sweep.proofs.Laws.{group-rows-length, written-front}
-use Rattle.annotation.specs.declared.Annotation.{Annotation}
-use Rattle.annotation.specs.declared.Annotation.the-variants.{Accepted, Refused}
-use Rattle.annotation.specs.Values.{annotationValues, annotationNumbers}
-use Rattle.annotation.specs.Content.{Areas, placedFrom, placedOf, contentOf}
-use Rattle.annotation.specs.Call.{
-  Annotated,
-  AnnotateRan,
-  annotateRefused,
-  annotateRefusal,
-  roomFor,
-  zeroFilled,
-  annotateGives,
-  answerOf,
-  annotatePlain,
-  annotateRun,
-}
-use Rattle.annotation.specs.Halves.{areas}
+use Rattle.standing.specs.Rows.{groupRows}
+use Rattle.sweep.proofs.Laws.{group-rows-length}
+use Rattle.group_records.proofs.Areas.{written-front}
+use Rattle.annotation_answer.specs.declared.Annotation.{Annotation}
+use Rattle.annotation_answer.specs.declared.Annotation.the-variants.{Accepted, Refused}
+use Rattle.annotation_answer.specs.Values.{annotationValues}
+use Rattle.annotation.specs.Values.{annotationNumbers}
+use Rattle.annotation.specs.Content.{Areas, placedFrom, placedOf, contentOf, areas}
+use Rattle.annotation.specs.Call.{Annotated, AnnotateRan, annotateRefused, roomFor, zeroFilled, annotateGives, answerOf, annotatePlain, annotateRun}
+use Rattle.preparation.specs.Refusal.{annotateRefusal}
 use Rattle.annotation.proofs.Truth.{annotate-true}
 use Rattle.listing_lines.specs.declared.Told.{Told}
 use Rattle.listing_lines.specs.Listing.{countLine, listed, listingAreas, listingAnswer, listingOf}

@@ -19,12 +19,13 @@ use Rattle.rows.proofs.RowLaws.{row-length, rows-length}
 use Rattle.definition_line.specs.Lines.{inLine, groupEnd}
 use Rattle.decimal.proofs.Laws.{decimal-short}
 use Rattle.sweep.specs.Sweep.{lentOf, sweepOf, sweepRun}
-use Rattle.sweep.specs.Rows.{Placed, groupRow, groupRows, itemCount, itemRows}
+use Rattle.standing.specs.Rows.{Placed, groupRow, groupRows, itemCount, itemRows}
 use Rattle.sweep.proofs.Sweeps.{sweep-same}
 use Rattle.records.specs.Records.{itemField}
 use Rattle.uses.proofs.Fields.{item-field, SameItems}
 use Rattle.annotation.specs.Content.{Areas, placedFrom, placedOf, tallyOf, contentOf}
-use Rattle.annotation.specs.Call.{Annotated, annotateRefused, annotateRefusal, roomFor, filled, zeroFilled, annotateGives, answerOf, annotatePlain}
+use Rattle.annotation.specs.Call.{Annotated, annotateRefused, roomFor, filled, zeroFilled, annotateGives, answerOf, annotatePlain}
+use Rattle.preparation.specs.Refusal.{annotateRefusal}
 use Rattle.annotation.specs.Steps.{Fits}
 use Rattle.annotation.proofs.Found.{swept-fits}
 use Rattle.annotation.proofs.Passes.{tally-agrees}

@@ -10,8 +10,8 @@ use Rattle.base.specs.Lists.{written}
 use Rattle.base.specs.Ascii.{ascii}
 use Rattle.decimal.specs.Decimal.{decimal}
 use Rattle.decimal.proofs.Laws.{decimal-short}
-use Rattle.sweep.specs.Stops.{writtenAt}
-use Rattle.sweep.proofs.Laws.{written-front}
+use Rattle.group_records.specs.Areas.{writtenAt}
+use Rattle.group_records.proofs.Areas.{written-front}
 use Rattle.base.proofs.Areas.{written-length}
 use Rattle.listing_lines.specs.Listing.{refusedLine, listingOf}
 use Rattle.listing_lines.specs.Writes.{Put, Room, zeroes, Ready, Listed, Counts}

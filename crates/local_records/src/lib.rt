@@ -1,13 +1,14 @@
 // The two public calls that are lent bracket records, with the records in a local array, as many as any text needs: whoever calls these needs
 // no walk of its MIR. What they promise is what `calls` promises, but for the records, which end with the call.
-use annotation::Annotation;
+use annotation_answer::Annotation;
 use index::Bracket;
 use lookup::LookUp;
 ghost use mathlib.Core.Path.{_≡_};
 ghost use lib.ListN.{replicate};
 ghost use Rattle.annotation.specs.Call.{annotateRun};
-ghost use Rattle.annotation.specs.Halves.{areas};
-ghost use Rattle.annotation.specs.Values.{annotationValues, annotationNumbers};
+ghost use Rattle.annotation.specs.Content.{areas};
+ghost use Rattle.annotation_answer.specs.Values.{annotationValues};
+ghost use Rattle.annotation.specs.Values.{annotationNumbers};
 ghost use Rattle.index.specs.Built.{blank};
 ghost use Rattle.lookup.specs.LookUps.{lookUpRun};
 ghost use Rattle.lookup.specs.Values.{lookUpValues, lookUpNumbers};

@@ -13,7 +13,7 @@ use crate::look_ups::first_note;
 use crate::look_ups::is_index;
 use crate::look_ups::set_index;
 use crate::look_ups::text_of;
-use annotation::Annotation;
+use annotation_answer::Annotation;
 ghost use Prim.Native.Nat.{_≤_};
 
 // What the areas of numbers hold where no call wrote, and what the area of labels.

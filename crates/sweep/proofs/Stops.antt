@@ -1,5 +1,5 @@
 -- THEOREM `SweepInTwo`: the sweep up to a bracket that wants a build, and on from there, is the sweep as run.
-use Prim.Native.Nat.{ℕ, zero, suc, _+_, _-_, _≤_, _<_}
+use Prim.Native.Nat.{ℕ, zero, suc, _-_, _≤_, _<_}
 use native.Mathlib.Omega.{arith}
 use mathlib.Core.Path.{_≡_, refl, sym, _∙_, ap}
 use mathlib.Core.List.{List, [], _++_, append-nil, append-assoc}

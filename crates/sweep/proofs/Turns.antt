@@ -21,11 +21,18 @@ use Rattle.resolve.specs.Resolve.{closeAsRun, groupAsRun}
 use Rattle.resolve.specs.Looks.{Inside}
 use Rattle.resolve.proofs.Runs.{run-inside}
 use Rattle.sweep.specs.declared.SweepState.{SweepState}
+use Rattle.lookup.specs.Groups.{Group, GroupAnswer, Found, NoGroup, groupOf, groupAccepted, judge}
+use Rattle.lookup.specs.Resolve.{closeAsRun, groupAsRun}
+use Rattle.lookup.specs.Looks.{Inside}
+use Rattle.lookup.proofs.Steps.{run-inside}
+use Rattle.group_records.specs.declared.SweepState.{SweepState}
 use Rattle.sweep.specs.declared.Step.{Step}
 use Rattle.sweep.specs.declared.Step.the-variants.{Next, Group as StepGroup, Build}
 use Rattle.sweep.specs.Sweep.{listed, nextAt}
-use Rattle.sweep.specs.Stops.{stop, foundWith, wantsAt, after, stopIn, stopFrom, Counted, Recorded, SweptTo}
-use Rattle.sweep.specs.Steps.{stepOf, stepAt, GroupFrom, Recordable, movedTo, RecordedOne, Onward, Turned}
+use Rattle.sweep.specs.Stops.{stop, foundWith, wantsAt, after, stopIn, stopFrom, SweptTo}
+use Rattle.group_records.specs.Recording.{Counted, Recorded, Recordable, RecordedOne}
+use Rattle.sweep.specs.Steps.{stepOf, stepAt, movedTo, Onward, Turned}
+use Rattle.standing.specs.Stands.{GroupFrom}
 use Rattle.sweep.proofs.Stops.{stop-end, stop-enough}
 use Rattle.sweep.proofs.Laws.{recorded-none, recorded-both}
 use Rattle.sweep.proofs.Steps.{none-wants, none-found}

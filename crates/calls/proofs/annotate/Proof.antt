@@ -49,28 +49,31 @@ use Rattle.pairs.proofs.count.Met as count-thm
 use Rattle.pairs.proofs.build_when.Symbol as when-def
 use Rattle.pairs.proofs.build_when.Symbol.{name as #pairs·build-when}
 use Rattle.pairs.proofs.build_when.Met as when-thm
-use Rattle.annotation.specs.declared.Annotation.{Annotation}
-use Rattle.annotation.proofs.Annotation as R
-use Rattle.annotation.proofs.Annotation.Laws as R′
-use Rattle.annotation.specs.declared.Begun.{Begun}
-use Rattle.annotation.proofs.Begun as P
-use Rattle.annotation.proofs.Begun.Laws as P′
-use Rattle.annotation.specs.Halves.{areas, BegunBy, Continues, Done, Finished}
+use Rattle.annotation_answer.specs.declared.Annotation.{Annotation}
+use Rattle.annotation_answer.proofs.Annotation as R
+use Rattle.annotation_answer.proofs.Annotation.Laws as R′
+use Rattle.preparation.specs.declared.Begun.{Begun}
+use Rattle.preparation.proofs.Begun as P
+use Rattle.preparation.proofs.Begun.Laws as P′
+use Rattle.annotation.specs.Content.{areas}
+use Rattle.preparation.specs.FirstHalf.{BegunBy}
+use Rattle.completion.specs.SecondHalf.{Continues, Finished}
+use Rattle.annotation.specs.Values.{Done}
 use Rattle.annotation.specs.Call.{AnnotateRan, annotateRun}
-use Rattle.annotation.proofs.HalfLaws.{builds-short, builds-wide, builds-long}
+use Rattle.preparation.proofs.BeginLaws.{builds-short, builds-wide, builds-long}
 use Rattle.annotation.proofs.Answers.{ran-index, ran-records}
-use Rattle.annotation.proofs.prepare as prepare
-use Rattle.annotation.proofs.prepare.Symbol as prepare-def
-use Rattle.annotation.proofs.prepare.Symbol.{name as #annotation·prepare}
-use Rattle.annotation.proofs.prepare.Met as prepare-thm
-use Rattle.annotation.proofs.wants_build as wants
-use Rattle.annotation.proofs.wants_build.Symbol as wants-def
-use Rattle.annotation.proofs.wants_build.Symbol.{name as #annotation·wants-build}
-use Rattle.annotation.proofs.wants_build.Met as wants-thm
-use Rattle.annotation.proofs.finish as finish
-use Rattle.annotation.proofs.finish.Symbol as finish-def
-use Rattle.annotation.proofs.finish.Symbol.{name as #annotation·finish}
-use Rattle.annotation.proofs.finish.Met as finish-thm
+use Rattle.preparation.proofs.prepare as prepare
+use Rattle.preparation.proofs.prepare.Symbol as prepare-def
+use Rattle.preparation.proofs.prepare.Symbol.{name as #preparation·prepare}
+use Rattle.preparation.proofs.prepare.Met as prepare-thm
+use Rattle.preparation.proofs.wants_build as wants
+use Rattle.preparation.proofs.wants_build.Symbol as wants-def
+use Rattle.preparation.proofs.wants_build.Symbol.{name as #preparation·wants-build}
+use Rattle.preparation.proofs.wants_build.Met as wants-thm
+use Rattle.completion.proofs.finish as finish
+use Rattle.completion.proofs.finish.Symbol as finish-def
+use Rattle.completion.proofs.finish.Symbol.{name as #completion·finish}
+use Rattle.completion.proofs.finish.Met as finish-thm
 use Rattle.calls.proofs.annotate.Key.{name as #calls·annotate}
 use Rattle.calls.proofs.annotate as f
 use Rattle.calls.proofs.annotate.Statement as stated
@@ -87,10 +90,10 @@ stayed = (stay-none-slice (0 ∷ []) tt (plain (λ _. u8)) yes, (stay-none (λ _
 abbrev Known : {M : Type 1} (𝓤 : URA M) (H : Heap 𝓤) (A : Atoms 𝓤) (mem : Memory → SProp 𝓤) (run : Routine → Fun 𝓤) (C : Calls 𝓤 H) → Type 1
 Known 𝓤 H A mem run C =
     Triple 𝓤 (C #pairs·count) (Count 𝓤 H A mem run)
-    × Triple 𝓤 (C #annotation·prepare) (tripleOf 𝓤 H A prepare.signature (prepare.spec 𝓤 H A mem run))
-    × Triple 𝓤 (C #annotation·wants-build) (tripleOf 𝓤 H A wants.signature (wants.spec 𝓤 H A mem run))
+    × Triple 𝓤 (C #preparation·prepare) (tripleOf 𝓤 H A prepare.signature (prepare.spec 𝓤 H A mem run))
+    × Triple 𝓤 (C #preparation·wants-build) (tripleOf 𝓤 H A wants.signature (wants.spec 𝓤 H A mem run))
     × Triple 𝓤 (C #pairs·build-when) (BuildWhen 𝓤 H A mem run)
-    × Triple 𝓤 (C #annotation·finish) (tripleOf 𝓤 H A finish.signature (finish.spec 𝓤 H A mem run))
+    × Triple 𝓤 (C #completion·finish) (tripleOf 𝓤 H A finish.signature (finish.spec 𝓤 H A mem run))
 
 module _ {M : Type 1} (𝓤 : URA M) (H : Heap 𝓤) (A : Atoms 𝓤) (W : Given 𝓤 H A) (mem : Memory → SProp 𝓤) (run : Routine → Fun 𝓤)
     (κ₀ κ₁ κ₂ κ₃ κ₄ κ₅ κ₆ : Lft) (q₀ q₁ q₂ q₃ q₄ q₅ q₆ : Share) (b₀ o₀ b₁ o₁ b₂ o₂ b₃ o₃ b₄ o₄ b₅ o₅ b₆ o₆ b₇ o₇ : ℕ) (γ₀ γ₁ γ₂ γ₃ γ₄ γ₅ γ₆ γ₇ : GName) (ts ps is js gs rs ls : List ℕ) (ys : List Bracket) (mode note : ℕ) where
@@ -247,8 +250,8 @@ annotate-spec 𝓤 H 𝓜 𝓖 𝓡 =
     (tables 𝓤 H 𝓜 𝓡 code.env .C) (tables 𝓤 H 𝓜 𝓡 code.env .Λ) #calls·annotate code.function (code.unfolded 𝓤 H 𝓜 𝓡)
     (annotate-meets 𝓤 H (𝓖 .A) (givenOf 𝓤 H 𝓜 𝓖) (𝓜 .mem) (𝓡 .run) (tablesOf 𝓤 H 𝓜 (tables 𝓤 H 𝓜 𝓡 code.env)) (
       cited 𝓤 H (Count 𝓤 H (𝓖 .A) (𝓜 .mem) (𝓡 .run)) 𝓜 𝓡 code.env #pairs·count count-def.routine code.calls-pairs·count (count-thm.met 𝓤 H 𝓜 𝓖 𝓡),
-      cited 𝓤 H (tripleOf 𝓤 H (𝓖 .A) prepare.signature (prepare.spec 𝓤 H (𝓖 .A) (𝓜 .mem) (𝓡 .run))) 𝓜 𝓡 code.env #annotation·prepare prepare-def.routine code.calls-annotation·prepare (prepare-thm.met 𝓤 H 𝓜 𝓖 𝓡),
-      cited 𝓤 H (tripleOf 𝓤 H (𝓖 .A) wants.signature (wants.spec 𝓤 H (𝓖 .A) (𝓜 .mem) (𝓡 .run))) 𝓜 𝓡 code.env #annotation·wants-build wants-def.routine code.calls-annotation·wants-build (wants-thm.met 𝓤 H 𝓜 𝓖 𝓡),
+      cited 𝓤 H (tripleOf 𝓤 H (𝓖 .A) prepare.signature (prepare.spec 𝓤 H (𝓖 .A) (𝓜 .mem) (𝓡 .run))) 𝓜 𝓡 code.env #preparation·prepare prepare-def.routine code.calls-preparation·prepare (prepare-thm.met 𝓤 H 𝓜 𝓖 𝓡),
+      cited 𝓤 H (tripleOf 𝓤 H (𝓖 .A) wants.signature (wants.spec 𝓤 H (𝓖 .A) (𝓜 .mem) (𝓡 .run))) 𝓜 𝓡 code.env #preparation·wants-build wants-def.routine code.calls-preparation·wants-build (wants-thm.met 𝓤 H 𝓜 𝓖 𝓡),
       cited 𝓤 H (BuildWhen 𝓤 H (𝓖 .A) (𝓜 .mem) (𝓡 .run)) 𝓜 𝓡 code.env #pairs·build-when when-def.routine code.calls-pairs·build-when (when-thm.met 𝓤 H 𝓜 𝓖 𝓡),
-      cited 𝓤 H (tripleOf 𝓤 H (𝓖 .A) finish.signature (finish.spec 𝓤 H (𝓖 .A) (𝓜 .mem) (𝓡 .run))) 𝓜 𝓡 code.env #annotation·finish finish-def.routine code.calls-annotation·finish (finish-thm.met 𝓤 H 𝓜 𝓖 𝓡),
+      cited 𝓤 H (tripleOf 𝓤 H (𝓖 .A) finish.signature (finish.spec 𝓤 H (𝓖 .A) (𝓜 .mem) (𝓡 .run))) 𝓜 𝓡 code.env #completion·finish finish-def.routine code.calls-completion·finish (finish-thm.met 𝓤 H 𝓜 𝓖 𝓡),
     ))

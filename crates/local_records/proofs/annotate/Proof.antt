@@ -44,12 +44,13 @@ use Rattle.index.proofs.Bracket.Laws as T′
 use Rattle.pairs.proofs.Lent.{at-list}
 use Rattle.pairs.proofs.Local.{local-back}
 use Rattle.base.proofs.Calling.{calls-fn, copied, last-list, no-last}
-use Rattle.annotation.specs.declared.Annotation.{Annotation}
+use Rattle.annotation_answer.specs.declared.Annotation.{Annotation}
 use Rattle.annotation.specs.Call.{AnnotateRan, annotateRun}
-use Rattle.annotation.specs.Halves.{areas}
-use Rattle.annotation.specs.Values.{annotationValues, annotationNumbers}
-use Rattle.annotation.proofs.Annotation as R
-use Rattle.annotation.proofs.Annotation.Laws as R′
+use Rattle.annotation.specs.Content.{areas}
+use Rattle.annotation_answer.specs.Values.{annotationValues}
+use Rattle.annotation.specs.Values.{annotationNumbers}
+use Rattle.annotation_answer.proofs.Annotation as R
+use Rattle.annotation_answer.proofs.Annotation.Laws as R′
 use Rattle.calls.proofs.annotate as called
 use Rattle.calls.proofs.annotate.Symbol as called-def
 use Rattle.calls.proofs.annotate.Symbol.{name as #calls·annotate}

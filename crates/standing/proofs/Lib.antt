@@ -1,0 +1,2 @@
+pub mod ItemSizes
+pub mod Lines
