@@ -1,10 +1,10 @@
--- `exports::put_two` meets its contract. Assumes nothing.
+-- `answers::put_two` meets its contract. Assumes nothing.
 use native.Mathlib.Omega.{arith}
 use lib.ListN.{length-set}
 use borrow.Author.Needs.{needs}
-use Rattle.exports.proofs.Laws.{put-laws}
-use Rattle.exports.proofs.put_two.Statement.{statement}
-use Rattle.exports.proofs.put_two.Tie as tie
+use Rattle.answers.proofs.Laws.{put-laws}
+use Rattle.answers.proofs.put_two.Statement.{statement}
+use Rattle.answers.proofs.put_two.Tie as tie
 
 pub put-two-spec : {M : Type 1} → statement M
 put-two-spec =

@@ -1,8 +1,8 @@
--- `exports::write_size` meets its contract. Assumes nothing.
+-- `answers::write_size` meets its contract. Assumes nothing.
 use borrow.Author.Needs.{needs}
-use Rattle.exports.proofs.Laws.{write-laws}
-use Rattle.exports.proofs.write_size.Statement.{statement}
-use Rattle.exports.proofs.write_size.Tie as tie
+use Rattle.answers.proofs.Laws.{write-laws}
+use Rattle.answers.proofs.write_size.Statement.{statement}
+use Rattle.answers.proofs.write_size.Tie as tie
 
 pub write-size-spec : {M : Type 1} → statement M
 write-size-spec =

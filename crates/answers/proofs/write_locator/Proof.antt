@@ -1,8 +1,8 @@
--- `exports::write_locator` meets its contract. Assumes nothing.
+-- `answers::write_locator` meets its contract. Assumes nothing.
 use borrow.Author.Needs.{needs}
-use Rattle.exports.proofs.Laws.{pair-laws, write-laws}
-use Rattle.exports.proofs.write_locator.Statement.{statement}
-use Rattle.exports.proofs.write_locator.Tie as tie
+use Rattle.answers.proofs.Laws.{pair-laws, write-laws}
+use Rattle.answers.proofs.write_locator.Statement.{statement}
+use Rattle.answers.proofs.write_locator.Tie as tie
 
 pub write-locator-spec : {M : Type 1} → statement M
 write-locator-spec =

@@ -1,8 +1,8 @@
--- `exports::write_annotation` meets its contract. Assumes nothing.
+-- `answers::write_annotation` meets its contract. Assumes nothing.
 use borrow.Author.Needs.{needs}
-use Rattle.exports.proofs.Laws.{write-laws}
-use Rattle.exports.proofs.write_annotation.Statement.{statement}
-use Rattle.exports.proofs.write_annotation.Tie as tie
+use Rattle.answers.proofs.Laws.{write-laws}
+use Rattle.answers.proofs.write_annotation.Statement.{statement}
+use Rattle.answers.proofs.write_annotation.Tie as tie
 
 pub write-annotation-spec : {M : Type 1} → statement M
 write-annotation-spec =

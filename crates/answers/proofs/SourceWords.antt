@@ -23,7 +23,7 @@ use Rattle.source.specs.Decimal.{signedDecimal}
 use Rattle.source.specs.Text.{isEmpty, beside, nameBy, nameOf, addName, namesOf, yearBy, yearOf, inParens, headOf, ended, sourceTextOf}
 use Rattle.source.specs.Call.{sourceRefused, entryAt, sourceWritten, sourceTextCall}
 use Rattle.source.specs.Values.{sourceTextNumbers}
-use Rattle.exports.specs.Words.{Words}
+use Rattle.answers.specs.Words.{Words}
 
 -- the fields -----------------------------------------------------------------------------------------------------------------------
 

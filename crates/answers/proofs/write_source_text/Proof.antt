@@ -1,8 +1,8 @@
--- `exports::write_source_text` meets its contract. Assumes nothing.
+-- `answers::write_source_text` meets its contract. Assumes nothing.
 use borrow.Author.Needs.{needs}
-use Rattle.exports.proofs.Laws.{write-laws}
-use Rattle.exports.proofs.write_source_text.Statement.{statement}
-use Rattle.exports.proofs.write_source_text.Tie as tie
+use Rattle.answers.proofs.Laws.{write-laws}
+use Rattle.answers.proofs.write_source_text.Statement.{statement}
+use Rattle.answers.proofs.write_source_text.Tie as tie
 
 pub write-source-text-spec : {M : Type 1} → statement M
 write-source-text-spec =

@@ -1,8 +1,8 @@
--- `exports::write_look_up` meets its contract. Assumes nothing.
+-- `answers::write_look_up` meets its contract. Assumes nothing.
 use borrow.Author.Needs.{needs}
-use Rattle.exports.proofs.Laws.{write-laws}
-use Rattle.exports.proofs.write_look_up.Statement.{statement}
-use Rattle.exports.proofs.write_look_up.Tie as tie
+use Rattle.answers.proofs.Laws.{write-laws}
+use Rattle.answers.proofs.write_look_up.Statement.{statement}
+use Rattle.answers.proofs.write_look_up.Tie as tie
 
 pub write-look-up-spec : {M : Type 1} → statement M
 write-look-up-spec =
