@@ -1,16 +1,16 @@
--- What the writers of the listing ask for, and what they leave: bytes written into an area from some place on.
+-- What the writers of the lines ask for, and what they leave: bytes written into an area from some place on.
 use Prim.Native.Nat.{ℕ, _+_, _*_, _≤_}
 use mathlib.Core.Path.{_≡_}
-use mathlib.Core.List.{List, [], _∷_, _++_}
-use lib.ListN.{length, getD, take, drop, replicate}
-use Rattle.base.specs.Lists.{part, written}
+use mathlib.Core.List.{List, [], _++_}
+use lib.ListN.{length, getD, drop}
+use Rattle.base.specs.Lists.{part}
 use Rattle.base.specs.Ascii.{ascii}
 use Rattle.source.specs.Decimal.{decimal}
 use Rattle.sweep.specs.Stops.{writtenAt}
 use Rattle.annotation.specs.Call.{Annotated}
 use Rattle.annotation.specs.Halves.{areas}
-use Rattle.listing_lines.specs.declared.Told.{Told}
-use Rattle.listing_lines.specs.Listing.{itemLines, listingOf}
+use Rattle.line_writers.specs.declared.Told.{Told}
+use Rattle.line_writers.specs.Lines.{itemLines}
 
 -- `bytes` stand from place `k` on in an area that was `before`, and end at `r`
 pub record Put (k : ℕ) (bytes before after : List ℕ) (r : ℕ) : Type 0 where
@@ -46,26 +46,3 @@ answerBy c items groups = record {
   labelBytes = 0;
   areas = areas items groups [] [];
 }
-
--- so many zeros
-unfoldable pub zeroes : ℕ → List ℕ
-zeroes n = replicate n 0
-
--- the areas of the definition, "so large that only 1 and 2 can come", and an area with room for the listing
-pub record Ready (text index items groups references labels out : List ℕ) : Type 0 where
-  pub short : length text ≤ 4096
-  pub index-area : index ≡ zeroes (length text)
-  pub item-area : items ≡ zeroes (16 * length text)
-  pub group-area : groups ≡ zeroes (5 * length text)
-  pub reference-area : references ≡ zeroes (length text)
-  pub label-area : labels ≡ zeroes (5 * length text)
-  pub room : length (listingOf text) ≤ length out
-
--- the listing of `text` stands at the front of an area that was `before`, is `r` bytes, and all beyond is unchanged
-pub record Listed (text before after : List ℕ) (r : ℕ) : Type 0 where
-  pub count : r ≡ length (listingOf text)
-  pub area : after ≡ written (listingOf text) before
-
--- `r` counts bytes at the front of an area. (The second part follows from the first; a caller that lends those bytes asks for it.)
-abbrev pub Counts : ℕ → List ℕ → Type 0
-Counts r area = (r ≤ length area) × (r ≡ length (take r area))

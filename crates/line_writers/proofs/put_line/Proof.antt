@@ -1,8 +1,8 @@
--- `listing_lines::put_line` meets its contract. Assumes nothing.
+-- `line_writers::put_line` meets its contract. Assumes nothing.
 use borrow.Author.Needs.{needs}
-use Rattle.listing_lines.proofs.Lines.{line-laws}
-use Rattle.listing_lines.proofs.put_line.Statement.{statement}
-use Rattle.listing_lines.proofs.put_line.Tie as tie
+use Rattle.line_writers.proofs.Lines.{line-laws}
+use Rattle.line_writers.proofs.put_line.Statement.{statement}
+use Rattle.line_writers.proofs.put_line.Tie as tie
 
 pub put-line-spec : {M : Type 1} → statement M
 put-line-spec =

@@ -1,8 +1,8 @@
--- `listing_lines::put_group_part` meets its contract. Assumes nothing.
+-- `line_writers::put_group_part` meets its contract. Assumes nothing.
 use borrow.Author.Needs.{needs}
-use Rattle.listing_lines.proofs.Lines.{group-laws}
-use Rattle.listing_lines.proofs.put_group_part.Statement.{statement}
-use Rattle.listing_lines.proofs.put_group_part.Tie as tie
+use Rattle.line_writers.proofs.Lines.{group-laws}
+use Rattle.line_writers.proofs.put_group_part.Statement.{statement}
+use Rattle.line_writers.proofs.put_group_part.Tie as tie
 
 pub put-group-part-spec : {M : Type 1} → statement M
 put-group-part-spec =

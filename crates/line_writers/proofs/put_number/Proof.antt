@@ -1,8 +1,8 @@
--- `listing_lines::put_number` meets its contract. Assumes nothing.
+-- `line_writers::put_number` meets its contract. Assumes nothing.
 use borrow.Author.Needs.{needs}
-use Rattle.listing_lines.proofs.Puts.{number-laws}
-use Rattle.listing_lines.proofs.put_number.Statement.{statement}
-use Rattle.listing_lines.proofs.put_number.Tie as tie
+use Rattle.line_writers.proofs.Puts.{number-laws}
+use Rattle.line_writers.proofs.put_number.Statement.{statement}
+use Rattle.line_writers.proofs.put_number.Tie as tie
 
 pub put-number-spec : {M : Type 1} → statement M
 put-number-spec =

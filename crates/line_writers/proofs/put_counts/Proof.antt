@@ -1,8 +1,8 @@
--- `listing_lines::put_counts` meets its contract. Assumes nothing.
+-- `line_writers::put_counts` meets its contract. Assumes nothing.
 use borrow.Author.Needs.{needs}
-use Rattle.listing_lines.proofs.Lines.{counts-laws}
-use Rattle.listing_lines.proofs.put_counts.Statement.{statement}
-use Rattle.listing_lines.proofs.put_counts.Tie as tie
+use Rattle.line_writers.proofs.Lines.{counts-laws}
+use Rattle.line_writers.proofs.put_counts.Statement.{statement}
+use Rattle.line_writers.proofs.put_counts.Tie as tie
 
 pub put-counts-spec : {M : Type 1} → statement M
 put-counts-spec =

@@ -12,7 +12,7 @@ use Rattle.source.specs.Decimal.{decimal}
 use Rattle.base.proofs.Areas.{copied}
 use Rattle.sweep.specs.Stops.{writtenAt}
 use Rattle.sweep.proofs.Laws.{written-none, written-length, written-more, written-part}
-use Rattle.listing_lines.specs.Writes.{Put, Room}
+use Rattle.line_writers.specs.Writes.{Put, Room}
 
 -- two pieces, one after the other
 module _ {k m : ℕ} {x a b : List ℕ} (p : Put k x a b m) where

@@ -1,8 +1,8 @@
--- `listing_lines::put_item_part` meets its contract. Assumes nothing.
+-- `line_writers::put_item_part` meets its contract. Assumes nothing.
 use borrow.Author.Needs.{needs}
-use Rattle.listing_lines.proofs.Lines.{item-laws}
-use Rattle.listing_lines.proofs.put_item_part.Statement.{statement}
-use Rattle.listing_lines.proofs.put_item_part.Tie as tie
+use Rattle.line_writers.proofs.Lines.{item-laws}
+use Rattle.line_writers.proofs.put_item_part.Statement.{statement}
+use Rattle.line_writers.proofs.put_item_part.Tie as tie
 
 pub put-item-part-spec : {M : Type 1} → statement M
 put-item-part-spec =

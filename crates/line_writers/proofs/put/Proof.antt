@@ -1,8 +1,8 @@
--- `listing_lines::put` meets its contract. Assumes nothing.
+-- `line_writers::put` meets its contract. Assumes nothing.
 use borrow.Author.Needs.{needs}
-use Rattle.listing_lines.proofs.Puts.{put-laws}
-use Rattle.listing_lines.proofs.put.Statement.{statement}
-use Rattle.listing_lines.proofs.put.Tie as tie
+use Rattle.line_writers.proofs.Puts.{put-laws}
+use Rattle.line_writers.proofs.put.Statement.{statement}
+use Rattle.line_writers.proofs.put.Tie as tie
 
 pub put-spec : {M : Type 1} → statement M
 put-spec =

@@ -1,8 +1,8 @@
--- `listing_lines::put_listing` meets its contract. Assumes nothing.
+-- `line_writers::put_listing` meets its contract. Assumes nothing.
 use borrow.Author.Needs.{needs}
-use Rattle.listing_lines.proofs.Lines.{listed-laws}
-use Rattle.listing_lines.proofs.put_listing.Statement.{statement}
-use Rattle.listing_lines.proofs.put_listing.Tie as tie
+use Rattle.line_writers.proofs.Lines.{listed-laws}
+use Rattle.line_writers.proofs.put_listing.Statement.{statement}
+use Rattle.line_writers.proofs.put_listing.Tie as tie
 
 pub put-listing-spec : {M : Type 1} → statement M
 put-listing-spec =

@@ -1,8 +1,8 @@
--- `listing_lines::put_count` meets its contract. Assumes nothing.
+-- `line_writers::put_count` meets its contract. Assumes nothing.
 use borrow.Author.Needs.{needs}
-use Rattle.listing_lines.proofs.Lines.{count-laws}
-use Rattle.listing_lines.proofs.put_count.Statement.{statement}
-use Rattle.listing_lines.proofs.put_count.Tie as tie
+use Rattle.line_writers.proofs.Lines.{count-laws}
+use Rattle.line_writers.proofs.put_count.Statement.{statement}
+use Rattle.line_writers.proofs.put_count.Tie as tie
 
 pub put-count-spec : {M : Type 1} → statement M
 put-count-spec =

@@ -1,14 +1,14 @@
--- `listing_lines::put_lines` meets its contract. Assumes nothing.
+-- `line_writers::put_lines` meets its contract. Assumes nothing.
 use Prim.Native.Nat.{_+_, _-_, _*_, _≤_}
 use mathlib.Core.Path.{_≡_}
 use lib.ListN.{length, drop}
 use borrow.Author.Needs.{needs}
-use Rattle.listing_lines.proofs.Lines.{lines-laws}
-use Rattle.listing_lines.specs.Listing.{itemLines}
-use Rattle.listing_lines.specs.Writes.{linesOf}
-use Rattle.listing_lines.proofs.Puts.{Along}
-use Rattle.listing_lines.proofs.put_lines.Statement.{statement}
-use Rattle.listing_lines.proofs.put_lines.Tie as tie
+use Rattle.line_writers.proofs.Lines.{lines-laws}
+use Rattle.line_writers.specs.Lines.{itemLines}
+use Rattle.line_writers.specs.Writes.{linesOf}
+use Rattle.line_writers.proofs.Puts.{Along}
+use Rattle.line_writers.proofs.put_lines.Statement.{statement}
+use Rattle.line_writers.proofs.put_lines.Tie as tie
 
 abbrev Inv-loop : tie.InvT-loop
 Inv-loop text groups g items out₀ k first count at₀ j₀ out at j =

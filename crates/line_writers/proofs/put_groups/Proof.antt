@@ -1,13 +1,13 @@
--- `listing_lines::put_groups` meets its contract. Assumes nothing.
+-- `line_writers::put_groups` meets its contract. Assumes nothing.
 use Prim.Native.Nat.{_-_, _*_, _≤_}
 use mathlib.Core.Path.{_≡_}
 use lib.ListN.{length, drop}
 use borrow.Author.Needs.{needs}
-use Rattle.listing_lines.proofs.Lines.{groups-laws}
-use Rattle.listing_lines.specs.Listing.{groupLines}
-use Rattle.listing_lines.proofs.Puts.{Along}
-use Rattle.listing_lines.proofs.put_groups.Statement.{statement}
-use Rattle.listing_lines.proofs.put_groups.Tie as tie
+use Rattle.line_writers.proofs.Lines.{groups-laws}
+use Rattle.line_writers.specs.Lines.{groupLines}
+use Rattle.line_writers.proofs.Puts.{Along}
+use Rattle.line_writers.proofs.put_groups.Statement.{statement}
+use Rattle.line_writers.proofs.put_groups.Tie as tie
 
 abbrev Inv-loop : tie.InvT-loop
 Inv-loop text n groups items out₀ k at₀ g₀ out at g =

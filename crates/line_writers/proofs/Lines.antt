@@ -10,10 +10,10 @@ use Rattle.base.specs.Lists.{part}
 use Rattle.base.specs.Ascii.{ascii}
 use Rattle.source.specs.Decimal.{decimal}
 use Rattle.numbering.specs.Records.{itemField, groupField, keyIn}
-use Rattle.listing_lines.specs.declared.Told.{Told}
-use Rattle.listing_lines.specs.Listing.{itemLine, itemLines, groupLines, countLine, refusedLine, listed}
-use Rattle.listing_lines.specs.Writes.{Put, Room, groupPart, itemPart, linesOf, answerBy}
-use Rattle.listing_lines.proofs.Puts.{two-first, two-second, two-put, Along, along-start, along-end, along-room, along-next}
+use Rattle.line_writers.specs.declared.Told.{Told}
+use Rattle.line_writers.specs.Lines.{itemLine, itemLines, groupLines, countLine, refusedLine, listed}
+use Rattle.line_writers.specs.Writes.{Put, Room, groupPart, itemPart, linesOf, answerBy}
+use Rattle.line_writers.proofs.Puts.{two-first, two-second, two-put, Along, along-start, along-end, along-room, along-next}
 
 -- a number and the byte after it
 abbrev pub field : ℕ → ℕ → List ℕ
