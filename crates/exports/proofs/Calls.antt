@@ -29,8 +29,8 @@ use denote.Triple.Spec.{tripleOf}
 use denote.Triple.Statement.{Contract, Triple}
 use Rattle.pairs.proofs.Lent.{at-list, lent, back}
 use Rattle.base.proofs.Calling.{beside, calls-row, last-list, no-last}
-use Rattle.exports.proofs.has_room as room
-use Rattle.exports.proofs.has_room.Symbol.{name as #exports·has-room}
+use Rattle.answers.proofs.has_room as room
+use Rattle.answers.proofs.has_room.Symbol.{name as #answers·has-room}
 
 pub holds : (t : Bool) → Holds t → t ≡ true
 holds true _ = refl
@@ -45,10 +45,10 @@ module _ {M : Type 1} (𝓤 : URA M) (H : Heap 𝓤) (A : Atoms 𝓤) (mem : Mem
   HasRoom = tripleOf 𝓤 H A room.signature (room.spec 𝓤 H A mem run)
 
 module _ {M : Type 1} {𝓤 : URA M} {H : Heap 𝓤} {A : Atoms 𝓤} {K : Type 0} {W : Given 𝓤 H A} {Γ : List (Item 𝓤)} {E : Env 𝓤 H} {C : Calls 𝓤 H} {Λ : Loops 𝓤 H} {p : Post 𝓤 H} {d : Place} {rest : Body} {os : List Operand} where
-  pub asks : K → (mem : Memory → SProp 𝓤) (run : Routine → Fun 𝓤) → FmC 𝓤 H (W .laws) C → Triple 𝓤 (C #exports·has-room) (HasRoom 𝓤 H A mem run)
+  pub asks : K → (mem : Memory → SProp 𝓤) (run : Routine → Fun 𝓤) → FmC 𝓤 H (W .laws) C → Triple 𝓤 (C #answers·has-room) (HasRoom 𝓤 H A mem run)
       → {κ : Lft} {q : Share} {γ : GName} (ℓ : Lifetime) (b o : ℕ) (xs : List ℕ) (n : ℕ) → n < 2 ^ 64 → Room u32 (length xs) → Opds K W Γ E os (sliceVal (b, o) (length xs) ∷ vint w64 n ∷ [])
       → Seq K W (‵ (flft κ q) ∷ ‵ (MutSlice ℓ κ u32 .own (at-list b o γ xs) (sliceVal (b, o) (length xs) ∷ [])) ∷ Γ) (lands C Λ E d (vbool (leb n (length xs))) rest p)
-      → Seq K W (‵ (flft κ q) ∷ ‵ (MutSlice ℓ κ u32 .own (at-list b o γ xs) (sliceVal (b, o) (length xs) ∷ [])) ∷ Γ) (runs C Λ E (seq (call #exports·has-room os d) rest) p)
+      → Seq K W (‵ (flft κ q) ∷ ‵ (MutSlice ℓ κ u32 .own (at-list b o γ xs) (sliceVal (b, o) (length xs) ∷ [])) ∷ Γ) (runs C Λ E (seq (call #answers·has-room os d) rest) p)
   asks t mem run fm known ℓ b o xs n fits room′ opds k =
       lent t tt u32 b o ℓ (named 0) xs (λ ν δ. owned t usize (Is usize) (uint-makes 𝓤 H A W w64) n (vint w64 n ∷ []) (refl, fits) $ nothing t $ nothing t $ move t (3 ∷ 0 ∷ 4 ∷ 2 ∷ 1 ∷ []) $
       calls-row W t room.ended (room.clauses 𝓤 H A mem run) ((ν ∷ [], tt), (fullShare, tt), tt, (at-list b o δ xs, (n, tt)), (sliceVal (b, o) (length xs) ∷ [], (vint w64 n ∷ [], tt))) tt (λ r zs. (r ≡ leb n (length xs)) × (zs .0 ≡ xs))

@@ -1,4 +1,2 @@
-mod Words
-mod SourceWords
 mod Laws
 mod Calls

@@ -25,9 +25,11 @@ use Rattle.annotation.specs.Content.{Areas, placedFrom, placedOf, contentOf, ar
 use Rattle.annotation.specs.Call.{Annotated, AnnotateRan, annotateRefused, roomFor, zeroFilled, annotateGives, answerOf, annotatePlain, annotateRun}
 use Rattle.preparation.specs.Refusal.{annotateRefusal}
 use Rattle.annotation.proofs.Truth.{annotate-true}
-use Rattle.listing_lines.specs.declared.Told.{Told}
-use Rattle.listing_lines.specs.Listing.{countLine, listed, listingAreas, listingAnswer, listingOf}
-use Rattle.listing_lines.specs.Writes.{Put, Room, answerBy, zeroes, Ready, Listed}
+use Rattle.line_writers.specs.declared.Told.{Told}
+use Rattle.line_writers.specs.Lines.{countLine, listed}
+use Rattle.listing_lines.specs.Listing.{listingAreas, listingAnswer, listingOf}
+use Rattle.line_writers.specs.Writes.{Put, Room, answerBy}
+use Rattle.listing_lines.specs.Ready.{zeroes, Ready, Listed}
 
 -- the numbers of an answer, in the arms of a `match` on it
 module _ {a : Annotation} where

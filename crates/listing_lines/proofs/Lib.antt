@@ -1,5 +1,3 @@
-pub mod Puts
-pub mod Lines
 pub mod Answers
 pub mod KeyBytes
 pub mod Bound

@@ -13,9 +13,11 @@ use Rattle.decimal.proofs.Laws.{decimal-short}
 use Rattle.group_records.specs.Areas.{writtenAt}
 use Rattle.group_records.proofs.Areas.{written-front}
 use Rattle.base.proofs.Areas.{written-length}
-use Rattle.listing_lines.specs.Listing.{refusedLine, listingOf}
-use Rattle.listing_lines.specs.Writes.{Put, Room, zeroes, Ready, Listed, Counts}
-use Rattle.listing_lines.proofs.Lines.{field, refused-word}
+use Rattle.line_writers.specs.Lines.{refusedLine}
+use Rattle.listing_lines.specs.Listing.{listingOf}
+use Rattle.line_writers.specs.Writes.{Put, Room}
+use Rattle.listing_lines.specs.Ready.{zeroes, Ready, Listed, Counts}
+use Rattle.line_writers.proofs.Lines.{field, refused-word}
 use Rattle.listing_lines.proofs.Bound.{listing-short}
 
 -- what `list` promises of an answer

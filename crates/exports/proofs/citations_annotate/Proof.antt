@@ -53,17 +53,17 @@ use Rattle.calls.proofs.annotate as called
 use Rattle.calls.proofs.annotate.Symbol as called-def
 use Rattle.calls.proofs.annotate.Symbol.{name as #calls·annotate}
 use Rattle.calls.proofs.annotate.Met as called-thm
-use Rattle.exports.specs.Words.{Words}
+use Rattle.answers.specs.Words.{Words}
 use Rattle.exports.specs.Areas.{AnnotateAreas, annotateAreas, afterAnnotate}
 use Rattle.exports.proofs.Laws.{annotate-fit, annotate-left, annotate-kept}
 use Rattle.exports.proofs.Calls.{HasRoom, asks, holds, fails}
-use Rattle.exports.proofs.has_room.Symbol as room-def
-use Rattle.exports.proofs.has_room.Symbol.{name as #exports·has-room}
-use Rattle.exports.proofs.has_room.Met as room-thm
-use Rattle.exports.proofs.write_annotation as writes
-use Rattle.exports.proofs.write_annotation.Symbol as writes-def
-use Rattle.exports.proofs.write_annotation.Symbol.{name as #exports·write-annotation}
-use Rattle.exports.proofs.write_annotation.Met as writes-thm
+use Rattle.answers.proofs.has_room.Symbol as room-def
+use Rattle.answers.proofs.has_room.Symbol.{name as #answers·has-room}
+use Rattle.answers.proofs.has_room.Met as room-thm
+use Rattle.answers.proofs.write_annotation as writes
+use Rattle.answers.proofs.write_annotation.Symbol as writes-def
+use Rattle.answers.proofs.write_annotation.Symbol.{name as #answers·write-annotation}
+use Rattle.answers.proofs.write_annotation.Met as writes-thm
 use Rattle.exports.proofs.citations_annotate.Key.{name as #exports·citations-annotate}
 use Rattle.exports.proofs.citations_annotate as f
 use Rattle.exports.proofs.citations_annotate.Statement as stated
@@ -74,9 +74,9 @@ stayed = (stay-none-slice (0 ∷ []) tt (plain (λ _. u8)) yes, (stay-none (λ _
 
 abbrev Known : {M : Type 1} (𝓤 : URA M) (H : Heap 𝓤) (A : Atoms 𝓤) (mem : Memory → SProp 𝓤) (run : Routine → Fun 𝓤) (C : Calls 𝓤 H) → Type 1
 Known 𝓤 H A mem run C =
-    Triple 𝓤 (C #exports·has-room) (HasRoom 𝓤 H A mem run)
+    Triple 𝓤 (C #answers·has-room) (HasRoom 𝓤 H A mem run)
     × Triple 𝓤 (C #calls·annotate) (tripleOf 𝓤 H A called.signature (called.spec 𝓤 H A mem run))
-    × Triple 𝓤 (C #exports·write-annotation) (tripleOf 𝓤 H A writes.signature (writes.spec 𝓤 H A mem run))
+    × Triple 𝓤 (C #answers·write-annotation) (tripleOf 𝓤 H A writes.signature (writes.spec 𝓤 H A mem run))
 
 -- the types of the locals
 abbrev textTy : Ty
@@ -275,7 +275,7 @@ citations-annotate-spec 𝓤 H 𝓜 𝓖 𝓡 =
     entered 𝓤 H (tripleOf 𝓤 H (𝓖 .A) f.signature (f.spec 𝓤 H (𝓖 .A) (𝓜 .mem) (𝓡 .run)))
     (tables 𝓤 H 𝓜 𝓡 code.env .C) (tables 𝓤 H 𝓜 𝓡 code.env .Λ) #exports·citations-annotate code.function (code.unfolded 𝓤 H 𝓜 𝓡)
     (citations-annotate-meets 𝓤 H (𝓖 .A) (givenOf 𝓤 H 𝓜 𝓖) (𝓜 .mem) (𝓡 .run) (tablesOf 𝓤 H 𝓜 (tables 𝓤 H 𝓜 𝓡 code.env)) (
-      cited 𝓤 H (HasRoom 𝓤 H (𝓖 .A) (𝓜 .mem) (𝓡 .run)) 𝓜 𝓡 code.env #exports·has-room room-def.routine code.calls-exports·has-room (room-thm.met 𝓤 H 𝓜 𝓖 𝓡),
+      cited 𝓤 H (HasRoom 𝓤 H (𝓖 .A) (𝓜 .mem) (𝓡 .run)) 𝓜 𝓡 code.env #answers·has-room room-def.routine code.calls-answers·has-room (room-thm.met 𝓤 H 𝓜 𝓖 𝓡),
       cited 𝓤 H (tripleOf 𝓤 H (𝓖 .A) called.signature (called.spec 𝓤 H (𝓖 .A) (𝓜 .mem) (𝓡 .run))) 𝓜 𝓡 code.env #calls·annotate called-def.routine code.calls-calls·annotate (called-thm.met 𝓤 H 𝓜 𝓖 𝓡),
-      cited 𝓤 H (tripleOf 𝓤 H (𝓖 .A) writes.signature (writes.spec 𝓤 H (𝓖 .A) (𝓜 .mem) (𝓡 .run))) 𝓜 𝓡 code.env #exports·write-annotation writes-def.routine code.calls-exports·write-annotation (writes-thm.met 𝓤 H 𝓜 𝓖 𝓡),
+      cited 𝓤 H (tripleOf 𝓤 H (𝓖 .A) writes.signature (writes.spec 𝓤 H (𝓖 .A) (𝓜 .mem) (𝓡 .run))) 𝓜 𝓡 code.env #answers·write-annotation writes-def.routine code.calls-answers·write-annotation (writes-thm.met 𝓤 H 𝓜 𝓖 𝓡),
     ))

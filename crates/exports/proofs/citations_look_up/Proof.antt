@@ -51,17 +51,17 @@ use Rattle.calls.proofs.look_up as called
 use Rattle.calls.proofs.look_up.Symbol as called-def
 use Rattle.calls.proofs.look_up.Symbol.{name as #calls·look-up}
 use Rattle.calls.proofs.look_up.Met as called-thm
-use Rattle.exports.specs.Words.{Words}
+use Rattle.answers.specs.Words.{Words}
 use Rattle.exports.specs.Areas.{LookUpAreas, lookUpAreas, afterLookUp}
 use Rattle.exports.proofs.Laws.{look-up-fit, look-up-left, look-up-kept}
 use Rattle.exports.proofs.Calls.{HasRoom, asks, holds, fails}
-use Rattle.exports.proofs.has_room.Symbol as room-def
-use Rattle.exports.proofs.has_room.Symbol.{name as #exports·has-room}
-use Rattle.exports.proofs.has_room.Met as room-thm
-use Rattle.exports.proofs.write_look_up as writes
-use Rattle.exports.proofs.write_look_up.Symbol as writes-def
-use Rattle.exports.proofs.write_look_up.Symbol.{name as #exports·write-look-up}
-use Rattle.exports.proofs.write_look_up.Met as writes-thm
+use Rattle.answers.proofs.has_room.Symbol as room-def
+use Rattle.answers.proofs.has_room.Symbol.{name as #answers·has-room}
+use Rattle.answers.proofs.has_room.Met as room-thm
+use Rattle.answers.proofs.write_look_up as writes
+use Rattle.answers.proofs.write_look_up.Symbol as writes-def
+use Rattle.answers.proofs.write_look_up.Symbol.{name as #answers·write-look-up}
+use Rattle.answers.proofs.write_look_up.Met as writes-thm
 use Rattle.exports.proofs.citations_look_up.Key.{name as #exports·citations-look-up}
 use Rattle.exports.proofs.citations_look_up as f
 use Rattle.exports.proofs.citations_look_up.Statement as stated
@@ -72,9 +72,9 @@ stayed = (stay-none-slice (0 ∷ []) tt (plain (λ _. u8)) yes, (stay-none (λ _
 
 abbrev Known : {M : Type 1} (𝓤 : URA M) (H : Heap 𝓤) (A : Atoms 𝓤) (mem : Memory → SProp 𝓤) (run : Routine → Fun 𝓤) (C : Calls 𝓤 H) → Type 1
 Known 𝓤 H A mem run C =
-    Triple 𝓤 (C #exports·has-room) (HasRoom 𝓤 H A mem run)
+    Triple 𝓤 (C #answers·has-room) (HasRoom 𝓤 H A mem run)
     × Triple 𝓤 (C #calls·look-up) (tripleOf 𝓤 H A called.signature (called.spec 𝓤 H A mem run))
-    × Triple 𝓤 (C #exports·write-look-up) (tripleOf 𝓤 H A writes.signature (writes.spec 𝓤 H A mem run))
+    × Triple 𝓤 (C #answers·write-look-up) (tripleOf 𝓤 H A writes.signature (writes.spec 𝓤 H A mem run))
 
 -- the types of the locals
 abbrev textTy : Ty
@@ -243,7 +243,7 @@ citations-look-up-spec 𝓤 H 𝓜 𝓖 𝓡 =
     entered 𝓤 H (tripleOf 𝓤 H (𝓖 .A) f.signature (f.spec 𝓤 H (𝓖 .A) (𝓜 .mem) (𝓡 .run)))
     (tables 𝓤 H 𝓜 𝓡 code.env .C) (tables 𝓤 H 𝓜 𝓡 code.env .Λ) #exports·citations-look-up code.function (code.unfolded 𝓤 H 𝓜 𝓡)
     (citations-look-up-meets 𝓤 H (𝓖 .A) (givenOf 𝓤 H 𝓜 𝓖) (𝓜 .mem) (𝓡 .run) (tablesOf 𝓤 H 𝓜 (tables 𝓤 H 𝓜 𝓡 code.env)) (
-      cited 𝓤 H (HasRoom 𝓤 H (𝓖 .A) (𝓜 .mem) (𝓡 .run)) 𝓜 𝓡 code.env #exports·has-room room-def.routine code.calls-exports·has-room (room-thm.met 𝓤 H 𝓜 𝓖 𝓡),
+      cited 𝓤 H (HasRoom 𝓤 H (𝓖 .A) (𝓜 .mem) (𝓡 .run)) 𝓜 𝓡 code.env #answers·has-room room-def.routine code.calls-answers·has-room (room-thm.met 𝓤 H 𝓜 𝓖 𝓡),
       cited 𝓤 H (tripleOf 𝓤 H (𝓖 .A) called.signature (called.spec 𝓤 H (𝓖 .A) (𝓜 .mem) (𝓡 .run))) 𝓜 𝓡 code.env #calls·look-up called-def.routine code.calls-calls·look-up (called-thm.met 𝓤 H 𝓜 𝓖 𝓡),
-      cited 𝓤 H (tripleOf 𝓤 H (𝓖 .A) writes.signature (writes.spec 𝓤 H (𝓖 .A) (𝓜 .mem) (𝓡 .run))) 𝓜 𝓡 code.env #exports·write-look-up writes-def.routine code.calls-exports·write-look-up (writes-thm.met 𝓤 H 𝓜 𝓖 𝓡),
+      cited 𝓤 H (tripleOf 𝓤 H (𝓖 .A) writes.signature (writes.spec 𝓤 H (𝓖 .A) (𝓜 .mem) (𝓡 .run))) 𝓜 𝓡 code.env #answers·write-look-up writes-def.routine code.calls-answers·write-look-up (writes-thm.met 𝓤 H 𝓜 𝓖 𝓡),
     ))

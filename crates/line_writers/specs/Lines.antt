@@ -1,0 +1,43 @@
+-- The lines of the listing: what each says, by the records of an answer.
+use Prim.Native.Nat.{ℕ, zero, suc, _+_, _*_}
+use mathlib.Core.List.{List, [], _++_}
+use lib.ListN.{getD, drop}
+use lib.Dec.{eqb}
+use Rattle.base.specs.Pick.{pick}
+use Rattle.base.specs.Lists.{part}
+use Rattle.base.specs.Ascii.{ascii}
+use Rattle.source.specs.Decimal.{decimal}
+use Rattle.annotation.specs.Call.{Annotated}
+
+-- numbers with a space between them, and the key after the third: "group offset, length, standing, key, label code, number"
+unfoldable pub itemLine : List ℕ → List ℕ → List ℕ → List ℕ
+itemLine text group item =
+    decimal (getD group 0 0) ++ ascii " " ++ decimal (getD group 1 0) ++ ascii " " ++ decimal (getD group 4 0) ++ ascii " "
+    ++ part text (getD item 2 0) (getD item 2 0 + getD item 3 0)
+    ++ ascii " " ++ decimal (getD item 10 0) ++ ascii " " ++ decimal (getD item 12 0) ++ ascii "\n"
+
+-- the lines of the `k` items from the front of the item records
+unfoldable pub itemLines : ℕ → List ℕ → List ℕ → List ℕ → List ℕ
+itemLines zero text group items = []
+itemLines (suc k) text group items = itemLine text group items ++ itemLines k text group (drop 16 items)
+
+-- "then per item": the lines of the `g` groups from the front of the group records
+unfoldable pub groupLines : ℕ → List ℕ → List ℕ → List ℕ → List ℕ
+groupLines zero text groups items = []
+groupLines (suc g) text groups items =
+    itemLines (getD groups 3 0) text groups (drop (16 * getD groups 2 0) items) ++ groupLines g text (drop 5 groups) items
+
+-- "counts (sources = distinct numbered keys)"
+unfoldable pub countLine : Annotated → List ℕ
+countLine a =
+    ascii "groups " ++ decimal (a .groups) ++ ascii " items " ++ decimal (a .items) ++ ascii " sources " ++ decimal (a .sources)
+    ++ ascii "\n"
+
+-- "it prints only `refused N`"
+unfoldable pub refusedLine : ℕ → List ℕ
+refusedLine number = ascii "refused " ++ decimal number ++ ascii "\n"
+
+-- the lines of an answer, or only its refusal
+unfoldable pub listed : List ℕ → Annotated → List ℕ
+listed text a =
+    pick (eqb (a .number) 0) (countLine a ++ groupLines (a .groups) text (a .areas .groups) (a .areas .items)) (refusedLine (a .number))
