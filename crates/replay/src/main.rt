@@ -1,13 +1,5 @@
 // Replays the Rust's stored answers, data/answers, against the proved functions, and says for each kind how many agree.
 // docs/DIFFERENCES.md says how the list was made and how it is laid out.
-mod annotations;
-mod areas;
-mod body;
-mod leaves;
-mod look_ups;
-mod parts;
-mod pools;
-
 ghost use mathlib.Core.Path.{_≡_};
 ghost use Prim.Native.Nat.{_<_, _≤_};
 ghost use lib.ListN.{length};
@@ -54,40 +46,40 @@ fn counted(t: Tally, is_same: bool) -> Tally {
 // Whether the proved function of this kind gives the answer that the record's body holds.
 fn agrees(kind: u8, body: &[u8]) -> bool {
     if kind == 1 {
-        return leaves::utf8_agrees(body);
+        return replay_parts::leaves::utf8_agrees(body);
     }
     if kind == 2 {
-        return leaves::escaped_agrees(body);
+        return replay_parts::leaves::escaped_agrees(body);
     }
     if kind == 3 {
-        return leaves::key_agrees(body);
+        return replay_parts::leaves::key_agrees(body);
     }
     if kind == 4 {
-        return leaves::white_agrees(body);
+        return replay_parts::leaves::white_agrees(body);
     }
     if kind == 5 {
-        return leaves::trim_agrees(body);
+        return replay_parts::leaves::trim_agrees(body);
     }
     if kind == 6 {
-        return parts::close_agrees(body);
+        return replay_parts::parts::close_agrees(body);
     }
     if kind == 7 {
-        return parts::locator_agrees(body);
+        return replay_calls::locator_agrees(body);
     }
     if kind == 8 {
-        return parts::item_agrees(body);
+        return replay_parts::parts::item_agrees(body);
     }
     if kind == 9 {
-        return pools::pool_agrees(body);
+        return replay_parts::pools::pool_agrees(body);
     }
     if kind == 10 {
-        return pools::source_agrees(body);
+        return replay_calls::source_agrees(body);
     }
     if kind == 11 {
-        return look_ups::look_ups_agree(body);
+        return replay_look_ups::look_ups_agree(body);
     }
     if kind == 12 {
-        return annotations::annotations_agree(body);
+        return replay_annotations::annotations_agree(body);
     }
     false
 }
@@ -100,7 +92,7 @@ fn judged(t: Tally, kind: u8, record: &[u8]) -> Tally {
     if record[0] != kind {
         return t;
     }
-    if body::length(record, 1) + 4 != record.len() {
+    if replay_body::body::length(record, 1) + 4 != record.len() {
         return counted(t, false);
     }
     counted(t, agrees(kind, &record[4..]))
@@ -111,7 +103,7 @@ fn record_end(block: &[u8], at: usize) -> usize
     requires { ⌜ at < length (now block) ⌝ }
     ensures { λ r. ⌜ (at < r) × (r ≤ length (now (block .entry))) ⌝ }
 {
-    let n = body::length(block, at + 1);
+    let n = replay_body::body::length(block, at + 1);
     if n + 4 <= block.len() - at {
         at + (n + 4)
     } else {
