@@ -8,7 +8,7 @@ use lib.Dec.{leb}
 use Rattle.base.specs.Pick.{pick}
 use Rattle.base.specs.Lists.{written}
 use Rattle.numbering.specs.Numbers.{Numbered, numberAll}
-use Rattle.numbering.specs.References.{referencesIn, SourcesKnown}
+use Rattle.order.specs.References.{referencesIn, SourcesKnown}
 use Rattle.annotation_answer.specs.declared.Annotation.{Annotation}
 use Rattle.annotation_answer.specs.Values.{annotationValues}
 use Rattle.annotation_answer.specs.Zeros.{zeros}

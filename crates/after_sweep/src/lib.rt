@@ -4,7 +4,7 @@ use annotation_answer::Annotation;
 use annotation_answer::refuse_ten;
 use group_records::SweepState;
 use numbering::number_groups;
-use numbering::order_references;
+use order::order_references;
 ghost use mathlib.Core.Path.{_≡_};
 ghost use Prim.Native.Nat.{_≤_};
 ghost use mathlib.Core.Bool.{true};

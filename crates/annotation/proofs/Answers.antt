@@ -13,9 +13,6 @@ use Rattle.index.specs.declared.Bracket.{Bracket}
 use Rattle.index.specs.Built.{builtIndex, builtRecords}
 use Rattle.item.specs.Group.{Group}
 use Rattle.resolve.specs.Resolve.{noteAfter, indexAfter, recordsAfter}
-use Rattle.sweep.specs.declared.SweepState.{SweepState}
-use Rattle.lookup.specs.Groups.{Group}
-use Rattle.lookup.specs.Resolve.{noteAfter, indexAfter, recordsAfter}
 use Rattle.group_records.specs.declared.SweepState.{SweepState}
 use Rattle.sweep.specs.Sweep.{Lent, lentOf, lentAfter, sweepRun}
 use Rattle.standing.specs.Rows.{groupRows, itemCount, itemRows, sweptFrom}
@@ -24,22 +21,18 @@ use Rattle.group_records.specs.Recording.{Recorded}
 use Rattle.sweep.proofs.Laws.{item-rows-length, group-rows-length, swept-length, all-groups-count, all-items-count, all-fitted, all-item-rows, all-group-rows, swept-whole, swept-lent}
 use Rattle.numbering.specs.Numbers.{Numbered, numberAll}
 use Rattle.order.specs.References.{SourcesKnown}
-use Rattle.annotation.specs.declared.Annotation.{Annotation}
-use Rattle.annotation.specs.declared.Annotation.the-variants.{Refused}
-use Rattle.annotation.specs.declared.Begun.{Begun}
-use Rattle.annotation.specs.Content.{Areas, contentOf}
-use Rattle.annotation.specs.Call.{annotateRefusal, annotateRefused, roomFor, filled, zeros, zeroFilled, annotateGives, answerOf, AnnotateRan, annotateRan, annotateSwept, annotateRun}
-use Rattle.annotation.specs.Values.{annotationValues, annotationNumbers}
-use Rattle.numbering.specs.References.{SourcesKnown}
 use Rattle.annotation_answer.specs.declared.Annotation.{Annotation}
 use Rattle.annotation_answer.specs.declared.Annotation.the-variants.{Refused}
 use Rattle.preparation.specs.declared.Begun.{Begun}
-use Rattle.annotation.specs.Content.{Areas, contentOf, areas}
+use Rattle.annotation.specs.Content.{Areas, contentOf}
 use Rattle.preparation.specs.Refusal.{annotateRefusal}
 use Rattle.annotation.specs.Call.{annotateRefused, roomFor, filled, zeroFilled, annotateGives, answerOf, AnnotateRan, annotateRan, annotateSwept, annotateRun}
-use Rattle.annotation_answer.specs.Zeros.{zeros, Zeroed}
+use Rattle.annotation_answer.specs.Zeros.{zeros}
 use Rattle.annotation_answer.specs.Values.{annotationValues}
-use Rattle.annotation.specs.Values.{annotationNumbers, Done}
+use Rattle.annotation.specs.Values.{annotationNumbers}
+use Rattle.annotation.specs.Content.{areas}
+use Rattle.annotation_answer.specs.Zeros.{Zeroed}
+use Rattle.annotation.specs.Values.{Done}
 use Rattle.annotation.specs.Steps.{sweptItems, sweptGroups, numberedFrom, referencesFrom, Fits, ContentAs}
 use Rattle.preparation.specs.FirstHalf.{BegunBy}
 use Rattle.after_sweep.specs.Ordering.{roomThen, referencesThen, Ordered}

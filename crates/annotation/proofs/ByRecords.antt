@@ -20,19 +20,14 @@ use Rattle.item.specs.Group.{Group}
 use Rattle.pool.specs.Layout.{hasPool}
 use Rattle.definition_line.specs.Lines.{inLine, groupEnd}
 use Rattle.definition.specs.Defs.{defOf}
-use Rattle.sweep.specs.Rows.{Placed, groupWidth, groupRow, groupRows, itemCount}
+use Rattle.standing.specs.Rows.{groupWidth, itemCount}
 use Rattle.defined.specs.Definitions.{definitionIn}
 use Rattle.records.specs.Records.{itemField, keyIn}
 use Rattle.numbering.specs.Numbers.{Numbered}
 use Rattle.uses.specs.Uses.{usedAt}
 use Rattle.order.specs.Order.{less, Ranked, insert}
 use Rattle.order.specs.References.{firstWith, sourceKeyIn, rankIn, rankedIn, referencesIn, numberOfKey, SourcesKnown}
-use Rattle.standing.specs.Rows.{groupWidth, itemCount}
 use Rattle.sweep.proofs.Laws.{group-rows-length}
-use Rattle.numbering.specs.Records.{itemField, keyIn, definitionIn}
-use Rattle.numbering.specs.Numbers.{Numbered, usedAt}
-use Rattle.numbering.specs.Order.{less, Ranked, insert}
-use Rattle.numbering.specs.References.{firstWith, sourceKeyIn, rankIn, rankedIn, referencesIn, numberOfKey, SourcesKnown}
 use Rattle.numbering.proofs.ByLines.{definition-same}
 use Rattle.annotation.specs.Sources.{Source, placeOf, numberOf}
 use Rattle.annotation.specs.Order.{rankOf, rankedFrom, referencesOf}

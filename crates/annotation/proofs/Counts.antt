@@ -9,9 +9,6 @@ use lib.Dec.{eqb}
 use Rattle.base.specs.Pick.{pick}
 use Rattle.item.specs.Group.{Group}
 use Rattle.definition_line.specs.Lines.{inLine, groupEnd, keyOf}
-use Rattle.sweep.specs.Rows.{itemCount}
-use Rattle.lookup.specs.Groups.{Group}
-use Rattle.definition.specs.Lines.{inLine, groupEnd, keyOf}
 use Rattle.standing.specs.Rows.{itemCount}
 use Rattle.annotation.specs.Sources.{Source}
 use Rattle.annotation.specs.Content.{standingOf, allDefined, placedFrom, placedOf, tallyOf}

@@ -18,61 +18,15 @@ use Rattle.rows.specs.Rows.{itemWidth, recordOf, rowOf, rowsIn, rowsOf}
 use Rattle.pool.specs.Layout.{hasPool}
 use Rattle.definition_line.specs.Lines.{inLine, groupEnd, keyOf}
 use Rattle.definition.specs.Defs.{defOf, isDefined}
-use Rattle.sweep.specs.Rows.{Placed, placed, groupWidth, groupRow, groupRows, sweptFrom, itemRows, itemCount}
+use Rattle.standing.specs.Rows.{Placed, placed, groupWidth, groupRow, groupRows, sweptFrom, itemRows, itemCount}
 use Rattle.defined.specs.Definitions.{definitionIn}
 use Rattle.records.specs.Records.{itemField, groupField, keyIn, suppressedIn}
 use Rattle.numbering.specs.Numbers.{Numbered, labelIn, citeAs, citeIn, citeFrom, definedFrom, standsNumbered, isNumbered, numberGroup, numberFrom, numberAll}
 use Rattle.uses.specs.Uses.{numberIn, useIn, sourcesIn}
 use Rattle.uses.proofs.Fields.{item-field, set-last, set-standing, SameItems, SameGroups, set-last-same, set-standing-same, set-last-other}
-use Rattle.standing.specs.Rows.{Placed, placed, groupWidth, groupRow, groupRows, sweptFrom, itemRows, itemCount}
-use Rattle.numbering.specs.Records.{itemField, groupField, keyIn, suppressedIn, definitionIn}
-use Rattle.numbering.specs.Numbers.{
-  Numbered,
-  numberIn,
-  useIn,
-  sourcesIn,
-  labelIn,
-  citeAs,
-  citeIn,
-  citeFrom,
-  definedFrom,
-  standsNumbered,
-  isNumbered,
-  numberGroup,
-  numberFrom,
-  numberAll,
-}
-use Rattle.numbering.proofs.Fields.{item-field, set-last, set-standing, SameItems, SameGroups, set-last-same, set-standing-same, set-last-other}
-use Rattle.numbering.proofs.ByLines.{
-  key-same,
-  definition-same,
-  key-at,
-  suppressed-at,
-  regroup,
-  Closes,
-  LieAt,
-  group-first,
-  group-items,
-  group-standing,
-  swept-groups,
-  definition-swept,
-}
+use Rattle.numbering.proofs.ByLines.{key-same, definition-same, key-at, suppressed-at, regroup, Closes, LieAt, group-first, group-items, group-standing, swept-groups, definition-swept}
 use Rattle.annotation.specs.Sources.{numberOf, useOf, used}
-use Rattle.annotation.specs.Content.{
-  Tally,
-  tally,
-  allDefined,
-  standingOf,
-  placedFrom,
-  placedOf,
-  labelFor,
-  cited,
-  numbered,
-  unnumbered,
-  addItem,
-  addGroup,
-  tallyOf,
-}
+use Rattle.annotation.specs.Content.{Tally, tally, allDefined, standingOf, placedFrom, placedOf, labelFor, cited, numbered, unnumbered, addItem, addGroup, tallyOf}
 use Rattle.annotation.specs.Steps.{Fits, sweptItems, sweptGroups, numberedFrom, DefinitionsAgree, NumbersAgree}
 use Rattle.annotation.proofs.Joins.{Joined, joined-none, joined-on, joined-cite, number-agrees, use-agrees, sources-agree}
 

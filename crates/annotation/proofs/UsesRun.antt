@@ -18,8 +18,6 @@ use Rattle.item.specs.Group.{Group}
 use Rattle.rows.specs.Rows.{itemWidth, recordOf, rowOf}
 use Rattle.pool.specs.Layout.{hasPool}
 use Rattle.definition_line.specs.Lines.{inLine, groupEnd, keyOf}
-use Rattle.sweep.specs.Rows.{Placed, placed, itemCount}
-use Rattle.definition.specs.Lines.{inLine, groupEnd, keyOf}
 use Rattle.standing.specs.Rows.{Placed, placed, itemCount}
 use Rattle.annotation.specs.Sources.{numberOf, usesOf, useOf, used}
 use Rattle.annotation.specs.Content.{Tally, tally, allDefined, standingOf, placedFrom, labelFor, cited, numbered, unnumbered, addItem, addGroup, tallyOf, placedOf}

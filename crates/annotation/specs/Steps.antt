@@ -10,10 +10,8 @@ use Rattle.item.specs.Group.{Group}
 use Rattle.rows.specs.Rows.{itemWidth}
 use Rattle.definition.specs.Defs.{defOf}
 use Rattle.sweep.specs.Sweep.{Lent, sweepRun}
-use Rattle.sweep.specs.Rows.{groupWidth, groupRows, sweptFrom, itemRows, itemCount}
-use Rattle.defined.specs.Definitions.{definitionIn}
 use Rattle.standing.specs.Rows.{groupWidth, groupRows, sweptFrom, itemRows, itemCount}
-use Rattle.numbering.specs.Records.{definitionIn}
+use Rattle.defined.specs.Definitions.{definitionIn}
 use Rattle.numbering.specs.Numbers.{Numbered, numberAll}
 use Rattle.order.specs.References.{referencesIn}
 use Rattle.annotation.specs.Order.{referencesOf}

@@ -6,8 +6,8 @@ use lib.ListN.{length, set}
 use mir.Syntax.{w32}
 use mir.Val.{Fits}
 use Rattle.base.specs.Lists.{written}
-use Rattle.lookup.specs.Rows.{putAt}
-use Rattle.lookup.proofs.Areas.{put-written}
+use Rattle.rows.specs.Rows.{putAt}
+use Rattle.rows.proofs.Areas.{put-written}
 use Rattle.locator.specs.declared.Locator.{Locator}
 use Rattle.locator.specs.Answers.{codeOf, valueOf, suffixOf}
 use Rattle.base.specs.declared.Span.{Span}
@@ -18,12 +18,12 @@ use Rattle.lookup.specs.declared.LocatorAnswer.the-variants.{Accepted as Locato
 use Rattle.lookup.specs.declared.Size.{Size}
 use Rattle.lookup.specs.declared.Size.the-variants.{Accepted as SizeIs, Refused as NoSize}
 use Rattle.lookup.specs.Values.{lookUpValues, locatorValues, sizeValues}
-use Rattle.source.specs.declared.SourceText.{SourceText}
-use Rattle.source.specs.declared.SourceText.the-variants.{Accepted as SourceIs, Refused as NoSource}
-use Rattle.source.specs.Values.{sourceTextValues}
-use Rattle.annotation.specs.declared.Annotation.{Annotation}
-use Rattle.annotation.specs.declared.Annotation.the-variants.{Accepted as Annotates, Refused as NoAnnotation}
-use Rattle.annotation.specs.Values.{annotationValues}
+use Rattle.source_text.specs.declared.SourceText.{SourceText}
+use Rattle.source_text.specs.declared.SourceText.the-variants.{Accepted as SourceIs, Refused as NoSource}
+use Rattle.source_text.specs.Values.{sourceTextValues}
+use Rattle.annotation_answer.specs.declared.Annotation.{Annotation}
+use Rattle.annotation_answer.specs.declared.Annotation.the-variants.{Accepted as Annotates, Refused as NoAnnotation}
+use Rattle.annotation_answer.specs.Values.{annotationValues}
 use Rattle.answers.specs.Words.{Words}
 
 -- what is put

@@ -26,10 +26,6 @@ use Rattle.source_parts.specs.Names.{nameBy, nameOf}
 use Rattle.source_parts.specs.Parens.{inParens}
 use Rattle.source_text.specs.Call.{sourceRefused, entryAt, sourceWritten, sourceTextCall}
 use Rattle.source_text.specs.Values.{sourceTextNumbers}
-use Rattle.exports.specs.Words.{Words}
-use Rattle.source.specs.Text.{isEmpty, beside, nameBy, nameOf, addName, namesOf, yearBy, yearOf, inParens, headOf, ended, sourceTextOf}
-use Rattle.source.specs.Call.{sourceRefused, entryAt, sourceWritten, sourceTextCall}
-use Rattle.source.specs.Values.{sourceTextNumbers}
 use Rattle.answers.specs.Words.{Words}
 
 -- the fields -----------------------------------------------------------------------------------------------------------------------

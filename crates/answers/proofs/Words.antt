@@ -31,15 +31,11 @@ use Rattle.pool.specs.Layout.{wellFormed}
 use Rattle.sweep.specs.Sweep.{Lent, Swept, lentOf, lentAfter, swept, listed, nextAt, foundRun, buildsAt, sweepRunIn, sweepRun}
 use Rattle.sweep.specs.Stops.{stopFrom}
 use Rattle.sweep.specs.Facts.{goneOn}
-use Rattle.sweep.specs.Rows.{itemCount}
-use Rattle.sweep.proofs.Sizes.{items-size, size-enough-run}
-use Rattle.resolve.specs.Looks.{Inside}
-use Rattle.resolve.proofs.Runs.{run-inside}
 use Rattle.standing.specs.Rows.{itemCount}
 use Rattle.standing.proofs.ItemSizes.{items-size}
 use Rattle.sweep.proofs.Sizes.{size-enough-run}
-use Rattle.lookup.specs.Looks.{Inside}
-use Rattle.lookup.proofs.Steps.{run-inside}
+use Rattle.resolve.specs.Looks.{Inside}
+use Rattle.resolve.proofs.Runs.{run-inside}
 use Rattle.sweep.proofs.Stops.{sweep-in-two}
 use Rattle.annotation.specs.Content.{Areas, tallyOf, contentOf}
 use Rattle.annotation.specs.Call.{AnnotateRan, annotateRefused, roomFor, zeroFilled, annotateGives, answerOf, annotateRan, annotateSwept, annotateRun}
@@ -48,8 +44,6 @@ use Rattle.annotation.specs.Values.{annotationNumbers}
 use Rattle.annotation.proofs.Counts.{sources-by}
 use Rattle.annotation.proofs.ByRecords.{references-length}
 use Rattle.preparation.proofs.RefusalLaws.{unrefused as annotate-unrefused}
-use Rattle.exports.specs.Words.{Words}
-use Rattle.annotation.proofs.RefusalLaws.{unrefused as annotate-unrefused}
 use Rattle.answers.specs.Words.{Words}
 
 -- the size and the locator call ---------------------------------------------------------------------------------------------------

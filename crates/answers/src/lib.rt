@@ -1,19 +1,19 @@
 // The answer areas of the C names: the numbers of an answer as `u32`s at the front of a lent area, the rest of which stays as it was.
 // `has_room` says whether an area can hold them; the writers ask for that, and that each number fits.
-use annotation::Annotation;
+use annotation_answer::Annotation;
 use lookup::LocatorAnswer;
 use lookup::LookUp;
 use lookup::Size;
-use source::SourceText;
+use source_text::SourceText;
 ghost use mathlib.Core.List.{[], _∷_};
 ghost use mathlib.Core.Path.{_≡_};
 ghost use Prim.Native.Nat.{_≤_};
 ghost use lib.Dec.{leb};
 ghost use lib.ListN.{length};
-ghost use Rattle.annotation.specs.Values.{annotationValues};
+ghost use Rattle.annotation_answer.specs.Values.{annotationValues};
 ghost use Rattle.base.specs.Lists.{written};
 ghost use Rattle.lookup.specs.Values.{lookUpValues, locatorValues, sizeValues};
-ghost use Rattle.source.specs.Values.{sourceTextValues};
+ghost use Rattle.source_text.specs.Values.{sourceTextValues};
 ghost use Rattle.answers.specs.Words.{Words};
 
 // Whether `answer` has room for `n` numbers.

@@ -6,7 +6,7 @@ use mathlib.Core.List.{List, []}
 use mathlib.Core.Bool.{true, false}
 use lib.ListN.{length}
 use Rattle.pool.specs.Layout.{wellFormed}
-use Rattle.lookup.specs.Resolve.{noteAfter}
+use Rattle.resolve.specs.Resolve.{noteAfter}
 use Rattle.group_records.specs.declared.SweepState.{SweepState}
 use Rattle.group_records.specs.Recording.{Counted}
 use Rattle.sweep.specs.Stops.{SweptTo}

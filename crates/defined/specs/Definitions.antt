@@ -8,9 +8,6 @@ use lib.Dec.{eqb, ltb}
 use Rattle.base.specs.Pick.{pick}
 use Rattle.base.specs.Last.{last}
 use Rattle.base.specs.Lists.{same}
-use Rattle.base.specs.Lists.{part, same}
-use Rattle.lookup.specs.Rows.{itemWidth}
-use Rattle.standing.specs.Rows.{groupWidth}
 use Rattle.pool.specs.Layout.{entriesOf}
 use Rattle.definition_line.specs.Lines.{startsLine, colonAfter}
 use Rattle.definition.specs.Defs.{Def, lineDef, firstEntry}

@@ -13,7 +13,6 @@ ghost use Rattle.pool.specs.Layout.{countOf, wellFormed};
 ghost use Rattle.pool.specs.Places.{FieldsIn};
 ghost use Rattle.source.specs.Entry.{isEmpty, orBytes, authorBy, authorOf, yearOf};
 ghost use Rattle.entries.specs.Entries.{entryAt, entryHas, entryIn, GivesAuthor, GivesYear};
-ghost use Rattle.numbering.specs.Defined.{entryAt};
 
 // Whether the id that lies at `id` is the key; an empty one never is.
 fn is_id(pool: &[u8], id: Span, key: &[u8]) -> bool

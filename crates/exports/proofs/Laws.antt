@@ -7,11 +7,6 @@ use lib.ListN.{length}
 use lib.Dec.{leb}
 use borrow.Author.Tests.{leb-true}
 use Rattle.base.specs.Lists.{written}
-use Rattle.rows.specs.Rows.{putAt}
-use Rattle.rows.proofs.Areas.{put-written}
-use Rattle.locator.specs.declared.Locator.{Locator}
-use Rattle.locator.specs.Answers.{codeOf, valueOf, suffixOf}
-use Rattle.base.specs.declared.Span.{Span}
 use Rattle.lookup.specs.declared.LookUp.{LookUp}
 use Rattle.lookup.specs.declared.LocatorAnswer.{LocatorAnswer}
 use Rattle.lookup.specs.declared.Size.{Size}
@@ -19,17 +14,9 @@ use Rattle.lookup.specs.Others.{locatorCall, sizeCall}
 use Rattle.lookup.specs.LookUps.{LookUpRan, lookUpRun}
 use Rattle.lookup.specs.Values.{lookUpValues, lookUpNumbers, locatorValues, locatorNumbers, sizeValues, sizeNumbers}
 use Rattle.source_text.specs.declared.SourceText.{SourceText}
-use Rattle.source_text.specs.declared.SourceText.the-variants.{Accepted as SourceIs, Refused as NoSource}
 use Rattle.source_text.specs.Call.{sourceTextCall}
 use Rattle.source_text.specs.Values.{sourceTextValues, sourceTextNumbers}
-use Rattle.annotation.specs.declared.Annotation.{Annotation}
-use Rattle.annotation.specs.declared.Annotation.the-variants.{Accepted as Annotates, Refused as NoAnnotation}
-use Rattle.source.specs.declared.SourceText.{SourceText}
-use Rattle.source.specs.Call.{sourceTextCall}
-use Rattle.source.specs.Values.{sourceTextValues, sourceTextNumbers}
 use Rattle.annotation_answer.specs.declared.Annotation.{Annotation}
-use Rattle.annotation_answer.specs.declared.Annotation.the-variants.{Accepted as Annotates, Refused as NoAnnotation}
-use Rattle.annotation.specs.declared.Annotation.{Annotation}
 use Rattle.annotation.specs.Content.{Areas}
 use Rattle.annotation.specs.Call.{AnnotateRan, annotateRun}
 use Rattle.annotation_answer.specs.Values.{annotationValues}

@@ -6,30 +6,10 @@ use lookup::LocatorAnswer;
 use lookup::LookUp;
 use lookup::Size;
 use source_text::SourceText;
-ghost use mathlib.Core.List.{[], _∷_};
 ghost use mathlib.Core.Path.{_≡_};
-ghost use Prim.Native.Nat.{_≤_};
-ghost use lib.Dec.{leb};
-ghost use lib.ListN.{length};
 ghost use Rattle.annotation.specs.Content.{areas};
-ghost use Rattle.annotation_answer.specs.Values.{annotationValues};
-ghost use Rattle.base.specs.Lists.{written};
-ghost use Rattle.lookup.specs.Values.{lookUpValues, locatorValues, sizeValues};
-ghost use Rattle.source_text.specs.Values.{sourceTextValues};
-ghost use Rattle.exports.specs.Words.{Words};
 use index::Bracket;
-ghost use mathlib.Core.Path.{_≡_};
-ghost use Rattle.annotation.specs.Halves.{areas};
-ghost use Rattle.exports.specs.Areas.{
-  lookUpAreas,
-  afterLookUp,
-  annotateAreas,
-  afterAnnotate,
-  afterSize,
-  afterLocator,
-  sourceAreas,
-  afterSourceText,
-};
+ghost use Rattle.exports.specs.Areas.{lookUpAreas, afterLookUp, annotateAreas, afterAnnotate, afterSize, afterLocator, sourceAreas, afterSourceText};
 
 // calls::look_up; answer: number, close, item count, note.
 #[no_mangle]

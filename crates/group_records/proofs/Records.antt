@@ -18,23 +18,14 @@ use Rattle.resolve.specs.Groups.{barred, groupAccepted}
 use Rattle.rows.specs.Rows.{rowsOf, rowsLength}
 use Rattle.rows.proofs.RowLaws.{rows-length}
 use Rattle.definition_line.specs.Lines.{inLine}
-use Rattle.sweep.specs.declared.SweepState.{SweepState}
-use Rattle.sweep.specs.Rows.{groupRow, groupRows, itemCount, itemRows, sweptFrom, insideAfter, endAfter}
-use Rattle.sweep.specs.Stops.{writtenAt, recordsFit, Counted}
-use Rattle.sweep.specs.Steps.{ItemsRoom, Recordable, afterGroup, RecordedOne}
-use Rattle.sweep.proofs.Sizes.{items-size}
-use Rattle.sweep.proofs.Laws.{written-length, written-part}
-use Rattle.index.specs.Entries.{goodItems}
-use Rattle.lookup.specs.Groups.{groupOf, barred, groupAccepted}
-use Rattle.lookup.specs.Rows.{rowsOf, rowsLength}
-use Rattle.lookup.proofs.RowLaws.{rows-length}
-use Rattle.definition.specs.Lines.{inLine}
 use Rattle.group_records.specs.declared.SweepState.{SweepState}
 use Rattle.standing.specs.Rows.{groupRow, groupRows, itemCount, itemRows, sweptFrom, insideAfter, endAfter}
 use Rattle.group_records.specs.Areas.{writtenAt}
-use Rattle.group_records.specs.Recording.{recordsFit, Counted, ItemsRoom, Recordable, afterGroup, RecordedOne}
+use Rattle.group_records.specs.Recording.{recordsFit, Counted}
+use Rattle.group_records.specs.Recording.{ItemsRoom, Recordable, afterGroup, RecordedOne}
 use Rattle.standing.proofs.ItemSizes.{items-size}
-use Rattle.group_records.proofs.Areas.{written-length, written-part}
+use Rattle.group_records.proofs.Areas.{written-length}
+use Rattle.group_records.proofs.Areas.{written-part}
 
 -- the item records of a group, written from item record `n` on ---------------------------------------------------------------------
 

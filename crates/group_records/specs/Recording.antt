@@ -6,8 +6,9 @@ use mathlib.Core.Bool.{Bool, true, false, _&&_}
 use lib.ListN.{length}
 use lib.Dec.{leb}
 use Rattle.item.specs.Pieces.{itemsOf}
-use Rattle.lookup.specs.Groups.{Group, groupOf, groupAccepted}
-use Rattle.lookup.specs.Rows.{itemWidth}
+use Rattle.item.specs.Group.{Group, groupOf}
+use Rattle.resolve.specs.Groups.{groupAccepted}
+use Rattle.rows.specs.Rows.{itemWidth}
 use Rattle.standing.specs.Rows.{groupWidth, groupRows, itemCount, itemRows, sweptFrom, insideAfter, endAfter}
 use Rattle.standing.specs.Stands.{GroupFrom}
 use Rattle.group_records.specs.declared.SweepState.{SweepState}

@@ -1,14 +1,14 @@
 // The records of one group of the sweep: written where they fit,
 // and the state of the sweep after it.
-use lookup::write_rows;
+use rows::write_rows;
 use standing::is_in_line;
 use standing::standing_of;
 ghost use mathlib.Core.Path.{_≡_};
 ghost use Prim.Native.Nat.{_+_, _*_, _≤_, _<_};
 ghost use lib.ListN.{length};
 ghost use mathlib.Core.List.{[], _∷_};
-ghost use Rattle.lookup.specs.Groups.{groupOf};
-ghost use Rattle.lookup.specs.Rows.{rowsOf};
+ghost use Rattle.item.specs.Group.{groupOf};
+ghost use Rattle.rows.specs.Rows.{rowsOf};
 ghost use Rattle.group_records.specs.Areas.{writtenAt};
 ghost use Rattle.group_records.specs.Recording.{recordsFit, ItemsRoom, Recordable, RecordedOne, afterGroup};
 

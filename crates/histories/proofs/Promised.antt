@@ -13,33 +13,8 @@ use Rattle.annotation.specs.Content.{Areas}
 use Rattle.annotation.specs.Call.{Annotated, AnnotateRan, annotateRun}
 use Rattle.annotation_answer.specs.Values.{annotationValues}
 use Rattle.annotation.specs.Values.{annotationNumbers}
-use Rattle.histories.specs.Histories.{
-  OfLookUp,
-  OfAnnotation,
-  State,
-  state,
-  runCall,
-  lookUpLeft,
-  annotateLeft,
-  putBack,
-  answersOf,
-  plain,
-}
-use Rattle.histories.specs.Promises.{
-  Done,
-  LookedUpOnce,
-  AnnotatedOnce,
-  callOf,
-  Met,
-  lookUpShows,
-  annotationShows,
-  shown,
-  lookUpNote,
-  annotationNote,
-  stateAfter,
-  AllMet,
-  PromisedHistories,
-}
+use Rattle.histories.specs.Histories.{OfLookUp, OfAnnotation, State, state, runCall, lookUpLeft, annotateLeft, putBack, answersOf, plain}
+use Rattle.histories.specs.Promises.{Done, LookedUpOnce, AnnotatedOnce, callOf, Met, lookUpShows, annotationShows, shown, lookUpNote, annotationNote, stateAfter, AllMet, PromisedHistories}
 use Rattle.histories.proofs.FromCalls.{both}
 use Rattle.histories.proofs.Demand3.{demand-3}
 

@@ -23,20 +23,7 @@ use Rattle.label.specs.Labels.{labelText}
 use Rattle.standing.specs.Rows.{Placed, itemRows}
 use Rattle.sweep.proofs.Laws.{item-rows-length}
 use Rattle.annotation.specs.Sources.{Source, numberOf, useOf, used}
-use Rattle.annotation.specs.Content.{
-  Tally,
-  tally,
-  placedFrom,
-  placedOf,
-  labelFor,
-  cited,
-  numbered,
-  unnumbered,
-  addItem,
-  addGroup,
-  tallyOf,
-  contentOf,
-}
+use Rattle.annotation.specs.Content.{Tally, tally, placedFrom, placedOf, labelFor, cited, numbered, unnumbered, addItem, addGroup, tallyOf, contentOf}
 use Rattle.annotation.proofs.Numbers.{sources-in-order, numbers-stay}
 use Rattle.annotation.proofs.Records.{records-numbered}
 use Rattle.annotation.proofs.UsesRun.{records-used}

@@ -18,7 +18,6 @@ use Rattle.resolve.specs.Lefts.{Left}
 use Rattle.definition_line.specs.Lines.{groupEnd}
 use Rattle.sweep.specs.Sweep.{sweepOf}
 use Rattle.annotation.specs.Content.{Areas, contentOf}
-use Rattle.annotation.specs.Call.{Annotated, annotateRefusal, annotateRefused, annotateGives, annotateRun, roomFor, zeroFilled}
 use Rattle.annotation.specs.Call.{Annotated, annotateRefused, annotateGives, annotateRun, roomFor, zeroFilled}
 use Rattle.preparation.specs.Refusal.{annotateRefusal}
 use Rattle.histories.specs.Said.{Says}

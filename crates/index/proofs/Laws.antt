@@ -20,33 +20,7 @@ use Rattle.index.specs.declared.Reads.{Reads}
 use Rattle.index.specs.declared.Scan.{Scan}
 use Rattle.index.specs.declared.Plan.{Plan}
 use Rattle.index.specs.Built.{blank}
-use Rattle.index.specs.Scan.{
-  reach,
-  parted,
-  around,
-  counted,
-  allGoodIn,
-  stepIndex,
-  keyHere,
-  latest,
-  readOn,
-  opens,
-  closes,
-  parts,
-  nextInner,
-  nextScan,
-  scanPlan,
-  clearPlan,
-  planOf,
-  more,
-  Fine,
-  nextWith,
-  planWith,
-  openPlan,
-  closePlan,
-  partPlan,
-  passPlan,
-}
+use Rattle.index.specs.Scan.{reach, parted, around, counted, allGoodIn, stepIndex, keyHere, latest, readOn, opens, closes, parts, nextInner, nextScan, scanPlan, clearPlan, planOf, more, Fine, nextWith, planWith, openPlan, closePlan, partPlan, passPlan}
 
 -- the bracket records
 module _ (b : Bracket) (r n : ℕ) where

@@ -23,19 +23,7 @@ use Rattle.locator.specs.declared.Locator.{Locator}
 use Rattle.locator.specs.Locators.{locatorOf}
 use Rattle.item.specs.declared.Item.{Item}
 use Rattle.item.specs.declared.Parsed.the-variants.{Good, Bad}
-use Rattle.item.specs.Items.{
-  atSign,
-  keyServes,
-  wins,
-  winner,
-  suppresses,
-  prefixEnd,
-  locatorStart,
-  itemAt,
-  itemIn,
-  itemOf,
-  isGood,
-}
+use Rattle.item.specs.Items.{atSign, keyServes, wins, winner, suppresses, prefixEnd, locatorStart, itemAt, itemIn, itemOf, isGood}
 use Rattle.item.specs.Pieces.{partsAt, integralAt, itemsStart}
 
 abbrev item : Span → Span → Span → Locator → Bool → Item

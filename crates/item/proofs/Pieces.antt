@@ -14,20 +14,7 @@ use Rattle.base.proofs.Searches.{first-from, first-by}
 use Rattle.item.specs.declared.Parsed.{Parsed}
 use Rattle.item.specs.declared.Parsed.the-variants.{Good, Bad}
 use Rattle.item.specs.Items.{itemOf, isGood}
-use Rattle.item.specs.Pieces.{
-  Stretch,
-  stretch,
-  partsAt,
-  endsPiece,
-  piecesIn,
-  pieces,
-  integralAt,
-  itemsStart,
-  parsed,
-  allGood,
-  kept,
-  itemsIn,
-}
+use Rattle.item.specs.Pieces.{Stretch, stretch, partsAt, endsPiece, piecesIn, pieces, integralAt, itemsStart, parsed, allGood, kept, itemsIn}
 
 -- a piece that began at `a` and goes on at `i`, with a `;` among the `n` bytes left
 in-more : (n : ℕ) (s : List ℕ) (a i q : ℕ) → q ≡ first (partsAt s) n i → q < i + n

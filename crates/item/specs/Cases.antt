@@ -1,6 +1,6 @@
 -- A few computed cases.
 use mathlib.Core.Path.{_≡_, refl}
-use mathlib.Core.List.{List, [], _∷_}
+use mathlib.Core.List.{[], _∷_}
 use mathlib.Core.Bool.{true, false}
 use Rattle.base.specs.Ascii.{ascii}
 use Rattle.base.specs.First.{first}
@@ -9,29 +9,9 @@ use Rattle.text.specs.Escape.{escapedAt, slashes}
 use Rattle.white.specs.White.{spaceWidth, isWhite}
 use Rattle.text.specs.Trim.{trimStart, trimEnd, contentEnd}
 use Rattle.key.specs.Keys.{isFirst, isMark, isKey, keyRun, runEnd, keyEnd}
-use Rattle.locator.specs.declared.Locator.{Locator}
 use Rattle.locator.specs.declared.Locator.the-variants.{Nothing, Plain, Labelled}
 use Rattle.locator.specs.Matchers.{matchers}
-use Rattle.locator.specs.Locators.{
-  locatorOf,
-  locatorFrom,
-  labelled,
-  valued,
-  valueEnd,
-  strip,
-  isLoose,
-  valueRun,
-  isValue,
-  labelOf,
-  orPage,
-  matchIn,
-  stands,
-  mayFollow,
-  fits,
-  lower,
-  skipBlanks,
-}
-use Rattle.item.specs.declared.Parsed.{Parsed}
+use Rattle.locator.specs.Locators.{locatorOf, locatorFrom, labelled, valued, valueEnd, strip, isLoose, valueRun, isValue, labelOf, orPage, matchIn, stands, mayFollow, fits, lower, skipBlanks}
 use Rattle.item.specs.declared.Parsed.the-variants.{Good, Bad}
 use Rattle.item.specs.declared.Judged.the-variants.{Good as AllGood, Bad as FirstBad}
 use Rattle.item.specs.Items.{itemOf, itemIn, itemAt, locatorStart, prefixEnd, suppresses, winner, wins, keyServes, atSign}

@@ -14,16 +14,7 @@ ghost use lib.ListN.{length};
 ghost use Rattle.base.specs.First.{first};
 ghost use Rattle.item.specs.Facts.{ItemInOrder, ItemsInOrder};
 ghost use Rattle.key.specs.Keys.{keyEnd};
-ghost use Rattle.item.specs.Items.{
-  keyServes,
-  wins,
-  winner,
-  suppresses,
-  prefixEnd,
-  itemAt,
-  itemOf,
-  isGood,
-};
+ghost use Rattle.item.specs.Items.{keyServes, wins, winner, suppresses, prefixEnd, itemAt, itemOf, isGood};
 ghost use Rattle.item.specs.Pieces.{partsAt, integralAt, itemsStart};
 ghost use Rattle.item.specs.Judge.{judgedOf};
 

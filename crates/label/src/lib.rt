@@ -3,7 +3,7 @@ use definition::Author;
 use definition::Year;
 ghost use mathlib.Core.Path.{_≡_};
 ghost use mathlib.Core.List.{[], _∷_, _++_};
-ghost use Prim.Native.Nat.{_≤_, _<_};
+ghost use Prim.Native.Nat.{_<_};
 ghost use lib.ListN.{length};
 ghost use Rattle.base.specs.Lists.{part, written};
 ghost use Rattle.text.specs.Trim.{trimEnd, trim};

@@ -2,22 +2,16 @@
 use Prim.Native.Nat.{ℕ, zero, suc, _+_, _-_, _*_, _≤_, _<_}
 use native.Mathlib.Omega.{arith}
 use mathlib.Core.Path.{_≡_, refl, sym, _∙_, ap, subst}
-use mathlib.Core.List.{List, [], _∷_, _++_, append-nil, append-assoc}
-use lib.ListN.{length, getD, take, drop, length-append}
+use mathlib.Core.List.{List, [], _∷_, _++_, append-assoc}
+use lib.ListN.{getD, drop}
 use lib.Seq.{getD-drop, drop-drop}
 use borrow.Author.Tests.{eq-eqb, ne-eqb}
-use Rattle.base.specs.Lists.{part}
 use Rattle.base.specs.Ascii.{ascii}
 use Rattle.decimal.specs.Decimal.{decimal}
 use Rattle.records.specs.Records.{itemField, groupField, keyIn}
-use Rattle.listing_lines.specs.declared.Told.{Told}
-use Rattle.listing_lines.specs.Listing.{itemLine, itemLines, groupLines, countLine, refusedLine, listed}
-use Rattle.listing_lines.specs.Writes.{Put, Room, groupPart, itemPart, linesOf, answerBy}
-use Rattle.listing_lines.proofs.Puts.{two-first, two-second, two-put, Along, along-start, along-end, along-room, along-next}
-use Rattle.source.specs.Decimal.{decimal}
-use Rattle.numbering.specs.Records.{itemField, groupField, keyIn}
 use Rattle.line_writers.specs.declared.Told.{Told}
-use Rattle.line_writers.specs.Lines.{itemLine, itemLines, groupLines, countLine, refusedLine, listed}
+use Rattle.line_writers.specs.Lines.{itemLine, itemLines, groupLines, countLine, refusedLine}
+use Rattle.line_writers.specs.Lines.{listed}
 use Rattle.line_writers.specs.Writes.{Put, Room, groupPart, itemPart, linesOf, answerBy}
 use Rattle.line_writers.proofs.Puts.{two-first, two-second, two-put, Along, along-start, along-end, along-room, along-next}
 

@@ -12,9 +12,6 @@ use Rattle.decimal.specs.Decimal.{decimal}
 use Rattle.base.proofs.Areas.{copied}
 use Rattle.group_records.specs.Areas.{writtenAt}
 use Rattle.group_records.proofs.Areas.{written-none, written-length, written-more, written-part}
-use Rattle.listing_lines.specs.Writes.{Put, Room}
-use Rattle.sweep.specs.Stops.{writtenAt}
-use Rattle.sweep.proofs.Laws.{written-none, written-length, written-more, written-part}
 use Rattle.line_writers.specs.Writes.{Put, Room}
 
 -- two pieces, one after the other

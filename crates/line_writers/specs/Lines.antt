@@ -6,7 +6,7 @@ use lib.Dec.{eqb}
 use Rattle.base.specs.Pick.{pick}
 use Rattle.base.specs.Lists.{part}
 use Rattle.base.specs.Ascii.{ascii}
-use Rattle.source.specs.Decimal.{decimal}
+use Rattle.decimal.specs.Decimal.{decimal}
 use Rattle.annotation.specs.Call.{Annotated}
 
 -- numbers with a space between them, and the key after the third: "group offset, length, standing, key, label code, number"

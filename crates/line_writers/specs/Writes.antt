@@ -6,14 +6,9 @@ use lib.ListN.{length, getD, drop}
 use Rattle.base.specs.Lists.{part}
 use Rattle.base.specs.Ascii.{ascii}
 use Rattle.decimal.specs.Decimal.{decimal}
-use Rattle.sweep.specs.Stops.{writtenAt}
-use Rattle.source.specs.Decimal.{decimal}
 use Rattle.group_records.specs.Areas.{writtenAt}
 use Rattle.annotation.specs.Call.{Annotated}
 use Rattle.annotation.specs.Content.{areas}
-use Rattle.listing_lines.specs.declared.Told.{Told}
-use Rattle.listing_lines.specs.Listing.{itemLines, listingOf}
-use Rattle.annotation.specs.Halves.{areas}
 use Rattle.line_writers.specs.declared.Told.{Told}
 use Rattle.line_writers.specs.Lines.{itemLines}
 

@@ -1,12 +1,12 @@
 // Writers of the lines of the listing: each puts its bytes into an area from a place on, and gives the place after them.
 // `put_listing` writes a whole listing, by the numbers and the records of an answer.
-use numbering::records::group_field;
-use numbering::records::item_field;
-use numbering::records::key_in;
+use records::group_field;
+use records::item_field;
+use records::key_in;
 ghost use mathlib.Core.List.{[], _∷_, _++_};
 ghost use Prim.Native.Nat.{_*_, _≤_, _<_};
 ghost use lib.ListN.{drop};
-ghost use Rattle.source.specs.Decimal.{decimal};
+ghost use Rattle.decimal.specs.Decimal.{decimal};
 ghost use Rattle.line_writers.specs.Lines.{itemLine, groupLines, countLine, listed};
 ghost use Rattle.line_writers.specs.Writes.{Put, Room, groupPart, itemPart, linesOf, answerBy};
 

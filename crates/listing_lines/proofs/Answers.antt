@@ -1,11 +1,11 @@
 -- The answer of the annotation, and the listing by it, in the form of the needs.
-use Prim.Native.Nat.{ℕ, zero, suc, _+_, _-_, _*_, _≤_, _<_}
+use Prim.Native.Nat.{ℕ, suc, _-_, _*_, _≤_}
 use native.Mathlib.Omega.{arith}
-use mathlib.Core.Path.{_≡_, refl, sym, _∙_, ap, subst}
-use mathlib.Core.List.{List, [], _∷_, _++_}
-use mathlib.Core.Bool.{Bool, true, false, not, _||_, _&&_}
+use mathlib.Core.Path.{_≡_, refl, _∙_, ap}
+use mathlib.Core.List.{List, [], _∷_}
+use mathlib.Core.Bool.{Bool, true, false, _&&_}
 use lib.ListN.{length, take, replicate, length-replicate}
-use lib.Dec.{eqb, leb, ltb}
+use lib.Dec.{eqb, leb}
 use borrow.Author.Tests.{leb-true, le-ltb}
 use Rattle.base.specs.Pick.{pick}
 use Rattle.index.specs.Built.{blank}
@@ -14,7 +14,6 @@ use Rattle.item.specs.Group.{Group}
 use Rattle.lookup.specs.Refusals.{tooFew}
 use Rattle.definition_line.specs.Lines.{inLine, groupEnd}
 use Rattle.sweep.specs.Sweep.{sweepOf}
-use Rattle.standing.specs.Rows.{groupRows}
 use Rattle.sweep.proofs.Laws.{group-rows-length}
 use Rattle.group_records.proofs.Areas.{written-front}
 use Rattle.annotation_answer.specs.declared.Annotation.{Annotation}

@@ -1,6 +1,6 @@
 -- The keys of a sweep take no more bytes than the text has: each stands in an item of its own, with its `@` and a `;` or the bracket before
 -- it. (Crate sweep's Sizes counts the items so, three bytes each; here a key counts with all its bytes.)
-use Prim.Native.Nat.{ℕ, zero, suc, _+_, _-_, _*_, _≤_, _<_}
+use Prim.Native.Nat.{ℕ, zero, suc, _+_, _-_, _≤_, _<_}
 use native.Mathlib.Omega.{arith}
 use mathlib.Core.Path.{_≡_, refl}
 use mathlib.Core.List.{List, [], _∷_, _++_}
@@ -28,7 +28,6 @@ use Rattle.text.proofs.Trims.{content-by}
 use Rattle.resolve.specs.Groups.{GroupAnswer, Found, NoGroup, groupAccepted, judge, groupAt}
 use Rattle.item.specs.Group.{Group, groupOf}
 use Rattle.close.proofs.Laws.{close-there}
-use Rattle.definition_line.specs.Lines.{groupEnd}
 use Rattle.sweep.specs.Sweep.{listed, nextAt, foundAt, sweepIn, sweepOf}
 
 -- the bytes of items' keys, and two more for each

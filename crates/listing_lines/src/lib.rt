@@ -1,19 +1,19 @@
 // The lines that the listing program writes, by one function on slices: `list`. It makes the areas, and calls the annotation on them;
 // the crate line_writers writes the lines.
-use annotation::Annotation;
+use annotation_answer::Annotation;
+use annotation_answer::Annotation;
+use line_writers::Told;
+use records::group_field;
 use records::group_field;
 use records::item_field;
+use records::item_field;
 use records::key_in;
-use annotation_answer::Annotation;
-use numbering::records::group_field;
-use numbering::records::item_field;
-use numbering::records::key_in;
-use line_writers::Told;
+use records::key_in;
 ghost use mathlib.Core.Path.{_≡_};
 ghost use mathlib.Core.List.{[], _∷_};
 ghost use lib.ListN.{length, take};
 ghost use Rattle.base.specs.Lists.{written};
-ghost use Rattle.annotation.specs.Values.{annotationValues};
+ghost use Rattle.annotation_answer.specs.Values.{annotationValues};
 ghost use Rattle.listing_lines.specs.Listing.{listingOf};
 ghost use Rattle.listing_lines.specs.Ready.{zeroes, Ready, Listed, Counts};
 

@@ -17,19 +17,7 @@ use Rattle.base.proofs.Spans.{span-there}
 use Rattle.locator.specs.declared.Locator.{Locator}
 use Rattle.locator.specs.declared.Locator.the-variants.{Nothing, Plain, Labelled}
 use Rattle.locator.specs.Matchers.{Matcher, matchers, no-code, code-page}
-use Rattle.locator.specs.Locators.{
-  isDigit,
-  skipBlanks,
-  label,
-  stands,
-  matchIn,
-  orPage,
-  labelOf,
-  valued,
-  labelled,
-  locatorFrom,
-  locatorOf,
-}
+use Rattle.locator.specs.Locators.{isDigit, skipBlanks, label, stands, matchIn, orPage, labelOf, valued, labelled, locatorFrom, locatorOf}
 use Rattle.locator.specs.Answers.{codeOf, valueOf, suffixOf}
 use Rattle.locator.proofs.Parts.{locator-in-order}
 

@@ -10,17 +10,7 @@ use Rattle.base.specs.Spans.{missing, spanOf}
 use Rattle.locator.specs.declared.Label.{Label}
 use Rattle.locator.specs.declared.Locator.{Locator}
 use Rattle.locator.specs.declared.Locator.the-variants.{Nothing, Plain, Labelled}
-use Rattle.locator.specs.Locators.{
-  skipBlanks,
-  valueRun,
-  strip,
-  valueEnd,
-  valued,
-  labelOf,
-  labelled,
-  locatorFrom,
-  locatorOf,
-}
+use Rattle.locator.specs.Locators.{skipBlanks, valueRun, strip, valueEnd, valued, labelOf, labelled, locatorFrom, locatorOf}
 use Rattle.locator.specs.Answers.{codeOf, valueOf, suffixOf}
 use Rattle.locator.proofs.Parts.{run-from, run-by, skip-by}
 use Rattle.locator.proofs.Labels.{label-by}

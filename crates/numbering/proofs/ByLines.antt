@@ -16,10 +16,8 @@ use Rattle.item.specs.declared.Item.{Item}
 use Rattle.item.specs.Group.{Group}
 use Rattle.rows.specs.Rows.{itemWidth, marksOf, recordOf, rowOf, rowsIn, rowsOf}
 use Rattle.pool.specs.Layout.{entriesOf}
-use Rattle.sweep.specs.Rows.{Placed, groupWidth, groupRow, groupRows, sweptFrom, itemRows}
-use Rattle.definition_line.specs.Lines.{startsLine, colonAfter, bareItem, onlyKey, defines, inLine, groupEnd, nextOpen, keyOf, definedKey}
 use Rattle.standing.specs.Rows.{Placed, groupWidth, groupRow, groupRows, sweptFrom, itemRows}
-use Rattle.definition.specs.Lines.{startsLine, colonAfter, bareItem, onlyKey, defines, inLine, groupEnd, nextOpen, keyOf, definedKey}
+use Rattle.definition_line.specs.Lines.{startsLine, colonAfter, bareItem, onlyKey, defines, inLine, groupEnd, nextOpen, keyOf, definedKey}
 use Rattle.definition.specs.Defs.{Def, lineDef, definesKey, lastLine, firstEntry, orDef, defOf}
 use Rattle.defined.specs.Definitions.{definesIn, definesKeyIn, lineIn, LinesBelow, lineDefIn, definitionIn}
 use Rattle.records.specs.Records.{groupField, keyIn, suppressedIn, bareIn, closeOfRecord, nextIn}

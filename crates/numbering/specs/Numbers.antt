@@ -5,10 +5,6 @@ use mathlib.Core.Bool.{Bool, true, _&&_, not}
 use lib.ListN.{length, set}
 use lib.Dec.{eqb}
 use Rattle.base.specs.Pick.{pick}
-use Rattle.sweep.specs.Rows.{groupWidth}
-use Rattle.base.specs.Last.{last}
-use Rattle.base.specs.Lists.{same}
-use Rattle.lookup.specs.Rows.{itemWidth}
 use Rattle.standing.specs.Rows.{groupWidth}
 use Rattle.pool.specs.Layout.{hasPool}
 use Rattle.definition.specs.Defs.{isDefined}

@@ -4,7 +4,7 @@ use mathlib.Core.List.{List}
 use mathlib.Core.Bool.{not}
 use lib.Dec.{ltb}
 use Rattle.base.specs.Pick.{pick}
-use Rattle.text.specs.Refusal.{afterText}
+use Rattle.utf8.specs.Refusal.{afterText}
 use Rattle.lookup.specs.Refusals.{tooFew}
 use Rattle.pool.specs.Layout.{wellFormed}
 

@@ -4,7 +4,7 @@ use group_records::SweepState;
 use pool::is_well_formed;
 use sweep::start;
 use sweep::sweep;
-use text::text_refusal;
+use utf8::text_refusal;
 ghost use mathlib.Core.Path.{_≡_};
 ghost use Rattle.preparation.specs.Refusal.{annotateRefusal};
 ghost use Rattle.preparation.specs.FirstHalf.{BegunBy};

@@ -7,7 +7,7 @@ use lib.Dec.{eqb, ltb}
 use Rattle.base.specs.Pick.{pick}
 use Rattle.base.specs.Lists.{part}
 use Rattle.rows.specs.Rows.{itemWidth}
-use Rattle.sweep.specs.Rows.{groupWidth}
+use Rattle.standing.specs.Rows.{groupWidth}
 
 -- the number at place `c` of item record `k`, and of group record `g`
 unfoldable pub itemField : List ℕ → ℕ → ℕ → ℕ

@@ -1,6 +1,6 @@
 // The annotations' kind: a text, and annotations of it one after the other, with index and note kept between them.
 // Whether the proved call gives the stored answers; docs/DIFFERENCES.md has the body.
-use annotation::Annotation;
+use annotation_answer::Annotation;
 use replay_body::areas::BLANK;
 use replay_body::areas::UNUSED;
 use replay_body::body::after;

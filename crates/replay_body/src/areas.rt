@@ -1,6 +1,5 @@
 // The lent areas: what fills them before a call, and whether they hold the stored numbers after it.
 use crate::body::number;
-ghost use Prim.Native.Nat.{_≤_};
 
 // What an area of numbers holds where no call wrote.
 pub const UNUSED: u16 = 43690;

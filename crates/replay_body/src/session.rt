@@ -5,7 +5,6 @@ use crate::body::after;
 use crate::body::byte;
 use crate::body::length;
 use crate::body::number;
-ghost use Prim.Native.Nat.{_≤_};
 
 // Where the replay of a body is: the place of its next call, the note, and whether every answer was the stored one so far.
 pub struct Session {

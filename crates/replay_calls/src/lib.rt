@@ -8,7 +8,7 @@ use replay_body::body::after;
 use replay_body::body::number;
 use replay_parts::parts::is_locator_answer;
 use replay_parts::pools::is_source_text;
-use source::SourceText;
+use source_text::SourceText;
 
 // The parts of a locator.
 pub fn locator_agrees(body: &[u8]) -> bool {

@@ -2,7 +2,7 @@
 use replay_body::body::after;
 use replay_body::body::flag;
 use replay_body::body::number;
-use source::SourceText;
+use source_text::SourceText;
 
 // Whether a pool has its layout.
 pub fn pool_agrees(body: &[u8]) -> bool {

@@ -4,7 +4,6 @@ use replay_body::areas::has_numbers;
 use replay_body::areas::is_filled;
 use replay_body::body::after;
 use replay_body::body::number;
-ghost use Prim.Native.Nat.{_≤_};
 
 // The numbers of an answer.
 pub struct Numbers {

@@ -21,19 +21,7 @@ use Rattle.item.specs.Pieces.{partsAt, pieces, integralAt, itemsStart, piecesOf
 use Rattle.item.proofs.Bounds.{parsed-within}
 use Rattle.item.proofs.Pieces.{items-more, items-last, first-good, rest-good}
 use Rattle.item.specs.Group.{goodItems, Group, groupOf}
-use Rattle.rows.specs.Rows.{
-  marksOf,
-  recordOf,
-  rowOf,
-  rowsIn,
-  rowsOf,
-  rowsLength,
-  pieceRow,
-  putAt,
-  Narrow,
-  NarrowItem,
-  Writable,
-}
+use Rattle.rows.specs.Rows.{marksOf, recordOf, rowOf, rowsIn, rowsOf, rowsLength, pieceRow, putAt, Narrow, NarrowItem, Writable}
 use Rattle.rows.proofs.Areas.{put-written}
 
 -- a record has 16 numbers ----------------------------------------------------------------------------------------------------------

@@ -21,17 +21,7 @@ ghost use Rattle.base.specs.Pick.{pick};
 ghost use Rattle.locator.specs.Answers.{codeOf, valueOf, suffixOf};
 ghost use Rattle.item.specs.Items.{itemOf};
 ghost use Rattle.item.specs.Group.{groupOf};
-ghost use Rattle.rows.specs.Rows.{
-  itemWidth,
-  rowOf,
-  rowsOf,
-  pieceRow,
-  Put,
-  Narrow,
-  NarrowLocator,
-  NarrowItem,
-  Writable,
-};
+ghost use Rattle.rows.specs.Rows.{itemWidth, rowOf, rowsOf, pieceRow, Put, Narrow, NarrowLocator, NarrowItem, Writable};
 
 // How many numbers an item record has.
 pub const ITEM_WIDTH: usize = 16;

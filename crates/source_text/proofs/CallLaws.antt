@@ -12,7 +12,6 @@ use Rattle.pool.specs.Entries.{entryOf, noEntry}
 use Rattle.pool.specs.Layout.{countOf, offsetOf, endOf, wellFormed, entriesOf}
 use Rattle.pool.specs.Places.{EntryIn}
 use Rattle.pool.proofs.PoolLaws.{pair-there, entry-there, count-is, entry-is}
-use Rattle.source_text.specs.declared.SourceText.{SourceText}
 use Rattle.source_text.specs.declared.SourceText.the-variants.{Accepted, Refused}
 use Rattle.source_text.specs.Text.{sourceTextOf}
 use Rattle.source_text.specs.Call.{sourceRefused, entryAt, sourceWritten, sourceTextCall}

@@ -9,7 +9,7 @@ use lib.Dec.{ltb}
 use borrow.Author.Tests.{ltb-true}
 use Rattle.base.specs.Pick.{pick}
 use Rattle.base.proofs.Searches.{first-from, first-holds}
-use Rattle.text.specs.White.{trimStart, trimEnd}
+use Rattle.text.specs.Trim.{trimStart, trimEnd}
 use Rattle.text.proofs.Trims.{start-from, end-by}
 use Rattle.key.specs.Keys.{keyEnd}
 use Rattle.item.specs.declared.Item.{Item}

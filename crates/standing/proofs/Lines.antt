@@ -19,11 +19,6 @@ use Rattle.item.proofs.Pieces.{piece-by, pieces-more, pieces-last, items-more, 
 use Rattle.item.specs.Group.{goodItems, groupOf}
 use Rattle.resolve.specs.Groups.{barred, groupAccepted}
 use Rattle.definition_line.specs.Lines.{breakAt, startsLine, bareItem, onlyKey, colonAfter, defines, inLine}
-use Rattle.sweep.specs.Steps.{GroupFrom}
-use Rattle.sweep.proofs.Sizes.{item-size}
-use Rattle.index.specs.Entries.{goodItems}
-use Rattle.lookup.specs.Groups.{groupOf, barred, groupAccepted}
-use Rattle.definition.specs.Lines.{breakAt, startsLine, bareItem, onlyKey, colonAfter, defines, inLine}
 use Rattle.standing.specs.Stands.{GroupFrom}
 use Rattle.standing.proofs.ItemSizes.{item-size}
 

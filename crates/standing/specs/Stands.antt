@@ -5,7 +5,7 @@ use mathlib.Core.List.{List}
 use mathlib.Core.Bool.{true}
 use lib.ListN.{length}
 use Rattle.item.specs.Pieces.{itemsOf}
-use Rattle.lookup.specs.Groups.{groupAccepted}
+use Rattle.resolve.specs.Groups.{groupAccepted}
 
 -- a group stands from the bracket at `at` to `close`, with `count` items
 pub record GroupFrom (text : List ℕ) (at close count : ℕ) : Type 0 where

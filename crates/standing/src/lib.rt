@@ -1,16 +1,16 @@
 // Where a group of the sweep stands: whether it is in a definition line,
 // and the standing that the sweep gives it.
-use definition::line::break_at;
-use definition::line::colon_after;
-use definition::line::starts_line;
+use definition_line::break_at;
+use definition_line::colon_after;
+use definition_line::starts_line;
 use item::Parsed;
 use item::items_start;
 use item::parse_item;
 ghost use mathlib.Core.Path.{_≡_};
 ghost use Rattle.base.specs.Pick.{pick};
 ghost use Rattle.item.specs.Pieces.{itemsOf};
-ghost use Rattle.lookup.specs.Groups.{groupOf};
-ghost use Rattle.definition.specs.Lines.{onlyKey, defines, inLine};
+ghost use Rattle.item.specs.Group.{groupOf};
+ghost use Rattle.definition_line.specs.Lines.{onlyKey, defines, inLine};
 ghost use Rattle.standing.specs.Stands.{GroupFrom};
 
 // Whether the group from `at` to `close`, of `count` items, is a key alone: "one item, no prefix, no locator, not suppressed".

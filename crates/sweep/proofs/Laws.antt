@@ -10,16 +10,10 @@ use borrow.Author.Tests.{leb-true, le-leb}
 use Rattle.base.specs.Pick.{pick}
 use Rattle.base.specs.Lists.{written}
 use Rattle.base.proofs.Bools.{and-left, and-right}
-use Rattle.base.proofs.Areas.{came-back}
 use Rattle.item.specs.Group.{Group}
 use Rattle.rows.specs.Rows.{rowsOf, rowsLength}
 use Rattle.rows.proofs.RowLaws.{rows-length}
 use Rattle.definition_line.specs.Lines.{inLine, groupEnd}
-use Rattle.sweep.specs.declared.SweepState.{SweepState}
-use Rattle.lookup.specs.Groups.{Group}
-use Rattle.lookup.specs.Rows.{rowsOf, rowsLength}
-use Rattle.lookup.proofs.RowLaws.{rows-length}
-use Rattle.definition.specs.Lines.{inLine, groupEnd}
 use Rattle.group_records.specs.declared.SweepState.{SweepState}
 use Rattle.sweep.specs.Sweep.{Lent, Swept, lentAfter, sweepRun}
 use Rattle.standing.specs.Rows.{Placed, placed, groupRow, groupRows, itemCount, itemRows, sweptFrom, insideAfter, endAfter}

@@ -20,11 +20,6 @@ use Rattle.item.specs.Group.{Group, groupOf}
 use Rattle.resolve.specs.Resolve.{closeAsRun, groupAsRun}
 use Rattle.resolve.specs.Looks.{Inside}
 use Rattle.resolve.proofs.Runs.{run-inside}
-use Rattle.sweep.specs.declared.SweepState.{SweepState}
-use Rattle.lookup.specs.Groups.{Group, GroupAnswer, Found, NoGroup, groupOf, groupAccepted, judge}
-use Rattle.lookup.specs.Resolve.{closeAsRun, groupAsRun}
-use Rattle.lookup.specs.Looks.{Inside}
-use Rattle.lookup.proofs.Steps.{run-inside}
 use Rattle.group_records.specs.declared.SweepState.{SweepState}
 use Rattle.sweep.specs.declared.Step.{Step}
 use Rattle.sweep.specs.declared.Step.the-variants.{Next, Group as StepGroup, Build}

@@ -5,12 +5,8 @@ use mathlib.Core.List.{List, []}
 use mathlib.Core.Bool.{Bool, true, false}
 use lib.ListN.{length}
 use Rattle.base.specs.Pick.{pick}
-use Rattle.item.specs.Pieces.{itemsOf}
-use Rattle.resolve.specs.Groups.{GroupAnswer, Found, NoGroup, groupAccepted}
-use Rattle.item.specs.Group.{Group, groupOf}
-use Rattle.rows.specs.Rows.{itemWidth}
-use Rattle.sweep.specs.declared.SweepState.{SweepState}
-use Rattle.lookup.specs.Groups.{Group, GroupAnswer, Found, NoGroup}
+use Rattle.resolve.specs.Groups.{GroupAnswer, Found, NoGroup}
+use Rattle.item.specs.Group.{Group}
 use Rattle.group_records.specs.declared.SweepState.{SweepState}
 use Rattle.sweep.specs.declared.Step.{Step}
 use Rattle.sweep.specs.declared.Step.the-variants.{Next, Group as StepGroup, Build}

@@ -10,10 +10,6 @@ use Rattle.index.specs.Entries.{opensAt}
 use Rattle.resolve.specs.Groups.{GroupAnswer, NoGroup}
 use Rattle.item.specs.Group.{Group}
 use Rattle.resolve.specs.Resolve.{groupAsRun, wantsBuild}
-use Rattle.rows.specs.Rows.{itemWidth}
-use Rattle.sweep.specs.declared.SweepState.{SweepState}
-use Rattle.lookup.specs.Groups.{Group, GroupAnswer, NoGroup}
-use Rattle.lookup.specs.Resolve.{groupAsRun, wantsBuild}
 use Rattle.group_records.specs.declared.SweepState.{SweepState}
 use Rattle.group_records.specs.Recording.{Counted, Recorded}
 use Rattle.sweep.specs.Sweep.{listed, nextAt}

@@ -10,13 +10,9 @@ use Rattle.base.specs.declared.Span.{Span}
 use Rattle.base.specs.Spans.{span}
 use Rattle.item.specs.declared.Item.{Item}
 use Rattle.rows.specs.Rows.{itemWidth, recordOf}
-use Rattle.sweep.specs.Rows.{Placed, placed, groupWidth, groupRow}
+use Rattle.standing.specs.Rows.{Placed, placed, groupWidth, groupRow}
 use Rattle.records.specs.Records.{itemField, groupField}
 use Rattle.uses.specs.Uses.{setLast}
-use Rattle.lookup.specs.Rows.{itemWidth, recordOf}
-use Rattle.standing.specs.Rows.{Placed, placed, groupWidth, groupRow}
-use Rattle.numbering.specs.Records.{itemField, groupField}
-use Rattle.numbering.specs.Numbers.{setLast}
 
 pub set-append-add : (xs ys : List ℕ) (n a : ℕ) → set (xs ++ ys) (length xs + n) a ≡ xs ++ set ys n a
 set-append-add [] ys n a = let e : 0 + n ≡ n = omega arith in ap (λ (k : ℕ). set ys k a) e

@@ -1,7 +1,7 @@
 -- Runs of ASCII: no part of what UTF-8 is, only of how the check goes on.
 use Prim.Native.Nat.{ℕ, zero, suc, _+_, _%_}
 use mathlib.Core.List.{List}
-use mathlib.Core.Bool.{Bool, true, false, _&&_}
+use mathlib.Core.Bool.{Bool, true, _&&_}
 use lib.ListN.{length}
 use lib.Dec.{eqb, leb}
 use Rattle.base.specs.Pick.{pick}

@@ -7,13 +7,7 @@ ghost use lib.ListN.{length};
 ghost use Rattle.base.specs.Pick.{pick};
 ghost use Rattle.utf8.specs.Blocks.{allAscii, asciiStep};
 ghost use Rattle.utf8.specs.Refusal.{textRefusal};
-ghost use Rattle.utf8.specs.Utf8.{
-  twoBytes,
-  threeBytes,
-  fourBytes,
-  charWidth,
-  utf8,
-};
+ghost use Rattle.utf8.specs.Utf8.{twoBytes, threeBytes, fourBytes, charWidth, utf8};
 
 // A character of two bytes.
 fn is_two(a: u8, b: u8) -> bool

@@ -4,13 +4,7 @@ use base::bytes::byte_at;
 ghost use mathlib.Core.Path.{_≡_};
 ghost use Prim.Native.Nat.{_-_, _<_};
 ghost use lib.ListN.{length};
-ghost use Rattle.white.specs.White.{
-  whiteOne,
-  whiteTwo,
-  whiteThree,
-  spaceWidth,
-  isWhite,
-};
+ghost use Rattle.white.specs.White.{whiteOne, whiteTwo, whiteThree, spaceWidth, isWhite};
 
 // The place `n` bytes before `at`, or the text's start.
 fn back(at: usize, n: usize) -> usize

@@ -1,5 +1,5 @@
 -- `item::find_winner` meets its contract. The loop's invariant: the winner from `i` on is that from `a` on. Assumes nothing.
-use Prim.Native.Nat.{_≤_, _-_}
+use Prim.Native.Nat.{_-_}
 use mathlib.Core.Path.{_≡_}
 use Rattle.item.specs.Items.{winner}
 use borrow.Author.Needs.{needs}

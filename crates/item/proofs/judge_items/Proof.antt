@@ -1,6 +1,6 @@
 -- `item::judge_items` meets its contract. The loop's invariant: the judgement on all pieces is that on those from `from` on, after `n` good
 -- ones; the next one ends at `to`. Assumes nothing.
-use Prim.Native.Nat.{_-_, _+_, _<_, _≤_}
+use Prim.Native.Nat.{_-_, _<_, _≤_}
 use mathlib.Core.Path.{_≡_}
 use lib.ListN.{length}
 use Rattle.base.specs.First.{first}

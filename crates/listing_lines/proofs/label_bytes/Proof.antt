@@ -1,6 +1,5 @@
 -- `listing_lines::label_bytes` meets its contract. Assumes nothing.
 use mathlib.Core.Path.{refl}
-use borrow.Author.Needs.{needs}
 use Rattle.listing_lines.specs.Ready.{zeroes}
 use Rattle.listing_lines.proofs.label_bytes.Statement.{statement}
 use Rattle.listing_lines.proofs.label_bytes.Tie as tie

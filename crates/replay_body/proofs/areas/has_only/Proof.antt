@@ -1,7 +1,7 @@
 -- `replay_body::areas::has_only` is safe and ends.
 -- Assumes nothing.
 use borrow.Author.Needs.{needs}
-use Prim.Native.Nat.{_≤_, _-_}
+use Prim.Native.Nat.{_-_}
 use lib.ListN.{length}
 use Rattle.replay_body.proofs.areas.has_only.Statement.{statement}
 use Rattle.replay_body.proofs.areas.has_only.Tie as tie
