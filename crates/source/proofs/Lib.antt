@@ -1,2 +1,1 @@
-pub mod AuthorLaws
 pub mod YearLaws

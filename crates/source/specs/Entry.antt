@@ -3,8 +3,6 @@ use Prim.Native.Nat.{ℕ}
 use mathlib.Core.List.{List, [], _∷_}
 use mathlib.Core.Bool.{Bool, true, false}
 use mathlib.Core.Option.{Option, none, some}
-use Rattle.pool.specs.declared.Found.{Found}
-use Rattle.pool.specs.declared.Found.the-variants.{At, Missing}
 use Rattle.pool.specs.Numbers.{Signed}
 use Rattle.pool.specs.Entries.{Name, Entry}
 use Rattle.source.specs.Decimal.{signedDecimal}
@@ -18,11 +16,6 @@ isEmpty (x ∷ xs) = false
 abbrev pub orBytes : Option (List ℕ) → Option (List ℕ) → Option (List ℕ)
 orBytes none b = b
 orBytes (some v) b = some v
-
--- the first of two that was found
-unfoldable pub orFound : Found → Found → Found
-orFound (At p) other = At p
-orFound Missing other = other
 
 -- "a first date part wins over the date literal"
 unfoldable pub yearBy : Option Signed → Option (List ℕ) → Option (List ℕ)
