@@ -8,7 +8,6 @@ use lookup::Size;
 use source_text::SourceText;
 ghost use mathlib.Core.Path.{_≡_};
 ghost use Rattle.annotation.specs.Content.{areas};
-use index::Bracket;
 ghost use Rattle.exports.specs.Areas.{lookUpAreas, afterLookUp, annotateAreas, afterAnnotate, afterSize, afterLocator, sourceAreas, afterSourceText};
 
 // calls::look_up; answer: number, close, item count, note.

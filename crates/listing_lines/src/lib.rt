@@ -1,13 +1,9 @@
 // The lines that the listing program writes, by one function on slices: `list`. It makes the areas, and calls the annotation on them;
 // the crate line_writers writes the lines.
 use annotation_answer::Annotation;
-use annotation_answer::Annotation;
 use line_writers::Told;
 use records::group_field;
-use records::group_field;
 use records::item_field;
-use records::item_field;
-use records::key_in;
 use records::key_in;
 ghost use mathlib.Core.Path.{_≡_};
 ghost use mathlib.Core.List.{[], _∷_};

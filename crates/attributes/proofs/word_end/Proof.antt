@@ -10,7 +10,6 @@ use Rattle.attributes.specs.Attributes.{wordEnd}
 use Rattle.attributes.proofs.Words.{word-laws}
 use Rattle.attributes.proofs.word_end.Statement.{statement}
 use Rattle.attributes.proofs.word_end.Tie as tie
-use Rattle.attributes.proofs.word_end.Tie as tie
 
 abbrev Inv-loop : tie.InvT-loop
 Inv-loop attributes from i₀ i = wordEnd attributes from ≡ first (λ k. isWhite attributes k) (length attributes - i) i
