@@ -6,7 +6,7 @@ use mathlib.Core.List.{List}
 use lib.ListN.{length, set}
 use mathlib.Core.Bool.{Bool, true, false, _&&_, not, and-false}
 use lib.Dec.{eqb}
-use borrow.Author.Tests.{eq-eqb, ne-eqb, lt-ltb, le-ltb, ltb-true, eqb-true, not-true}
+use borrow.Author.Tests.{eq-eqb, ne-eqb, lt-ltb, le-ltb, eqb-true, not-true}
 use Rattle.base.specs.Pick.{pick}
 use Rattle.base.specs.Lists.{byteAt}
 use Rattle.base.proofs.Bools.{and-left, and-right}
@@ -19,8 +19,7 @@ use Rattle.index.specs.declared.Bracket.{Bracket}
 use Rattle.index.specs.declared.Reads.{Reads}
 use Rattle.index.specs.declared.Scan.{Scan}
 use Rattle.index.specs.declared.Plan.{Plan}
-use Rattle.index.specs.Built.{blank}
-use Rattle.index.specs.Scan.{reach, parted, around, counted, allGoodIn, stepIndex, keyHere, latest, readOn, opens, closes, parts, nextInner, nextScan, scanPlan, clearPlan, planOf, more, Fine, nextWith, planWith, openPlan, closePlan, partPlan, passPlan}
+use Rattle.index.specs.Scan.{reach, parted, around, counted, allGoodIn, stepIndex, keyHere, latest, readOn, opens, closes, parts, nextInner, nextScan, scanPlan, nextWith, planWith, openPlan, closePlan, partPlan, passPlan}
 
 -- the bracket records
 module _ (b : Bracket) (r n : ℕ) where
@@ -135,32 +134,6 @@ module _ (s : List ℕ) (c : Scan) (outer : Bracket) {w : Reads} (e : w ≡ read
   unfolding scanPlan nextScan nextInner opens closes parts
   plan-at-other h k l q = q ∙ rw (e, ne-eqb _ _ h, ne-eqb _ _ k, ne-eqb _ _ l)
 
-module _ (s : List ℕ) (c : Scan) (top : Bracket) where
-  pub plan-clears : {n : Scan} → n ≡ nextWith c (c .depth) (c .inner) (c .bad) (c .reads)
-      → record {
-        next = n;
-        slot = c .at - length s;
-        top = blank;
-        writes = eqb (byteAt s (c .at - length s)) 93;
-        place = c .at - length s;
-        mark = 0;
-      }
-      ≡ clearPlan s c
-  unfolding clearPlan
-  plan-clears e = rw e
-
-  pub plan-in : {p : Plan} → c .at < length s → p ≡ scanPlan s c top → p ≡ planOf s c top
-  unfolding planOf
-  plan-in h q = q ∙ rw (lt-ltb _ _ h)
-
-  pub plan-past : {p : Plan} → length s ≤ c .at → p ≡ clearPlan s c → p ≡ planOf s c top
-  unfolding planOf
-  plan-past h q = q ∙ rw (le-ltb _ _ h)
-
-pub turn-left : (s : List ℕ) (c : Scan) → Fine s c → c .at < length s + length s
-unfolding more
-turn-left s c f = ltb-true _ _ (f .goes)
-
 -- the index after a turn
 module _ (p : Plan) (index : List ℕ) where
   pub entry-set : p .writes ≡ true → set index (p .place) (p .mark) ≡ stepIndex p index
@@ -200,10 +173,6 @@ pub ruleset laws = (
   plan-at-close,
   plan-at-lone,
   plan-at-other,
-  plan-clears,
-  plan-in,
-  plan-past,
-  turn-left,
   entry-set,
   entry-kept,
 )

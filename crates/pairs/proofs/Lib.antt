@@ -1,4 +1,5 @@
 pub mod Lent
 pub mod Local
 pub mod Turns
+pub mod Clearing
 pub mod Calls

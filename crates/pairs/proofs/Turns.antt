@@ -1,18 +1,20 @@
 -- Plain facts of the loop of `bracket_pairs`: what holds at its head, at the start, after a turn, and where the loop is left.
-use Prim.Native.Nat.{ℕ, _+_, _-_, _<_, _≤_}
+use Prim.Native.Nat.{ℕ, _-_, _<_, _≤_}
 use native.Mathlib.Omega.{arith}
-use mathlib.Core.Path.{_≡_, refl, sym, _∙_}
+use mathlib.Core.Path.{_≡_, refl, _∙_}
 use mathlib.Core.Bool.{true, false}
 use mathlib.Core.List.{List}
 use mathlib.Core.WellFounded.{WellFounded, InvImage·wf}
 use lib.WfN.{Nat·lt-wfRel}
 use lib.ListN.{length}
-use borrow.Author.Tests.{ltb-true}
+use borrow.Author.Tests.{ltb-true, ltb-false}
 use Rattle.index.specs.declared.Bracket.{Bracket}
 use Rattle.index.specs.declared.Scan.{Scan}
-use Rattle.index.specs.Scan.{Both, start, more, planAt, stepIndex, stepRecords, runs}
-use Rattle.index.proofs.Fits.{Fits, fits-start, fits-turn, read-in, slot-in, place-in, fine}
-use Rattle.index.proofs.Linear.{linear, left, at-next, run-start, run-turn, run-stop}
+use Rattle.index.specs.Built.{blank}
+use Rattle.index.specs.Passing.{turnAt, unread, filled}
+use Rattle.index.specs.Scan.{Both, start, stepIndex, stepRecords}
+use Rattle.index.proofs.Building.{Building, build-start, build-turn, build-end, turn-far}
+use Rattle.index.proofs.Fits.{read-in, slot-in, place-in, fine}
 use Rattle.pairs.specs.Turn.{Ready, Enough, built}
 
 -- what a turn changes: the scan's state, the index and the records
@@ -20,53 +22,53 @@ abbrev pub State : Type 0
 State = Scan × Both
 
 abbrev pub next : List ℕ → State → State
-next s x = (planAt s (x .0) (x .1 .1) .next, (stepIndex (planAt s (x .0) (x .1 .1)) (x .1 .0), stepRecords (planAt s (x .0) (x .1 .1)) (x .1 .1)))
+next s x = (turnAt s (x .0) (x .1 .1) .next, (stepIndex (turnAt s (x .0) (x .1 .1)) (x .1 .0), stepRecords (turnAt s (x .0) (x .1 .1)) (x .1 .1)))
 
--- a state with fewer turns left is below
+-- a state with less of the text left is below
 abbrev pub below : List ℕ → State → State → Type 0
-below s x y = left s (x .0) < left s (y .0)
+below s x y = length s - x .0 .at < length s - y .0 .at
 
 pub below-wf : (s : List ℕ) → WellFounded (below s)
-below-wf s = InvImage·wf (λ (x : State). left s (x .0)) (Nat·lt-wfRel .wf)
+below-wf s = InvImage·wf (λ (x : State). length s - x .0 .at) (Nat·lt-wfRel .wf)
+
+unread-is : (s : List ℕ) (c : Scan) → unread s c ≡ true → c .at < length s
+unfolding unread
+unread-is s c m = ltb-true (c .at) (length s) m
 
 module _ (s index₀ : List ℕ) (records₀ : List Bracket) (enough : Enough s index₀ records₀) where
   pub record Facts (x : State) : Type 0 where
-    pub fits : Fits s (x .0) (x .1 .1)
+    pub building : Building s index₀ records₀ (enough .wide) (enough .long) (x .0) (x .1 .0) (x .1 .1)
     pub same-index : length (x .1 .0) ≡ length index₀
     pub same-records : length (x .1 .1) ≡ length records₀
-    pub gives : built s index₀ records₀ ≡ runs (left s (x .0)) s (x .0) (x .1 .0) (x .1 .1)
 
-  pub at-start : Facts (start s, (index₀, records₀))
-  at-start = record {
-    fits = fits-start s records₀;
-    same-index = refl;
-    same-records = refl;
-    gives = sym (linear s index₀ records₀ (enough .wide) (enough .long)) ∙ run-start s index₀ records₀;
-  }
+  pub at-start : length (filled 0 (length s) index₀) ≡ length index₀ → Facts (start s, (filled 0 (length s) index₀, records₀))
+  at-start e = record { building = build-start s index₀ records₀ (enough .wide) (enough .long); same-index = e; same-records = refl }
 
   module _ (x : State) (f : Facts x) where
-    long : length s ≤ length (x .1 .1)
+    pub long : length s ≤ length (x .1 .1)
     long = let e = f .same-records in let l = enough .long in omega arith
 
-    pub ready : more s (x .0) ≡ true → Ready s (x .0) (x .1 .0) (x .1 .1)
-    ready m = record {
-      fine = fine s (x .0) (x .1 .1) (f .fits) m (enough .short);
-      read = read-in s (x .0) (x .1 .1) long (f .fits) m;
-      slot = slot-in s (x .0) (x .1 .1) long (f .fits) m;
-      place = let e = f .same-index in let l = enough .wide in let p = place-in s (x .0) (x .1 .1) long (f .fits) m in omega arith;
-    }
+    pub ready : unread s (x .0) ≡ true → Ready s (x .0) (x .1 .0) (x .1 .1)
+    ready m =
+        let h = unread-is s (x .0) m in
+        let fits = f .building .fits in
+        record {
+          fine = fine s (x .0) (x .1 .1) fits m (enough .short);
+          read = read-in s (x .0) (x .1 .1) long fits h;
+          slot = slot-in s (x .0) (x .1 .1) long fits h;
+          place = let e = f .same-index in let l = enough .wide in let p = place-in s (x .0) (x .1 .1) long fits h in omega arith;
+        }
 
-    pub less : more s (x .0) ≡ true → below s (next s x) x
-    unfolding more
-    less m = let l = ltb-true (x .0 .at) (length s + length s) m in omega (arith, at-next s (x .0) (x .1 .1))
+    pub less : unread s (x .0) ≡ true → below s (next s x) x
+    less m = let h = unread-is s (x .0) m in omega (arith, turn-far s index₀ records₀ (enough .wide) (enough .long) (x .0) (x .1 .1))
 
-    pub after : more s (x .0) ≡ true → length (next s x .1 .0) ≡ length (x .1 .0) → length (next s x .1 .1) ≡ length (x .1 .1) → Facts (next s x)
+    pub after : unread s (x .0) ≡ true → length (next s x .1 .0) ≡ length (x .1 .0) → length (next s x .1 .1) ≡ length (x .1 .1) → Facts (next s x)
     after m e₁ e₂ = record {
-      fits = fits-turn s (x .0) (x .1 .1) long (f .fits) m;
+      building = build-turn s index₀ records₀ (enough .wide) (enough .long) (x .0) (x .1 .0) (x .1 .1) (f .building) (unread-is s (x .0) m);
       same-index = e₁ ∙ f .same-index;
       same-records = e₂ ∙ f .same-records;
-      gives = run-turn s (x .0) (x .1 .0) (x .1 .1) (f .gives) m;
     }
 
-    pub at-end : more s (x .0) ≡ false → x .1 ≡ built s index₀ records₀
-    at-end m = sym (run-stop s (x .0) (x .1 .0) (x .1 .1) (f .gives) m)
+    pub at-end : unread s (x .0) ≡ false → _≡_ {A = Both} (x .1 .0, filled blank (length s) (x .1 .1)) (built s index₀ records₀)
+    unfolding unread
+    at-end m = build-end s index₀ records₀ (enough .wide) (enough .long) (x .0) (x .1 .0) (x .1 .1) (f .building) (ltb-false (x .0 .at) (length s) m)

@@ -7,14 +7,15 @@ use Rattle.base.specs.Pick.{pick}
 use Rattle.index.specs.declared.Bracket.{Bracket}
 use Rattle.index.specs.declared.Scan.{Scan}
 use Rattle.index.specs.Built.{builtIndex, builtRecords}
-use Rattle.index.specs.Scan.{Fine, Both, planAt}
+use Rattle.index.specs.Passing.{Fine, turnAt}
+use Rattle.index.specs.Scan.{Both}
 
 -- a turn of the scan can be taken: the record that it reads, the one that it stores and the entry that it writes are there
 pub record Ready (s : List ℕ) (c : Scan) (index : List ℕ) (records : List Bracket) : Type 0 where
   pub fine : Fine s c
   pub read : c .depth - 1 < length records
-  pub slot : planAt s c records .slot < length records
-  pub place : planAt s c records .place < length index
+  pub slot : turnAt s c records .slot < length records
+  pub place : turnAt s c records .place < length index
 
 -- a build can be had: no "index or bracket records fewer than text bytes", and every place fits a u16
 pub record Enough (s index : List ℕ) (records : List Bracket) : Type 0 where

@@ -1,11 +1,12 @@
 // The build of the index: what it reads and stores of the lent bracket records, one turn of the scan, and the loop.
 // The borrow checker does not cover a slice of structs, so each function here is a line of calls, proved by a walk of its MIR.
-ghost use Prim.Native.Nat.{_-_, _<_};
+ghost use Prim.Native.Nat.{_-_, _<_, _≤_};
 ghost use lib.ListN.{length, set, getD};
 ghost use mathlib.Core.Bool.{true};
 ghost use mathlib.Core.Path.{_≡_};
 ghost use Rattle.index.specs.Built.{blank};
-ghost use Rattle.index.specs.Scan.{planAt, stepIndex, stepRecords};
+ghost use Rattle.index.specs.Passing.{turnAt, filled};
+ghost use Rattle.index.specs.Scan.{stepIndex, stepRecords};
 ghost use Rattle.pairs.specs.Turn.{Ready, Enough, built, built-when};
 use index::Bracket;
 use index::Scan;
@@ -46,9 +47,9 @@ fn below(depth: usize) -> usize
 // One turn of the scan: the next state, with one record stored and at most one entry written.
 fn step(text: &[u8], c: Scan, index: &mut [u16], records: &mut [Bracket]) -> Scan
     requires { ⌜ Ready (now text) c (now index) (now records) ⌝ }
-    ensures { λ r. ⌜ (r ≡ planAt (now (text .entry)) c (now (records .entry)) .next)
-        × (now (index .exit) ≡ stepIndex (planAt (now (text .entry)) c (now (records .entry))) (now (index .entry)))
-        × (now (records .exit) ≡ stepRecords (planAt (now (text .entry)) c (now (records .entry))) (now (records .entry))) ⌝ }
+    ensures { λ r. ⌜ (r ≡ turnAt (now (text .entry)) c (now (records .entry)) .next)
+        × (now (index .exit) ≡ stepIndex (turnAt (now (text .entry)) c (now (records .entry))) (now (index .entry)))
+        × (now (records .exit) ≡ stepRecords (turnAt (now (text .entry)) c (now (records .entry))) (now (records .entry))) ⌝ }
 {
     let outer = record_at(records, below(c.depth));
     let p = index::decide(text, c, outer);
@@ -57,15 +58,35 @@ fn step(text: &[u8], c: Scan, index: &mut [u16], records: &mut [Bracket]) -> Sca
     p.next
 }
 
-// Builds the index of the text, in one pass.
+// Leaves as many zero records as the text has bytes.
+fn clear(text: &[u8], records: &mut [Bracket])
+    requires { ⌜ length (now text) ≤ length (now records) ⌝ }
+    ensures { λ _. ⌜ now (records .exit) ≡ filled blank (length (now (text .entry))) (now (records .entry)) ⌝ }
+{
+    let b = Bracket {
+        place: 0,
+        seen: 0,
+        good: 0,
+        bad: 0,
+    };
+    let mut i = 0;
+    while i < text.len() {
+        store(records, i, b);
+        i += 1;
+    }
+}
+
+// Builds the index of the text, in one pass over a cleared index.
 pub fn bracket_pairs(text: &[u8], index: &mut [u16], records: &mut [Bracket])
     requires { ⌜ Enough (now text) (now index) (now records) ⌝ }
     ensures { λ _. ⌜ (now (index .exit), now (records .exit)) ≡ built (now (text .entry)) (now (index .entry)) (now (records .entry)) ⌝ }
 {
+    index::clear_entries(text, index);
     let mut c = index::begin(text);
     while index::is_more(text, c) {
         c = step(text, c, index, records);
     }
+    clear(text, records);
 }
 
 // The same where it is wanted; else nothing.

@@ -1,7 +1,12 @@
 use borrow.Author.Needs.{needs}
-use Rattle.index.proofs.Laws.{laws}
+use Rattle.index.proofs.Passing.{passing-laws}
 use Rattle.index.proofs.decide.Statement.{statement}
 use Rattle.index.proofs.decide.Tie as tie
 
 pub decide-spec : {M : Type 1} → statement M
-decide-spec = tie.close (tie.spec (λ c κs. search needs) (λ c κs. search (laws, needs)) (λ c. search laws) (λ c. search laws))
+decide-spec =
+    tie.close
+    (tie.spec
+    (λ c κs. search (passing-laws, needs))
+    (λ c κs. search (passing-laws, needs))
+    (λ c. search passing-laws))

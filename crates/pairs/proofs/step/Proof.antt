@@ -39,7 +39,8 @@ use Rattle.index.specs.declared.Bracket.{Bracket}
 use Rattle.index.specs.declared.Scan.{Scan}
 use Rattle.index.specs.declared.Plan.{Plan}
 use Rattle.index.specs.Built.{blank}
-use Rattle.index.specs.Scan.{Fine, planOf, planAt, stepIndex, stepRecords}
+use Rattle.index.specs.Passing.{Fine, turnOf, turnAt}
+use Rattle.index.specs.Scan.{stepIndex, stepRecords}
 use Rattle.index.proofs.Bracket as T
 use Rattle.index.proofs.Bracket.Laws as T′
 use Rattle.index.proofs.Scan as S
@@ -129,14 +130,14 @@ module _ {M : Type 1} (𝓤 : URA M) (H : Heap 𝓤) (A : Atoms 𝓤) (W : Given
   h = getD ys d blank
 
   abbrev p : Plan
-  p = planOf ts s h
+  p = turnOf ts s h
 
   abbrev Post : Val → SProp 𝓤
   Post = walkOf 𝓤 H A f.ended stayed (f.clauses 𝓤 H A mem run) .post (((κ₀, (κ₁, (κ₂, tt))), (q₀, (q₁, (q₂, tt))), tt, a, vals), tt)
 
   exits : Is S.the-row s (scan s ∷ []) → Is S.the-row (p .next) (scan (p .next) ∷ []) → length (stepIndex p is) ≡ length is → length (set ys (p .slot) (p .top)) ≡ length ys
       → ent 𝓤 (⋆ 𝓤 H A (‵ (flft κ₁ q₁) ∷ ‵ (finally u16 γ₁ (stepIndex p is)) ∷ ‵ (flft κ₂ q₂) ∷ ‵ (finally T.the-row γ₂ (set ys (p .slot) (p .top))) ∷ ‵ (flft κ₀ q₀) ∷ ‵ (ShrSlice (named 0) κ₀ u8 .own text (sv₀ ∷ [])) ∷ [])) (Post (scan (p .next)))
-  unfolding planAt stepRecords
+  unfolding turnAt stepRecords
   exits g g′ e₁ e₂ =
       qed W (‵ (flft κ₁ q₁) ∷ ‵ (finally u16 γ₁ (stepIndex p is)) ∷ ‵ (flft κ₂ q₂) ∷ ‵ (finally T.the-row γ₂ (set ys (p .slot) (p .top))) ∷ ‵ (flft κ₀ q₀) ∷ ‵ (ShrSlice (named 0) κ₀ u8 .own text (sv₀ ∷ [])) ∷ []) ∵
       suffices ! _ (ends-at 𝓤 H A f.ended stayed (f.clauses 𝓤 H A mem run) W (((κ₀, (κ₁, (κ₂, tt))), (q₀, (q₁, (q₂, tt))), tt, a, vals), tt) (scan (p .next)) (p .next) (tt, (tt, (stepIndex p is, (set ys (p .slot) (p .top), tt)))) (tt, (tt, (e₁, (e₂, tt))))) $ says ! (refl, refl, refl) $
@@ -209,7 +210,7 @@ module _ {M : Type 1} (𝓤 : URA M) (H : Heap 𝓤) (A : Atoms 𝓤) (W : Given
 
 module _ {M : Type 1} (𝓤 : URA M) (H : Heap 𝓤) (A : Atoms 𝓤) (W : Given 𝓤 H A) (mem : Memory → SProp 𝓤) (run : Routine → Fun 𝓤) where
   step-walks : (C : Calls 𝓤 H) (Λ : Loops 𝓤 H) → FmC 𝓤 H (W .laws) C → Known 𝓤 H A mem run C → Walks 𝓤 H A f.ended stayed (WpFn 𝓤 H C Λ code.function) (f.clauses 𝓤 H A mem run)
-  unfolding planAt
+  unfolding turnAt
   step-walks C Λ fm known = walked 𝓤 H A f.ended stayed (f.clauses 𝓤 H A mem run) (WpFn 𝓤 H C Λ code.function)
       (λ κs. (slice-vals, (LL.vals S.the-type S′.the-laws, (slice-vals, (slice-vals, tt)))))
       (λ κs. (shr-slice-tells (named 0) (κs .0) u8, (LL.tells S.the-type S′.the-laws, (mut-slice-tells (named 1) (κs .1 .0) u16, (mut-slice-tells (named 2) (κs .1 .1 .0) T.the-row, tt)))))

@@ -1,0 +1,202 @@
+-- Laws on the plain bytes that a turn goes on over, in the form of the code's needs.
+use Prim.Native.Nat.{ℕ, zero, suc, _+_, _-_, _≤_, _<_}
+use native.Mathlib.Omega.{arith}
+use mathlib.Core.Path.{_≡_, refl, sym, _∙_, ap}
+use mathlib.Core.List.{List}
+use mathlib.Core.Bool.{Bool, true, false, _&&_, _||_, not, true≢false}
+use lib.ListN.{length, set}
+use lib.Dec.{eqb, leb, ltb}
+use borrow.Author.Tests.{ne-eqb, lt-ltb, le-ltb, lt-leb, leb-true, ltb-true}
+use Rattle.base.specs.Pick.{pick}
+use Rattle.base.specs.Lists.{byteAt}
+use Rattle.base.proofs.Bools.{and-left, and-right}
+use Rattle.base.proofs.Searches.{first-out, first-stop, first-more, first-from, first-by, first-before}
+use Rattle.white.specs.White.{isWhite}
+use Rattle.text.specs.Trim.{contentEnd, trimEnd}
+use Rattle.text.proofs.Trims.{end-by}
+use Rattle.white.proofs.Whites.{white-ascii}
+use Rattle.index.specs.declared.Bracket.{Bracket}
+use Rattle.index.specs.declared.Reads.{Reads}
+use Rattle.index.specs.declared.Scan.{Scan}
+use Rattle.index.specs.declared.Plan.{Plan}
+use Rattle.index.specs.Scan.{keyHere, latest, readOn, nextScan, scanPlan}
+use Rattle.index.specs.Passing.{isInk, isPlain, plainEnd, contentIn, passing, skipped, turnOf, unread, Fine, filled}
+
+-- bytes -----------------------------------------------------------------------------------------------------------------------------
+
+pub plain-ne : {b : ℕ} (k : ℕ) → isPlain k ≡ false → isPlain b ≡ true → b ≡ k → ⊥
+plain-ne k f h e = true≢false (sym h ∙ ap isPlain e ∙ f)
+
+pub ink-plain : (s : List ℕ) (i : ℕ) → isInk (byteAt s i) ≡ true → isWhite s i ≡ false
+ink-plain s i h =
+    let l = leb-true 33 (byteAt s i) (and-left (leb 33 (byteAt s i)) _ h) in
+    let u = leb-true (byteAt s i) 127 (and-right (leb 33 (byteAt s i)) _ h) in
+    white-ascii s i (omega arith) ∙ rw (lt-leb (byteAt s i) 13 (omega arith), ne-eqb (byteAt s i) 32 (omega arith)) (go (leb 9 (byteAt s i)))
+  where
+    go : (t : Bool) → (t && false || false) ≡ false
+    go true = refl
+    go false = refl
+
+-- what is known after a plain byte
+pub read-past : (s : List ℕ) (i : ℕ) (r : Reads) → isPlain (byteAt s i) ≡ true
+    → readOn s i r ≡ record { esc = false; comma = r .comma; key = r .key; end = r .end; content = pick (isWhite s i) (r .content) (i + 1) }
+unfolding readOn latest keyHere
+read-past s i r h = rw (ne-eqb _ 59 (plain-ne 59 refl h), ne-eqb _ 64 (plain-ne 64 refl h), ne-eqb _ 92 (plain-ne 92 refl h))
+
+-- content ---------------------------------------------------------------------------------------------------------------------------
+
+content-trim : (s : List ℕ) (a n k : ℕ) → contentIn s a n k ≡ pick (ltb a (contentEnd s a n)) (contentEnd s a n) k
+unfolding contentIn contentEnd
+content-trim s a zero k = rw (le-ltb a a (omega arith))
+content-trim s a (suc n) k = go (isWhite s (a + n)) (content-trim s a n k)
+  where
+    next : a + n + 1 ≡ suc (a + n)
+    next = omega arith
+
+    go : (t : Bool) → contentIn s a n k ≡ pick (ltb a (contentEnd s a n)) (contentEnd s a n) k
+        → pick t (contentIn s a n k) (a + n + 1) ≡ pick (ltb a (pick t (contentEnd s a n) (suc (a + n)))) (pick t (contentEnd s a n) (suc (a + n))) k
+    go true h = h
+    go false h = next ∙ rw (lt-ltb a (suc (a + n)) (omega arith))
+
+pub content-here : (s : List ℕ) (i k : ℕ) {b : Bool} → b ≡ isInk (byteAt s i) → b ≡ true → i + 1 ≡ pick (isWhite s i) k (i + 1)
+content-here s i k p t = rw (ink-plain s i (sym p ∙ t))
+
+pub end-fits : (s : List ℕ) (a e : ℕ) {x : ℕ} → x ≡ trimEnd s a e → a < e → e ≤ length s → length s ≤ 65535 → x < 65536
+end-fits s a e p h l m = omega (arith, end-by s a e)
+
+module _ (s : List ℕ) (a e : ℕ) (k : ℕ) where
+  pub content-ink : {b : Bool} → a < e → b ≡ isInk (byteAt s (e - 1)) → b ≡ true → e ≡ contentIn s a (e - a) k
+  unfolding contentIn
+  content-ink h p t =
+      let n : e - a ≡ suc (e - 1 - a) = omega arith in
+      let m : a + (e - 1 - a) ≡ e - 1 = omega arith in
+      let l : e - 1 + 1 ≡ e = omega arith in
+      rw (n, m, ink-plain s (e - 1) (sym p ∙ t)) (sym l)
+
+  pub content-some : {x : ℕ} → x ≡ trimEnd s a e → a < x → x ≡ contentIn s a (e - a) k
+  unfolding trimEnd
+  content-some p h = sym (content-trim s a (e - a) k ∙ rw (← p, lt-ltb _ _ h))
+
+  pub content-none : {x : ℕ} → x ≡ trimEnd s a e → x ≤ a → k ≡ contentIn s a (e - a) k
+  unfolding trimEnd
+  content-none p h = sym (content-trim s a (e - a) k ∙ rw (← p, le-ltb _ _ h))
+
+-- the search ------------------------------------------------------------------------------------------------------------------------
+
+module _ (s : List ℕ) (i : ℕ) {w : ℕ} (p : w ≡ plainEnd s i) where
+  pub plain-out : length s ≤ i → i ≡ w
+  unfolding plainEnd
+  plain-out = first-out (λ j. not (isPlain (byteAt s j))) i (length s) p
+
+  pub plain-stop : {b : Bool} → i < length s → b ≡ isPlain (byteAt s i) → b ≡ false → i ≡ w
+  unfolding plainEnd
+  plain-stop h q t = first-stop (λ j. not (isPlain (byteAt s j))) i (length s) p h (ap not (sym q ∙ t))
+
+  pub plain-more : {b : Bool} → i < length s → b ≡ isPlain (byteAt s i) → b ≡ true → w ≡ plainEnd s (i + 1)
+  unfolding plainEnd
+  plain-more h q t = first-more (λ j. not (isPlain (byteAt s j))) i (length s) p h (ap not (sym q ∙ t))
+
+pub plain-from : (s : List ℕ) (i : ℕ) → i ≤ plainEnd s i
+unfolding plainEnd
+plain-from s i = first-from (λ j. not (isPlain (byteAt s j))) (length s - i) i
+
+pub plain-by : (s : List ℕ) (i : ℕ) {e : ℕ} → e ≡ plainEnd s i → i ≤ length s → e ≤ length s
+unfolding plainEnd
+plain-by s i p h = let l = first-by (λ j. not (isPlain (byteAt s j))) (length s - i) i in omega arith
+
+-- all bytes before it are plain
+pub plain-before : (s : List ℕ) (i v : ℕ) → i ≤ v → v < plainEnd s i → isPlain (byteAt s v) ≡ true
+unfolding plainEnd
+plain-before s i v l h = go (isPlain (byteAt s v)) refl
+  where
+    go : (t : Bool) → isPlain (byteAt s v) ≡ t → t ≡ true
+    go true q = refl
+    go false q = let b = first-before (λ j. not (isPlain (byteAt s j))) (length s - i) i v l (ap not q) in absurd (omega arith)
+
+-- the state after them --------------------------------------------------------------------------------------------------------------
+
+module _ (s : List ℕ) (c : Scan) where
+  abbrev escIn : ℕ → Bool
+  escIn n = pick (eqb n 0) (c .reads .esc) false
+
+  abbrev carried : ℕ → Scan
+  carried n = record {
+    at = c .at + n;
+    depth = c .depth;
+    inner = c .inner;
+    bad = c .bad;
+    reads = record { esc = escIn n; comma = c .reads .comma; key = c .reads .key; end = c .reads .end; content = contentIn s (c .at) n (c .reads .content) };
+  }
+
+  passing-is : (n : ℕ) → ((v : ℕ) → c .at ≤ v → v < c .at + n → isPlain (byteAt s v) ≡ true) → passing n s c ≡ carried n
+  unfolding passing contentIn
+  passing-is zero h = let z : c .at + 0 ≡ c .at = omega arith in rw z
+  passing-is (suc n) h =
+      let e : c .at + n + 1 ≡ c .at + suc n = omega arith in
+      rw (passing-is n (λ v l k. h v l (omega arith)), read-past s (c .at + n) (carried n .reads) (h (c .at + n) (omega arith) (omega arith)), ne-eqb (suc n) 0 (omega arith), e)
+
+  pub skip-none : {e : ℕ} → e ≡ plainEnd s (c .at) → e ≤ c .at → c ≡ skipped s c
+  unfolding skipped passing
+  skip-none p h = let z : plainEnd s (c .at) - c .at ≡ 0 = omega arith in rw z
+
+  pub skip-some : {e k : ℕ} → e ≡ plainEnd s (c .at) → c .at < e → k ≡ contentIn s (c .at) (e - c .at) (c .reads .content)
+      → record {
+        at = e;
+        depth = c .depth;
+        inner = c .inner;
+        bad = c .bad;
+        reads = record { esc = false; comma = c .reads .comma; key = c .reads .key; end = c .reads .end; content = k };
+      }
+      ≡ skipped s c
+  unfolding skipped
+  skip-some {e} p h q =
+      let n = e - c .at in
+      let z : c .at + n ≡ e = omega arith in
+      sym (rw (← p) (passing-is n (λ v l k. plain-before s (c .at) v l (omega arith)) ∙ rw (z, ne-eqb n 0 (omega arith), q)))
+
+-- a turn ----------------------------------------------------------------------------------------------------------------------------
+
+pub turn-here : (s : List ℕ) (c : Scan) → Fine s c → c .at < length s
+unfolding unread
+turn-here s c f = ltb-true _ _ (f .goes)
+
+pub turn-by : (s : List ℕ) (c : Scan) (top : Bracket) {p : Plan} → p ≡ scanPlan s c top → c .at < length s → p .next .at ≤ length s
+unfolding scanPlan nextScan
+turn-by s c top e h = rw e (omega arith)
+
+pub turn-is : (s : List ℕ) (c : Scan) (top : Bracket) {p : Plan} {n : Scan} → p ≡ scanPlan s c top → n ≡ skipped s (p .next)
+    → record { next = n; slot = p .slot; top = p .top; writes = p .writes; place = p .place; mark = p .mark } ≡ turnOf s c top
+unfolding turnOf
+turn-is s c top e q = rw (q, e)
+
+-- an area that is filled
+pub fill-none : {A : Type 0} (x : A) (area : List A) → area ≡ filled x 0 area
+unfolding filled
+fill-none x area = refl
+
+pub fill-one : {A : Type 0} (x : A) (area : List A) {now : List A} (n : ℕ) → now ≡ filled x n area → set now n x ≡ filled x (n + 1) area
+unfolding filled
+fill-one x area n e = let z : n + 1 ≡ suc n = omega arith in rw (z, e)
+
+pub fill-all : {A : Type 0} (x : A) (area : List A) {now : List A} (n m : ℕ) → now ≡ filled x n area → n ≤ m → m ≤ n → now ≡ filled x m area
+fill-all x area n m e h l = let z : n ≡ m = omega arith in rw (← z) e
+
+pub ruleset passing-laws = (
+  content-here,
+  end-fits,
+  content-ink,
+  content-some,
+  content-none,
+  plain-out,
+  plain-stop,
+  plain-more,
+  plain-by,
+  skip-none,
+  skip-some,
+  turn-here,
+  turn-by,
+  turn-is,
+  fill-none,
+  fill-one,
+  fill-all,
+)

@@ -1,7 +1,0 @@
-use borrow.Author.Needs.{needs}
-use Rattle.index.proofs.Laws.{laws}
-use Rattle.index.proofs.clear_plan.Statement.{statement}
-use Rattle.index.proofs.clear_plan.Tie as tie
-
-pub clear-plan-spec : {M : Type 1} → statement M
-clear-plan-spec = tie.close (tie.spec (λ c. search needs) (λ c κs. search needs) (λ c. search needs) (λ c. search laws))

@@ -1,0 +1,18 @@
+use borrow.Author.Needs.{needs}
+use Rattle.index.proofs.Passing.{passing-laws}
+use Rattle.index.proofs.content_of.Statement.{statement}
+use Rattle.index.proofs.content_of.Tie as tie
+
+pub content-of-spec : {M : Type 1} → statement M
+content-of-spec =
+    tie.close
+    (tie.spec
+    (λ c. search needs)
+    (λ c. search needs)
+    (λ c κs. search needs)
+    (λ c. search needs)
+    (λ c. search passing-laws)
+    (λ c κs. search needs)
+    (λ c. search (passing-laws, needs))
+    (λ c. search passing-laws)
+    (λ c. search passing-laws))

@@ -1,0 +1,78 @@
+-- How the code takes the turns of the scan: one at a byte that can change more than what was read, and from there on over the plain bytes after it.
+-- The index is zero before the first turn, and the records are cleared after the last.
+use Prim.Native.Nat.{ℕ, zero, suc, _+_, _-_, _≤_}
+use mathlib.Core.List.{List}
+use mathlib.Core.Bool.{Bool, true, _&&_, _||_, not}
+use mathlib.Core.Path.{_≡_}
+use lib.ListN.{length, getD, set}
+use lib.Dec.{eqb, leb, ltb}
+use Rattle.base.specs.Pick.{pick}
+use Rattle.base.specs.Lists.{byteAt}
+use Rattle.base.specs.First.{first}
+use Rattle.white.specs.White.{isWhite}
+use Rattle.index.specs.declared.Bracket.{Bracket}
+use Rattle.index.specs.declared.Scan.{Scan}
+use Rattle.index.specs.declared.Plan.{Plan}
+use Rattle.index.specs.Built.{blank}
+use Rattle.index.specs.Scan.{readOn, nextWith, scanPlan}
+
+-- an ASCII byte that is no white space; not every one
+abbrev pub isInk : ℕ → Bool
+isInk b = leb 33 b && leb b 127
+
+-- none of `;` `@` `[` `\` `]`
+abbrev pub isPlain : ℕ → Bool
+isPlain b = not (eqb b 59) && not (eqb b 64) && (ltb b 91 || ltb 93 b)
+
+-- the first place from `i` on that holds none, or the text's end
+unfoldable pub plainEnd : List ℕ → ℕ → ℕ
+plainEnd s i = first (λ j. not (isPlain (byteAt s j))) (length s - i) i
+
+-- where the content ends after the `n` bytes from `a` on; it ended at `content` before them
+unfoldable pub contentIn : List ℕ → ℕ → ℕ → ℕ → ℕ
+contentIn s a zero content = content
+contentIn s a (suc n) content = pick (isWhite s (a + n)) (contentIn s a n content) (a + n + 1)
+
+-- the state after a plain byte
+abbrev pub passed : List ℕ → Scan → Scan
+passed s c = nextWith c (c .depth) (c .inner) (c .bad) (readOn s (c .at) (c .reads))
+
+-- the same after `n` of them
+unfoldable pub passing : ℕ → List ℕ → Scan → Scan
+passing zero s c = c
+passing (suc n) s c = passed s (passing n s c)
+
+-- after all from here on
+unfoldable pub skipped : List ℕ → Scan → Scan
+skipped s c = passing (plainEnd s (c .at) - c .at) s c
+
+-- a turn: that of the scan at a byte of the text, and on over the plain bytes after it
+unfoldable pub turnOf : List ℕ → Scan → Bracket → Plan
+turnOf s c outer = record {
+  next = skipped s (scanPlan s c outer .next);
+  slot = scanPlan s c outer .slot;
+  top = scanPlan s c outer .top;
+  writes = scanPlan s c outer .writes;
+  place = scanPlan s c outer .place;
+  mark = scanPlan s c outer .mark;
+}
+
+-- the same with the record around taken from the lent ones
+unfoldable pub turnAt : List ℕ → Scan → List Bracket → Plan
+turnAt s c records = turnOf s c (getD records (c .depth - 1) blank)
+
+-- there is a turn to do
+unfoldable pub unread : List ℕ → Scan → Bool
+unread s c = ltb (c .at) (length s)
+
+-- what a turn of the code asks for: a text that can be judged, a turn to do, and counts that the place bounds
+pub record Fine (s : List ℕ) (c : Scan) : Type 0 where
+  pub short : length s ≤ 65535
+  pub goes : unread s c ≡ true
+  pub deep : c .depth ≤ c .at
+  pub few : c .bad ≤ c .at
+
+-- an area whose first `n` places hold `x`
+unfoldable pub filled : {A : Type 0} → A → ℕ → List A → List A
+filled x zero area = area
+filled x (suc n) area = set (filled x n area) n x
