@@ -1,5 +1,5 @@
--- What the code's passes leave is what the paper says. The sweep leaves item and group records (crate sweep); a pass numbers them, record
--- by record, and another orders the references (crate numbering). THEOREMS, proved in proofs/.
+-- What the code's passes leave is what the paper says. The sweep leaves item and group records (crate sweep); a pass numbers them, record by
+-- record (crate numbering), and another orders the references (crate order). THEOREMS, proved in proofs/.
 use Prim.Native.Nat.{ℕ, _*_, _≤_, _<_}
 use mathlib.Core.Path.{_≡_}
 use mathlib.Core.Bool.{false}

@@ -1,4 +1,4 @@
--- The author and the year of an entry of the pool (`csl_year`).
+-- The author and the year of an entry of the pool.
 use Prim.Native.Nat.{ℕ}
 use mathlib.Core.List.{List, [], _∷_}
 use mathlib.Core.Bool.{Bool, true, false}

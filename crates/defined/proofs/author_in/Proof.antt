@@ -1,4 +1,4 @@
--- `numbering::author_in` meets its contract. Assumes nothing.
+-- `defined::author_in` meets its contract. Assumes nothing.
 use borrow.Author.Needs.{needs}
 use Rattle.defined.proofs.DefinedLaws.{given-laws}
 use Rattle.defined.proofs.author_in.Statement.{statement}

@@ -1,4 +1,4 @@
--- `numbering::find` meets its contract. Assumes nothing.
+-- `defined::find` meets its contract. Assumes nothing.
 use borrow.Author.Needs.{needs}
 use Rattle.defined.proofs.DefinedLaws.{find-laws}
 use Rattle.defined.proofs.find.Statement.{statement}

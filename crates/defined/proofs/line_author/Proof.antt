@@ -1,4 +1,4 @@
--- `numbering::line_author` meets its contract. Assumes nothing.
+-- `defined::line_author` meets its contract. Assumes nothing.
 use borrow.Author.Needs.{needs}
 use Rattle.defined.proofs.DefinedLaws.{line-given-laws}
 use Rattle.defined.proofs.line_author.Statement.{statement}

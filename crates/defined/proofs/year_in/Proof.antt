@@ -1,4 +1,4 @@
--- `numbering::year_in` meets its contract. Assumes nothing.
+-- `defined::year_in` meets its contract. Assumes nothing.
 use borrow.Author.Needs.{needs}
 use Rattle.defined.proofs.DefinedLaws.{given-laws}
 use Rattle.defined.proofs.year_in.Statement.{statement}

@@ -1,4 +1,4 @@
--- `numbering::entries::entry_id` meets its contract. Assumes nothing.
+-- `entries::entry_id` meets its contract. Assumes nothing.
 use borrow.Author.Needs.{needs}
 use Rattle.entries.proofs.EntryLaws.{id-laws}
 use Rattle.entries.proofs.entry_id.Statement.{statement}

@@ -1,4 +1,4 @@
--- `numbering::entries::entry_in` meets its contract. The loop's invariant: the first entry with the id from `i` on is the first one of
+-- `entries::entry_in` meets its contract. The loop's invariant: the first entry with the id from `i` on is the first one of
 -- all. The measure is what is left of the count. Assumes nothing.
 use Prim.Native.Nat.{_-_}
 use mathlib.Core.Path.{_≡_}

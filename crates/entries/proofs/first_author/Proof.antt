@@ -1,4 +1,4 @@
--- `numbering::entries::first_author` meets its contract. The loop's invariant: the author by the fields from `i` on is that by all. The
+-- `entries::first_author` meets its contract. The loop's invariant: the author by the fields from `i` on is that by all. The
 -- measure is what is left of the entry. Assumes nothing.
 use Prim.Native.Nat.{_-_}
 use mathlib.Core.Path.{_≡_}

@@ -1,4 +1,4 @@
--- `numbering::entries::has_id` meets its contract. Assumes nothing.
+-- `entries::has_id` meets its contract. Assumes nothing.
 use borrow.Author.Needs.{needs}
 use Rattle.entries.proofs.EntryLaws.{id-laws}
 use Rattle.entries.proofs.has_id.Statement.{statement}

@@ -1,4 +1,4 @@
--- `numbering::entries::is_id` meets its contract. Assumes nothing.
+-- `entries::is_id` meets its contract. Assumes nothing.
 use borrow.Author.Needs.{needs}
 use Rattle.entries.proofs.EntryLaws.{id-laws}
 use Rattle.entries.proofs.is_id.Statement.{statement}

@@ -1,4 +1,4 @@
--- `numbering::entries::name_author` meets its contract. Assumes nothing.
+-- `entries::name_author` meets its contract. Assumes nothing.
 use borrow.Author.Needs.{needs}
 use Rattle.entries.proofs.EntryLaws.{name-laws}
 use Rattle.entries.proofs.name_author.Statement.{statement}

@@ -1,4 +1,4 @@
--- `numbering::order::insert_definition` meets its contract. Assumes nothing.
+-- `order::insert_definition` meets its contract. Assumes nothing.
 use borrow.Author.Needs.{needs}
 use Rattle.order.proofs.OrderLaws.{insert-laws}
 use Rattle.order.proofs.Sorting.{sorted-laws}

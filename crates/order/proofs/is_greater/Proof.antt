@@ -1,4 +1,4 @@
--- `numbering::order::is_greater` meets its contract. Assumes nothing.
+-- `order::is_greater` meets its contract. Assumes nothing.
 use borrow.Author.Needs.{needs}
 use Rattle.order.proofs.OrderLaws.{place-laws}
 use Rattle.order.proofs.is_greater.Statement.{statement}

@@ -1,4 +1,4 @@
--- `numbering::order::is_less` meets its contract. The loop's invariant: the bytes from `i` on are in the order of the whole. The measure
+-- `order::is_less` meets its contract. The loop's invariant: the bytes from `i` on are in the order of the whole. The measure
 -- is what is left of the first. Assumes nothing.
 use Prim.Native.Nat.{_-_, _≤_}
 use mathlib.Core.Path.{_≡_}

@@ -1,4 +1,4 @@
--- `numbering::order::number_sources` meets its contract. The loop's invariant: the first `i` places hold the numbers of the sources for those
+-- `order::number_sources` meets its contract. The loop's invariant: the first `i` places hold the numbers of the sources for those
 -- of their definitions. The measure is what is left of the places. Assumes nothing.
 use Prim.Native.Nat.{_-_, _≤_}
 use mathlib.Core.Path.{_≡_}

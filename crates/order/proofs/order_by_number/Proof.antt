@@ -1,4 +1,4 @@
--- `numbering::order::order_by_number` meets its contract. The loop's invariant: the first `i` numbers are at the front of the area. The
+-- `order::order_by_number` meets its contract. The loop's invariant: the first `i` numbers are at the front of the area. The
 -- measure is what is left of the sources. Assumes nothing.
 use Prim.Native.Nat.{_-_, _≤_}
 use mathlib.Core.Path.{_≡_}

@@ -1,4 +1,4 @@
--- `numbering::order::order_by_rank` meets its contract. Assumes nothing.
+-- `order::order_by_rank` meets its contract. Assumes nothing.
 use borrow.Author.Needs.{needs}
 use Rattle.order.proofs.Definitions.{definition-laws}
 use Rattle.order.proofs.order_by_rank.Statement.{statement}

@@ -1,4 +1,4 @@
--- `numbering::order::order_definitions` meets its contract. The loop's invariant: the numbers of the definitions of the first `i` sources
+-- `order::order_definitions` meets its contract. The loop's invariant: the numbers of the definitions of the first `i` sources
 -- are in order at the front of the area. The measure is what is left of the sources. Assumes nothing.
 use Prim.Native.Nat.{_-_, _≤_}
 use mathlib.Core.Path.{_≡_}

@@ -1,4 +1,4 @@
--- `numbering::order_references` meets its contract. Assumes nothing.
+-- `order::order_references` meets its contract. Assumes nothing.
 use borrow.Author.Needs.{needs}
 use Rattle.order.proofs.OrderLaws.{reference-laws}
 use Rattle.order.proofs.order_references.Statement.{statement}

@@ -1,4 +1,4 @@
--- `numbering::order::place_of` meets its contract. The loop's invariant: the place is from `low` to `high`. The measure is what is
+-- `order::place_of` meets its contract. The loop's invariant: the place is from `low` to `high`. The measure is what is
 -- between them. Assumes nothing.
 use Prim.Native.Nat.{_-_, _≤_}
 use native.Mathlib.Omega.{arith}

@@ -1,4 +1,4 @@
--- `numbering::order::shift` meets its contract. The loop's invariant: with `x` at place `i` the rest is shifted as all is to be. The
+-- `order::shift` meets its contract. The loop's invariant: with `x` at place `i` the rest is shifted as all is to be. The
 -- measure is what is left up to `to`. Assumes nothing.
 use Prim.Native.Nat.{_-_, _≤_}
 use mathlib.Core.Path.{_≡_}

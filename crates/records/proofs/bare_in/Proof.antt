@@ -1,4 +1,4 @@
--- `numbering::records::bare_in` meets its contract. Assumes nothing.
+-- `records::bare_in` meets its contract. Assumes nothing.
 use borrow.Author.Needs.{needs}
 use Rattle.records.proofs.Laws.{laws}
 use Rattle.records.proofs.bare_in.Statement.{statement}

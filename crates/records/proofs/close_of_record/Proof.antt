@@ -1,4 +1,4 @@
--- `numbering::records::close_of_record` meets its contract. Assumes nothing.
+-- `records::close_of_record` meets its contract. Assumes nothing.
 use borrow.Author.Needs.{needs}
 use Rattle.records.proofs.Laws.{laws}
 use Rattle.records.proofs.close_of_record.Statement.{statement}

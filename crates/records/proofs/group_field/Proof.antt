@@ -1,4 +1,4 @@
--- `numbering::records::group_field` meets its contract. Assumes nothing.
+-- `records::group_field` meets its contract. Assumes nothing.
 use borrow.Author.Needs.{needs}
 use Rattle.records.proofs.Laws.{laws}
 use Rattle.records.proofs.group_field.Statement.{statement}

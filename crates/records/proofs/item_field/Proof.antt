@@ -1,4 +1,4 @@
--- `numbering::records::item_field` meets its contract. Assumes nothing.
+-- `records::item_field` meets its contract. Assumes nothing.
 use borrow.Author.Needs.{needs}
 use Rattle.records.proofs.Laws.{laws}
 use Rattle.records.proofs.item_field.Statement.{statement}

@@ -1,4 +1,4 @@
--- `numbering::records::key_in` meets its contract. Assumes nothing.
+-- `records::key_in` meets its contract. Assumes nothing.
 use borrow.Author.Needs.{needs}
 use Rattle.records.proofs.Laws.{laws}
 use Rattle.records.proofs.key_in.Statement.{statement}

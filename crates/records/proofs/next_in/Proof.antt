@@ -1,4 +1,4 @@
--- `numbering::records::next_in` meets its contract. Assumes nothing.
+-- `records::next_in` meets its contract. Assumes nothing.
 use borrow.Author.Needs.{needs}
 use Rattle.records.proofs.Laws.{laws}
 use Rattle.records.proofs.next_in.Statement.{statement}

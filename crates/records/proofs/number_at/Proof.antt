@@ -1,4 +1,4 @@
--- `numbering::records::number_at` meets its contract. Assumes nothing.
+-- `records::number_at` meets its contract. Assumes nothing.
 use borrow.Author.Needs.{needs}
 use Rattle.records.proofs.Laws.{laws}
 use Rattle.records.proofs.number_at.Statement.{statement}

@@ -1,4 +1,4 @@
--- `numbering::records::put` meets its contract. Assumes nothing.
+-- `records::put` meets its contract. Assumes nothing.
 use borrow.Author.Needs.{needs}
 use Rattle.records.proofs.Laws.{laws}
 use Rattle.records.proofs.put.Statement.{statement}

@@ -1,4 +1,4 @@
--- `numbering::records::suppressed_in` meets its contract. Assumes nothing.
+-- `records::suppressed_in` meets its contract. Assumes nothing.
 use borrow.Author.Needs.{needs}
 use Rattle.records.proofs.Laws.{laws}
 use Rattle.records.proofs.suppressed_in.Statement.{statement}

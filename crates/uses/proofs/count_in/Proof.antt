@@ -1,4 +1,4 @@
--- `numbering::uses::count_in` meets its contract. Assumes nothing.
+-- `uses::count_in` meets its contract. Assumes nothing.
 use borrow.Author.Needs.{needs}
 use Rattle.uses.proofs.UseLaws.{count-laws}
 use Rattle.uses.proofs.count_in.Statement.{statement}

@@ -1,4 +1,4 @@
--- `numbering::uses::is_use` meets its contract. Assumes nothing.
+-- `uses::is_use` meets its contract. Assumes nothing.
 use borrow.Author.Needs.{needs}
 use Rattle.uses.proofs.UseLaws.{use-laws}
 use Rattle.uses.proofs.is_use.Statement.{statement}

@@ -1,4 +1,4 @@
--- `numbering::uses::last_use` meets its contract. The loop's invariant: the last use below `j` is the last one below `k`. The measure is
+-- `uses::last_use` meets its contract. The loop's invariant: the last use below `j` is the last one below `k`. The measure is
 -- `j`. Assumes nothing.
 use Prim.Native.Nat.{_≤_}
 use mathlib.Core.Path.{_≡_}

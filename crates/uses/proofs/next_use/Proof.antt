@@ -1,4 +1,4 @@
--- `numbering::uses::next_use` meets its contract. Assumes nothing.
+-- `uses::next_use` meets its contract. Assumes nothing.
 use borrow.Author.Needs.{needs}
 use Rattle.uses.proofs.UseLaws.{count-laws}
 use Rattle.uses.proofs.next_use.Statement.{statement}

@@ -1,4 +1,4 @@
--- `numbering::uses::set_last` meets its contract. Assumes nothing.
+-- `uses::set_last` meets its contract. Assumes nothing.
 use borrow.Author.Needs.{needs}
 use Rattle.uses.proofs.UseLaws.{set-laws}
 use Rattle.uses.proofs.set_last.Statement.{statement}

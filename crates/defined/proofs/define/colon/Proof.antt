@@ -1,4 +1,4 @@
--- `numbering::define::colon` meets its contract. Assumes nothing.
+-- `defined::define::colon` meets its contract. Assumes nothing.
 use borrow.Author.Needs.{needs}
 use Rattle.defined.proofs.LineLaws.{define-laws}
 use Rattle.defined.proofs.define.colon.Statement.{statement}

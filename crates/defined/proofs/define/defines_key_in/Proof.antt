@@ -1,4 +1,4 @@
--- `numbering::define::defines_key_in` meets its contract. Assumes nothing.
+-- `defined::define::defines_key_in` meets its contract. Assumes nothing.
 use borrow.Author.Needs.{needs}
 use Rattle.defined.proofs.LineLaws.{define-laws}
 use Rattle.defined.proofs.define.defines_key_in.Statement.{statement}

@@ -1,4 +1,4 @@
--- `numbering::define::starts` meets its contract. Assumes nothing.
+-- `defined::define::starts` meets its contract. Assumes nothing.
 use borrow.Author.Needs.{needs}
 use Rattle.defined.proofs.LineLaws.{define-laws}
 use Rattle.defined.proofs.define.starts.Statement.{statement}

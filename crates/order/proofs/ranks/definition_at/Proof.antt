@@ -1,4 +1,4 @@
--- `numbering::ranks::definition_at` meets its contract. Assumes nothing.
+-- `order::ranks::definition_at` meets its contract. Assumes nothing.
 use borrow.Author.Needs.{needs}
 use Rattle.order.proofs.RankLaws.{at-laws}
 use Rattle.order.proofs.ranks.definition_at.Statement.{statement}

@@ -1,4 +1,4 @@
--- `numbering::ranks::definition_number` meets its contract. Assumes nothing.
+-- `order::ranks::definition_number` meets its contract. Assumes nothing.
 use borrow.Author.Needs.{needs}
 use Rattle.order.proofs.RankLaws.{number-laws}
 use Rattle.order.proofs.ranks.definition_number.Statement.{statement}

@@ -1,4 +1,4 @@
--- `numbering::ranks::definition_of` meets its contract. Assumes nothing.
+-- `order::ranks::definition_of` meets its contract. Assumes nothing.
 use borrow.Author.Needs.{needs}
 use Rattle.order.proofs.RankLaws.{of-laws}
 use Rattle.order.proofs.ranks.definition_of.Statement.{statement}

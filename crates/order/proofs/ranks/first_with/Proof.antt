@@ -1,4 +1,4 @@
--- `numbering::ranks::first_with` meets its contract. The loop's invariant: the first record with the number from `j` on is the first one
+-- `order::ranks::first_with` meets its contract. The loop's invariant: the first record with the number from `j` on is the first one
 -- of all. The measure is what is left of the records. Assumes nothing.
 use Prim.Native.Nat.{_-_}
 use mathlib.Core.Path.{_≡_}

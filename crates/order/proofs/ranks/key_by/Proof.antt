@@ -1,4 +1,4 @@
--- `numbering::ranks::key_by` meets its contract. Assumes nothing.
+-- `order::ranks::key_by` meets its contract. Assumes nothing.
 use borrow.Author.Needs.{needs}
 use Rattle.order.proofs.RankLaws.{key-laws}
 use Rattle.order.proofs.ranks.key_by.Statement.{statement}

@@ -1,4 +1,4 @@
--- `numbering::ranks::number_of_key` meets its contract. The loop's invariant: the number is that of the first record from `j` on which is
+-- `order::ranks::number_of_key` meets its contract. The loop's invariant: the number is that of the first record from `j` on which is
 -- numbered and has the key. The measure is what is left of the records. Assumes nothing.
 use Prim.Native.Nat.{_-_, _≤_}
 use mathlib.Core.Path.{_≡_}

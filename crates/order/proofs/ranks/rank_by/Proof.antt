@@ -1,4 +1,4 @@
--- `numbering::ranks::rank_by` meets its contract. Assumes nothing.
+-- `order::ranks::rank_by` meets its contract. Assumes nothing.
 use borrow.Author.Needs.{needs}
 use Rattle.order.proofs.RankLaws.{rank-laws}
 use Rattle.order.proofs.ranks.rank_by.Statement.{statement}

@@ -1,4 +1,4 @@
--- `numbering::ranks::source_by` meets its contract. Assumes nothing.
+-- `order::ranks::source_by` meets its contract. Assumes nothing.
 use borrow.Author.Needs.{needs}
 use Rattle.order.proofs.RankLaws.{source-laws}
 use Rattle.order.proofs.ranks.source_by.Statement.{statement}
