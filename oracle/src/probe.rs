@@ -231,17 +231,27 @@ pub fn annotate(text: &str, ctx: &MatcherContext<'_>, options: &Options<'_>, mod
 
 // The stand-in paragraph: accepted groups, LF breaks outside groups and plain runs between. All groups stand 0 as yet.
 fn sweep(text: &str, ctx: &MatcherContext<'_>) -> (Vec<InlineNode>, Annotated) {
+    let mut answer = Annotated::default();
+    let nodes = paragraph(text, |at| {
+        let found = group(text, at, ctx)?;
+        let end = found.close + 1;
+        Some((take_group(found, &mut answer), end))
+    });
+    (nodes, answer)
+}
+
+// The paragraph, by what is at an unescaped bracket: a group's node and where it ends, or no group.
+fn paragraph(text: &str, mut group_at: impl FnMut(usize) -> Option<(InlineNode, usize)>) -> Vec<InlineNode> {
     let bytes = text.as_bytes();
     let mut nodes = Vec::new();
-    let mut answer = Annotated::default();
     let (mut at, mut run) = (0, 0);
     while at < bytes.len() {
         if bytes[at] == b'[' && !is_escaped_at(text, at) {
-            if let Some(found) = group(text, at, ctx) {
+            if let Some((node, end)) = group_at(at) {
                 plain_run(text, run, at, &mut nodes);
-                at = found.close + 1;
+                nodes.push(node);
+                at = end;
                 run = at;
-                nodes.push(take_group(found, &mut answer));
                 continue;
             }
         } else if bytes[at] == b'\n' {
@@ -252,7 +262,7 @@ fn sweep(text: &str, ctx: &MatcherContext<'_>) -> (Vec<InlineNode>, Annotated) {
         at += 1;
     }
     plain_run(text, run, at, &mut nodes);
-    (nodes, answer)
+    nodes
 }
 
 fn plain_run(text: &str, from: usize, to: usize, nodes: &mut Vec<InlineNode>) {
@@ -382,25 +392,5 @@ pub fn bare_annotation(text: &str, ctx: &MatcherContext<'_>, citations: &Citatio
 
 // The stand-in paragraph of `sweep`, without records.
 fn bare_sweep(text: &str, ctx: &MatcherContext<'_>) -> Vec<InlineNode> {
-    let bytes = text.as_bytes();
-    let mut nodes = Vec::new();
-    let (mut at, mut run) = (0, 0);
-    while at < bytes.len() {
-        if bytes[at] == b'[' && !is_escaped_at(text, at) {
-            if let Some(found) = match_citation(text, at, ctx) {
-                plain_run(text, run, at, &mut nodes);
-                nodes.push(found.node);
-                at = found.end;
-                run = at;
-                continue;
-            }
-        } else if bytes[at] == b'\n' {
-            plain_run(text, run, at, &mut nodes);
-            nodes.push(InlineNode::soft_break());
-            run = at + 1;
-        }
-        at += 1;
-    }
-    plain_run(text, run, at, &mut nodes);
-    nodes
+    paragraph(text, |at| match_citation(text, at, ctx).map(|found| (found.node, found.end)))
 }

@@ -53,6 +53,45 @@ pub struct Lent<'a> {
     pub labels: &'a mut [u8],
 }
 
+/// Areas that are long enough for every call on a text of at most so many bytes.
+pub struct Ample {
+    index: Vec<u16>,
+    records: Vec<Bracket>,
+    items: Vec<u16>,
+    groups: Vec<u16>,
+    references: Vec<u16>,
+    labels: Vec<u8>,
+}
+
+impl Ample {
+    /// Those for texts of at most `bytes` bytes: a third of them is room for all items.
+    #[must_use]
+    pub fn new(bytes: usize) -> Ample {
+        let most = bytes / 3;
+        Ample {
+            index: vec![0; bytes],
+            records: vec![Bracket::default(); bytes],
+            items: vec![0; 16 * most],
+            groups: vec![0; 5 * most],
+            references: vec![0; most],
+            labels: vec![0; 65_535],
+        }
+    }
+
+    /// What a text of `bytes` bytes is lent of them: of the index and the bracket records as many as it has bytes, or all.
+    pub fn lent(&mut self, bytes: usize) -> Lent<'_> {
+        let bytes = bytes.min(self.index.len());
+        Lent {
+            index: &mut self.index[..bytes],
+            records: &mut self.records[..bytes],
+            items: &mut self.items,
+            groups: &mut self.groups,
+            references: &mut self.references,
+            labels: &mut self.labels,
+        }
+    }
+}
+
 extern "C" {
     fn citations_look_up(
         text: *const u8,

@@ -1,47 +1,26 @@
 //! Lists of calls that share an index and a note: what each answers, the note apart, and the final bytes of its answer areas must be
 //! those of the same call on a fresh index.
 
-use citations::raw::{self, Bracket, Lent};
+use citations::raw::{self, Ample};
 
 use crate::areas::{Areas, Lengths, Need};
 use crate::case::{Call, Case, What};
 use crate::outcome::{Difference, Done};
 use crate::run::Runner;
 
-/// More than any text needs.
+/// More than any text has.
 const BYTES: usize = 66_000;
-const RECORDS: usize = BYTES / 3;
 
 pub struct Lists {
     shared: Areas,
     fresh: Areas,
+    // to see how long an answer is
     ample: Ample,
-}
-
-// Areas that are long enough for every answer, to see how long it is.
-struct Ample {
-    index: Vec<u16>,
-    records: Vec<Bracket>,
-    items: Vec<u16>,
-    groups: Vec<u16>,
-    references: Vec<u16>,
-    labels: Vec<u8>,
 }
 
 impl Lists {
     pub fn new() -> Lists {
-        Lists {
-            shared: Areas::new(),
-            fresh: Areas::new(),
-            ample: Ample {
-                index: vec![0; BYTES],
-                records: vec![Bracket::default(); BYTES],
-                items: vec![0; 16 * RECORDS],
-                groups: vec![0; 5 * RECORDS],
-                references: vec![0; RECORDS],
-                labels: vec![0; BYTES],
-            },
-        }
+        Lists { shared: Areas::new(), fresh: Areas::new(), ample: Ample::new(BYTES) }
     }
 
     // The same call on an index area with other content and a note other than 1.
@@ -82,7 +61,7 @@ impl Runner for Lists {
     }
 
     fn compare(&mut self, case: &Case, call: &Call, note: u8) -> Result<Done, Box<Difference>> {
-        let need = self.ample.need(&case.text, call);
+        let need = need_of(&mut self.ample, &case.text, call);
         let lengths = Lengths::of(call, case, need);
         self.run_fresh(case, call, lengths);
         accept(&mut self.fresh, lengths);
@@ -122,37 +101,27 @@ fn accept_answer(areas: &mut Areas) {
     areas.answer.accept(areas.answer.content().len());
 }
 
-impl Ample {
-    // What the call needs; some where it is refused.
-    fn need(&mut self, text: &[u8], call: &Call) -> Need {
-        let bytes = text.len().min(BYTES);
-        let mut answer = [0; 6];
-        let mut lent = Lent {
-            index: &mut self.index[..bytes],
-            records: &mut self.records[..bytes],
-            items: &mut self.items,
-            groups: &mut self.groups,
-            references: &mut self.references,
-            labels: &mut self.labels,
-        };
-        let usual = (call.seed % 40) as usize;
-        let mut need = Need { items: usual, groups: usual, references: usual, labels: usual };
-        match &call.what {
-            What::LookUp { at } => {
-                raw::look_up(text, *at, 0, &mut lent, &mut answer);
-                if answer[0] == 0 {
-                    need.items = 16 * answer[2] as usize;
-                }
+// What the call needs; some where it is refused.
+fn need_of(ample: &mut Ample, text: &[u8], call: &Call) -> Need {
+    let mut answer = [0; 6];
+    let mut lent = ample.lent(text.len());
+    let usual = (call.seed % 40) as usize;
+    let mut need = Need { items: usual, groups: usual, references: usual, labels: usual };
+    match &call.what {
+        What::LookUp { at } => {
+            raw::look_up(text, *at, 0, &mut lent, &mut answer);
+            if answer[0] == 0 {
+                need.items = 16 * answer[2] as usize;
             }
-            What::Annotate { mode, pool } => {
-                raw::annotate(text, *mode, pool, 0, &mut lent, &mut answer);
-                if answer[0] == 0 {
-                    let [_, groups, items, references, labels, _] = answer.map(|n| n as usize);
-                    need = Need { items: 16 * items, groups: 5 * groups, references, labels };
-                }
-            }
-            _ => {}
         }
-        need
+        What::Annotate { mode, pool } => {
+            raw::annotate(text, *mode, pool, 0, &mut lent, &mut answer);
+            if answer[0] == 0 {
+                let [_, groups, items, references, labels, _] = answer.map(|n| n as usize);
+                need = Need { items: 16 * items, groups: 5 * groups, references, labels };
+            }
+        }
+        _ => {}
     }
+    need
 }
