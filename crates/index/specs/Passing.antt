@@ -16,7 +16,7 @@ use Rattle.index.specs.declared.Plan.{Plan}
 use Rattle.index.specs.Built.{blank}
 use Rattle.index.specs.Scan.{readOn, nextWith, scanPlan}
 
--- an ASCII byte that is no white space; not every one
+-- an ASCII byte that is no white space, control characters aside
 abbrev pub isInk : ℕ → Bool
 isInk b = leb 33 b && leb b 127
 
