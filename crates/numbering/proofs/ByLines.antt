@@ -296,5 +296,3 @@ definition-swept text all restG restI pool key h =
     (sym (swept-length text false 0 all))
     ∙ definition-placed text _ _ (sweptFrom text false 0 all) restG restI pool key (lie-swept text all restG restI) (swept-each Closes text false 0 all h)
     ∙ ap (λ (gs : List Group). defOf text gs pool key) (swept-groups text false 0 all)
-
-pub ruleset line-laws = (key-same, definition-same, key-at, suppressed-at, definition-placed, definition-swept)

@@ -82,5 +82,3 @@ pub set-last-other : (items : List ℕ) (k n u at len j c : ℕ) → j < k → c
     → itemField (setLast items k n u at len) j c ≡ itemField items j c
 unfolding itemField
 set-last-other items k n u at len j c h l = set-last-away items k n u at len (itemWidth * j + c) (λ d a b e. omega arith)
-
-pub ruleset field-laws = (item-field, group-field, set-last, set-standing, set-last-same, set-standing-same, set-last-other)
