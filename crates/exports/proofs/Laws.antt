@@ -23,8 +23,8 @@ use Rattle.annotation_answer.specs.Values.{annotationValues}
 use Rattle.annotation.specs.Values.{annotationNumbers}
 use Rattle.index.specs.declared.Bracket.{Bracket}
 use Rattle.answers.specs.Words.{Words}
-use Rattle.answers.proofs.Words.{size-words, locator-words, look-up-words, annotation-words}
-use Rattle.answers.proofs.SourceWords.{source-words}
+use Rattle.exports.proofs.Words.{size-words, locator-words, look-up-words, annotation-words}
+use Rattle.exports.proofs.SourceWords.{source-words}
 use Rattle.exports.specs.Areas.{lookUpAreas, lookUpDone, afterLookUp, annotateAreas, annotateDone, afterAnnotate, afterSize, afterLocator, sourceAreas, sourceDone, afterSourceText}
 
 -- `has_room` was asked of `s`, and left it as s′

@@ -1,2 +1,4 @@
 mod Laws
 mod Calls
+pub mod Words
+pub mod SourceWords
