@@ -15,7 +15,7 @@ use Rattle.item.specs.Group.{Group, groupOf}
 use Rattle.resolve.specs.Resolve.{closeAsRun, groupAsRun}
 use Rattle.resolve.specs.Looks.{Inside}
 use Rattle.resolve.proofs.Runs.{run-inside}
-use Rattle.sweep.specs.Sweep.{Lent, Swept, swept, listed, nextAt, lentAfter, foundRun, buildsAt, sweepRunIn, sweepRun}
+use Rattle.sweep.specs.Sweep.{Lent, Swept, swept, listed, nextAt, lentAfter, foundRun, buildsAt, sweepRunIn, sweepRun, foundWith}
 use Rattle.sweep.proofs.Sizes.{size-enough-run}
 use Rattle.annotation.specs.Steps.{SweptFits}
 
@@ -36,7 +36,7 @@ judged-within text p (At c) k = go (groupAccepted text p c)
 judged-within text p Nothing k = tt
 
 found-within : (text : List ℕ) (p : ℕ) (l : Lent) → Each (Within text) (listed (foundRun text p l))
-unfolding foundRun groupAsRun
+unfolding foundWith groupAsRun
 found-within text p l = go (opensAt text p)
   where
     go : (t : Bool) → Each (Within text) (listed (pick t (judge text p (closeAsRun text p (l .note) (l .index))) NoGroup))

@@ -27,7 +27,7 @@ fn colon(text: &[u8], close: usize) -> bool
 }
 
 // Whether group record `g` starts a definition line.
-pub fn defines_in(text: &[u8], groups: &[u16], items: &[u16], g: usize) -> bool
+fn defines_in(text: &[u8], groups: &[u16], items: &[u16], g: usize) -> bool
     requires { ⌜ g < 4294967296 ⌝ }
     ensures { λ r. ⌜ r ≡ definesIn (now (text .entry)) (now (groups .entry)) (now (items .entry)) g ⌝ }
 {

@@ -1,4 +1,4 @@
--- Definition lines.
+-- Definition lines: where one starts, which groups stand in it, and the attributes that it holds.
 use Prim.Native.Nat.{ℕ, _+_, _-_}
 use mathlib.Core.List.{List, [], _∷_}
 use mathlib.Core.Bool.{Bool, false, not, _&&_, _||_}

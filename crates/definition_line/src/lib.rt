@@ -52,7 +52,7 @@ pub fn colon_after(text: &[u8], close: usize) -> bool
 }
 
 // The first byte after the `:` that is no space, or the text's end.
-pub fn after_spaces(text: &[u8], close: usize) -> usize
+fn after_spaces(text: &[u8], close: usize) -> usize
     requires { ⌜ close < length (now text) ⌝ }
     ensures { λ r. ⌜ r ≡ afterSpaces (now (text .entry)) close ⌝ }
 {

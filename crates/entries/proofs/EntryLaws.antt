@@ -1,5 +1,5 @@
 -- Entries of the pool, in the form of the needs.
-use Prim.Native.Nat.{ℕ, zero, suc, _+_, _-_, _*_, _≤_, _<_}
+use Prim.Native.Nat.{ℕ, zero, suc, _+_, _-_, _≤_, _<_}
 use native.Mathlib.Omega.{arith}
 use mathlib.Core.Path.{_≡_, refl, sym, _∙_, ap}
 use mathlib.Core.List.{List, [], _∷_}
@@ -36,20 +36,23 @@ use Rattle.entries.specs.Entries.{entryAt, entryHas, entryIn, GivesAutho
 
 -- ids ----------------------------------------------------------------------------------------------------------------------------
 
-pub id-empty : (own key : List ℕ) → length own ≡ 0 → false ≡ (not (isEmpty own) && same own key)
+id-empty : (own key : List ℕ) → length own ≡ 0 → false ≡ (not (isEmpty own) && same own key)
 id-empty [] key h = refl
 id-empty (x ∷ xs) key h = absurd (omega arith)
 
-pub id-same : (own key : List ℕ) {r : Bool} → (length own ≡ 0 → ⊥) → r ≡ same own key → r ≡ (not (isEmpty own) && same own key)
+id-same : (own key : List ℕ) {r : Bool} → (length own ≡ 0 → ⊥) → r ≡ same own key → r ≡ (not (isEmpty own) && same own key)
 id-same [] key h p = absurd (h refl)
 id-same (x ∷ xs) key h p = p
 
-pub id-none : (s own key : List ℕ) (at e : ℕ) → own ≡ part s at e → length own ≡ 0 → false ≡ (not (isEmpty (part s at e)) && same (part s at e) key)
-id-none s own key at e p h = id-empty own key h ∙ rw p refl
+-- that of an entry
+module _ (s key : List ℕ) (i : ℕ) {own : List ℕ} (p : own ≡ entryAt s i .id) where
+  pub has-none : length own ≡ 0 → false ≡ entryHas s key i
+  unfolding entryHas entryDefines
+  has-none h = id-empty own key h ∙ rw p refl
 
-pub id-is : (s own key : List ℕ) (at e : ℕ) {r : Bool} → own ≡ part s at e → (length own ≡ 0 → ⊥) → r ≡ same own key
-    → r ≡ (not (isEmpty (part s at e)) && same (part s at e) key)
-id-is s own key at e p h q = id-same own key h q ∙ rw p refl
+  pub has-same : {r : Bool} → (length own ≡ 0 → ⊥) → r ≡ same own key → r ≡ entryHas s key i
+  unfolding entryHas entryDefines
+  has-same h q = id-same own key h q ∙ rw p refl
 
 -- a part of no bytes
 pub part-none : (s : List ℕ) → part s 0 (0 + 0) ≡ []
@@ -62,30 +65,14 @@ part-none s = go (leb 0 (0 + 0) && leb (0 + 0) (length s))
 
 -- where an entry lies
 module _ (s : List ℕ) (i : ℕ) (w : wellFormed s ≡ true) (h : i < countOf s) where
-  pub pair-room : 6 + 4 * i ≤ length s
-  pair-room = pair-there s w h
-
   pub entry-place : {at e : ℕ} → at ≡ offsetOf s i → e ≡ endOf s i → EntryIn s at e
   entry-place p q = rw (p, q) (entry-there s i w h)
 
   pub entry-fields : {at e : ℕ} → at ≡ offsetOf s i → e ≡ endOf s i → FieldsIn s at e
   entry-fields p q = fields-of-entry s _ _ (entry-place p q)
 
-module _ (s key : List ℕ) (i : ℕ) {at e : ℕ} (p : at ≡ offsetOf s i) (q : e ≡ endOf s i) where
-  has-at : entryDefines key (entryOf (fieldsOf s at e)) ≡ entryHas s key i
-  unfolding entryHas entryAt
-  has-at = rw (q, p) refl
-
-  pub has-here : {f : Found} {v : Span} {r : Bool} → Reads s f (fieldWith 1 (fieldsOf s at e)) → f ≡ At v
-      → r ≡ (not (isEmpty (part s (v .at) (v .at + v .len))) && same (part s (v .at) (v .at + v .len)) key) → r ≡ entryHas s key i
-  unfolding entryDefines entryOf
-  has-here f t g = g ∙ rw t at (ap (λ (o : Option (List ℕ)). not (isEmpty (bytesOr o [])) && same (bytesOr o []) key) (f .bytes)) ∙ has-at
-
-  pub has-none : {f : Found} → Reads s f (fieldWith 1 (fieldsOf s at e)) → f ≡ Missing → false ≡ entryHas s key i
-  unfolding entryDefines entryOf
-  has-none f t = rw (t) at (ap (λ (o : Option (List ℕ)). not (isEmpty (bytesOr o [])) && same (bytesOr o []) key) (f .bytes)) ∙ has-at
-
-  -- its id
+-- its id
+module _ (s : List ℕ) (i : ℕ) {at e : ℕ} (p : at ≡ offsetOf s i) (q : e ≡ endOf s i) where
   id-at : entryOf (fieldsOf s at e) .id ≡ entryAt s i .id
   unfolding entryAt
   id-at = rw (q, p) refl
@@ -99,7 +86,7 @@ module _ (s key : List ℕ) (i : ℕ) {at e : ℕ} (p : at ≡ offsetOf s i) (q 
   unfolding entryOf
   id-missing f t g = g ∙ part-none s ∙ rw t at (ap (λ (o : Option (List ℕ)). bytesOr o []) (f .bytes)) ∙ id-at
 
-pub ruleset id-laws = (id-none, id-is, pair-room, entry-place, entry-fields, has-here, has-none, id-given, id-missing)
+pub ruleset id-laws = (has-none, has-same, pair-there, entry-fields, id-given, id-missing)
 
 -- the search for the first entry with an id
 module _ (s key : List ℕ) (i m : ℕ) where
@@ -207,4 +194,4 @@ module _ (s : List ℕ) (i : ℕ) {at e : ℕ} (p : at ≡ offsetOf s i) (q : e 
     unfolding yearBytes
     year-none t = record { bytes = λ text. rw t at given }
 
-pub ruleset given-laws = (pair-room, entry-place, entry-fields, author-entry, year-number, year-date, year-none)
+pub ruleset given-laws = (pair-there, entry-place, entry-fields, author-entry, year-number, year-date, year-none)

@@ -25,10 +25,10 @@ entryHas pool key i = entryDefines key (entryAt pool i)
 unfoldable pub entryIn : List ℕ → List ℕ → ℕ
 entryIn pool key = first (entryHas pool key) (countOf pool) 0
 
--- an author that lies in the pool, and a year, with the bytes that are said, whatever the text
+-- an author with the bytes that are said, or none where none are said, whatever the text
 pub record GivesAuthor (pool : List ℕ) (r : Author) (o : Option (List ℕ)) : Type 0 where
   pub bytes : (text : List ℕ) → authorBytes text pool r ≡ o
 
--- a year that stands for the bytes that are said, likewise
+-- a year, likewise
 pub record GivesYear (pool : List ℕ) (r : Year) (o : Option (List ℕ)) : Type 0 where
   pub bytes : (text : List ℕ) → yearBytes text pool r ≡ o

@@ -4,42 +4,15 @@ use definition::Author;
 use definition::Year;
 use pool::Found;
 ghost use mathlib.Core.Path.{_≡_};
-ghost use mathlib.Core.Bool.{true, not, _&&_};
+ghost use mathlib.Core.Bool.{true};
 ghost use Prim.Native.Nat.{_+_, _<_};
-ghost use Rattle.base.specs.Lists.{part, same};
+ghost use Rattle.base.specs.Lists.{part};
 ghost use Rattle.pool.specs.Fields.{fieldsOf};
 ghost use Rattle.pool.specs.Entries.{namesIn, nameAfter};
 ghost use Rattle.pool.specs.Layout.{countOf, wellFormed};
 ghost use Rattle.pool.specs.Places.{FieldsIn};
-ghost use Rattle.source.specs.Entry.{isEmpty, orBytes, authorBy, authorOf, yearOf};
+ghost use Rattle.source.specs.Entry.{orBytes, authorBy, authorOf, yearOf};
 ghost use Rattle.entries.specs.Entries.{entryAt, entryHas, entryIn, GivesAuthor, GivesYear};
-
-// Whether the id that lies at `id` is the key; an empty one never is.
-fn is_id(pool: &[u8], id: Span, key: &[u8]) -> bool
-    ensures { λ r. ⌜ r ≡ (not (isEmpty (part (now (pool .entry)) (id .at) (id .at + id .len))) && same (part (now (pool .entry)) (id .at) (id .at + id .len)) (now (key .entry))) ⌝ }
-{
-    let at = id.at;
-    let len = id.len;
-    let own = base::bytes::part_of(pool, at, len);
-    if own.len() == 0 {
-        return false;
-    }
-    base::bytes::is_same(own, key)
-}
-
-// Whether entry `i` has the id `key`.
-fn has_id(pool: &[u8], i: usize, key: &[u8]) -> bool
-    requires { ⌜ (wellFormed (now pool) ≡ true) × (i < countOf (now pool)) ⌝ }
-    ensures { λ r. ⌜ r ≡ entryHas (now (pool .entry)) (now (key .entry)) i ⌝ }
-{
-    let at = pool::entry_start(pool, i);
-    let e = pool::entry_end(pool, i);
-    let found = pool::field_with(pool, at, e, 1);
-    match found {
-        Found::At { part } => is_id(pool, part, key),
-        Found::Missing => false,
-    }
-}
 
 // The id of entry `i`.
 pub fn entry_id(pool: &[u8], i: usize) -> &[u8]
@@ -57,6 +30,18 @@ pub fn entry_id(pool: &[u8], i: usize) -> &[u8]
         }
         Found::Missing => base::bytes::part_of(pool, 0, 0),
     }
+}
+
+// Whether entry `i` has the id `key`; an empty id is never one.
+fn has_id(pool: &[u8], i: usize, key: &[u8]) -> bool
+    requires { ⌜ (wellFormed (now pool) ≡ true) × (i < countOf (now pool)) ⌝ }
+    ensures { λ r. ⌜ r ≡ entryHas (now (pool .entry)) (now (key .entry)) i ⌝ }
+{
+    let own = entry_id(pool, i);
+    if own.len() == 0 {
+        return false;
+    }
+    base::bytes::is_same(own, key)
 }
 
 // The number of the first entry with the id `key`; the count of entries where none has it.

@@ -22,14 +22,14 @@ use Rattle.annotation.specs.Values.{annotationNumbers}
 abbrev pub roomFor : ℕ → List ℕ → Bool
 roomFor n answer = leb n (length answer)
 
--- a look-up: number, "the place of the close, the item count and the note"
+-- The areas that a look-up is lent. Its answer is the number, then "the place of the close, the item count and the note".
 pub record LookUpAreas : Type 0 where
   pub index : List ℕ
   pub records : List Bracket
   pub items : List ℕ
   pub answer : List ℕ
 
--- the areas of a look-up
+-- these areas, by name
 abbrev pub lookUpAreas : List ℕ → List Bracket → List ℕ → List ℕ → LookUpAreas
 lookUpAreas index records items answer = record { index = index; records = records; items = items; answer = answer }
 
@@ -42,14 +42,14 @@ unfoldable pub afterLookUp : List ℕ → ℕ → ℕ → LookUpAreas → LookUp
 afterLookUp text at note lent =
     pick (roomFor 4 (lent .answer)) (lookUpDone (lookUpRun text at note (lent .index) (lent .records) (lent .items)) (lent .answer)) lent
 
--- an annotation: number, "the counts of groups, items, sources and label bytes, and the note"
+-- The areas that an annotation is lent. Its answer is the number, then "the counts of groups, items, sources and label bytes, and the note".
 pub record AnnotateAreas : Type 0 where
   pub index : List ℕ
   pub records : List Bracket
   pub areas : Areas
   pub answer : List ℕ
 
--- the areas of an annotation
+-- these areas, by name
 abbrev pub annotateAreas : List ℕ → List Bracket → Areas → List ℕ → AnnotateAreas
 annotateAreas index records areas answer = record { index = index; records = records; areas = areas; answer = answer }
 
@@ -72,12 +72,12 @@ afterSize text answer = pick (roomFor 2 answer) (written (sizeNumbers (sizeCall 
 unfoldable pub afterLocator : List ℕ → List ℕ → List ℕ
 afterLocator text answer = pick (roomFor 6 answer) (written (locatorNumbers (locatorCall text)) answer) answer
 
--- a source text call: number and "the bytes written"
+-- The areas that a source text call is lent. Its answer is the number and "the bytes written".
 pub record SourceAreas : Type 0 where
   pub area : List ℕ
   pub answer : List ℕ
 
--- the areas of a source text call
+-- these areas, by name
 abbrev pub sourceAreas : List ℕ → List ℕ → SourceAreas
 sourceAreas area answer = record { area = area; answer = answer }
 

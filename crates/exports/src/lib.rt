@@ -1,11 +1,6 @@
 // The five calls for C and Rust, under the names of include/citations.h. A slice is a pointer and a length in elements.
 // `answer` gets the number (0 accepted), then the values in the paper's order; a call with a shorter one does nothing.
-use annotation_answer::Annotation;
 use index::Bracket;
-use lookup::LocatorAnswer;
-use lookup::LookUp;
-use lookup::Size;
-use source_text::SourceText;
 ghost use mathlib.Core.Path.{_≡_};
 ghost use Rattle.annotation.specs.Content.{areas};
 ghost use Rattle.exports.specs.Areas.{lookUpAreas, afterLookUp, annotateAreas, afterAnnotate, afterSize, afterLocator, sourceAreas, afterSourceText};

@@ -21,11 +21,9 @@ use Rattle.definition_line.specs.Lines.{inLine}
 use Rattle.group_records.specs.declared.SweepState.{SweepState}
 use Rattle.standing.specs.Rows.{groupRow, groupRows, itemCount, itemRows, sweptFrom, insideAfter, endAfter}
 use Rattle.group_records.specs.Areas.{writtenAt}
-use Rattle.group_records.specs.Recording.{recordsFit, Counted}
-use Rattle.group_records.specs.Recording.{ItemsRoom, Recordable, afterGroup, RecordedOne}
+use Rattle.group_records.specs.Recording.{recordsFit, Counted, ItemsRoom, Recordable, afterGroup, RecordedOne}
 use Rattle.standing.proofs.ItemSizes.{items-size}
-use Rattle.group_records.proofs.Areas.{written-length}
-use Rattle.group_records.proofs.Areas.{written-part}
+use Rattle.group_records.proofs.Areas.{written-length, written-part}
 
 -- the item records of a group, written from item record `n` on ---------------------------------------------------------------------
 

@@ -41,7 +41,7 @@ pub record Recorded (text : List ℕ) (gs : List Group) (s : SweepState) (items 
   pub group-rows : r .fits ≡ true
       → groups' ≡ writtenAt (groupWidth * s .groups) (groupRows (s .items) (sweptFrom text (s .inside) (s .from) gs)) groups
 
--- its item records can be written from item record `n` on
+-- the item records of the group from `at` to `close` can be written from item record `n` on
 pub record ItemsRoom (text : List ℕ) (at close n : ℕ) (items : List ℕ) : Type 0 where
   pub short : length text ≤ 65535
   pub after : at < close
@@ -49,7 +49,7 @@ pub record ItemsRoom (text : List ℕ) (at close n : ℕ) (items : List ℕ) : T
   pub good : groupAccepted text at close ≡ true
   pub room : itemWidth * (n + length (itemsOf text at close)) ≤ length items
 
--- it can be recorded from the state `s`, the areas being `items` and `groups` numbers long
+-- that group can be recorded from the state `s`, the areas being `items` and `groups` numbers long
 pub record Recordable (text : List ℕ) (at close count : ℕ) (s : SweepState) (items groups : ℕ) : Type 0 where
   pub stands : GroupFrom text at close count
   pub short : length text ≤ 65535

@@ -10,8 +10,7 @@ use Rattle.base.specs.Ascii.{ascii}
 use Rattle.decimal.specs.Decimal.{decimal}
 use Rattle.records.specs.Records.{itemField, groupField, keyIn}
 use Rattle.line_writers.specs.declared.Told.{Told}
-use Rattle.line_writers.specs.Lines.{itemLine, itemLines, groupLines, countLine, refusedLine}
-use Rattle.line_writers.specs.Lines.{listed}
+use Rattle.line_writers.specs.Lines.{itemLine, itemLines, groupLines, countLine, refusedLine, listed}
 use Rattle.line_writers.specs.Writes.{Put, Room, groupPart, itemPart, linesOf, answerBy}
 use Rattle.line_writers.proofs.Puts.{two-first, two-second, two-put, Along, along-start, along-end, along-room, along-next}
 

@@ -14,10 +14,9 @@ use Rattle.base.specs.First.{first}
 use Rattle.base.specs.Fold.{fold}
 use Rattle.base.specs.Sorted.{Each}
 use Rattle.base.specs.Lists.{written, upFrom}
-use Rattle.base.proofs.Searches.{first-by}
+use Rattle.base.proofs.Searches.{first-by, first-shift}
 use Rattle.base.proofs.Ups.{up-length}
 use Rattle.base.proofs.Areas.{written-none, written-byte}
-use Rattle.base.proofs.Searches.{first-shift}
 use Rattle.order.specs.Order.{less, Ranked, insert}
 use Rattle.order.specs.Ordered.{rankBy, insertBy, insertedFrom, greaterAt, shifted}
 use Rattle.order.specs.References.{rankIn, rankedIn, referencesIn}

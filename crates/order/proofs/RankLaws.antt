@@ -11,7 +11,7 @@ use borrow.Author.Tests.{lt-ltb, le-ltb, eq-eqb, ne-eqb, ltb-true, ltb-false}
 use Rattle.base.specs.First.{first}
 use Rattle.base.specs.Lists.{part}
 use Rattle.base.specs.declared.Span.{Span}
-use Rattle.base.proofs.Searches.{first-by}
+use Rattle.base.proofs.Searches.{first-by, first-out, first-stop, first-more}
 use Rattle.pool.specs.Entries.{bytesOr}
 use Rattle.pool.specs.Layout.{countOf, wellFormed}
 use Rattle.pool.proofs.PoolLaws.{laid-out, count-bytes}
@@ -19,7 +19,6 @@ use Rattle.definition.specs.declared.Author.{Author}
 use Rattle.definition.specs.declared.Author.the-variants.{InText, InPool, Missing}
 use Rattle.definition.specs.Parts.{authorBytes, authorGiven}
 use Rattle.definition.specs.Defs.{defAuthor}
-use Rattle.base.proofs.Searches.{first-out, first-stop, first-more}
 use Rattle.defined.specs.declared.Defined.{Defined}
 use Rattle.defined.specs.declared.Defined.the-variants.{Line, Entry as EntryOf, Nothing}
 use Rattle.records.specs.Records.{itemField, groupField, keyIn}

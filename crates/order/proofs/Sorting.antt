@@ -1,5 +1,5 @@
 -- The numbers that are in order by their ranks stay so, and a rank's place among them is found by halves.
-use Prim.Native.Nat.{ℕ, zero, suc, _+_, _-_, _≤_, _<_}
+use Prim.Native.Nat.{ℕ, zero, suc, _+_, _≤_, _<_}
 use native.Mathlib.Omega.{arith}
 use mathlib.Core.Path.{_≡_, refl, sym, _∙_}
 use mathlib.Core.List.{List, [], _∷_}
@@ -13,8 +13,7 @@ use Rattle.base.specs.Pick.{pick}
 use Rattle.base.specs.First.{first}
 use Rattle.base.specs.Sorted.{Each}
 use Rattle.base.proofs.Alls.{each-map}
-use Rattle.base.proofs.Searches.{first-by, first-holds}
-use Rattle.base.proofs.Searches.{first-before}
+use Rattle.base.proofs.Searches.{first-by, first-holds, first-before}
 use Rattle.order.specs.Order.{less}
 use Rattle.order.specs.Ordered.{rankBy, insertBy, greaterAt, Rising, SortedBy}
 
@@ -163,7 +162,7 @@ module _ (text pool groups items : List ℕ) (n : ℕ) (bytes numbers : List ℕ
       → low ≡ first (greaterAt (rankBy text pool groups items n) bytes numbers) c 0
   half-end a b h = omega arith
 
-pub ruleset half-laws = (half-below, half-above, half-start, half-end)
+pub ruleset half-laws = (half-start, half-end)
 
 pub rises-here : (text pool groups items : List ℕ) (n : ℕ) (bytes numbers : List ℕ) (c : ℕ) → c < length numbers
     → SortedBy (rankBy text pool groups items n) (take c numbers) → Rising (greaterAt (rankBy text pool groups items n) bytes numbers) c

@@ -12,11 +12,10 @@ ghost use Rattle.pool.specs.Layout.{wellFormed};
 ghost use Rattle.defined.specs.Definitions.{LinesBelow};
 ghost use Rattle.order.specs.Order.{less};
 ghost use Rattle.order.specs.Ordered.{insertBy, insertedFrom, definitionOf, sourceBy, rankBy, greaterAt, shifted, Rising, SortedBy};
-ghost use Rattle.order.specs.References.{rankIn, SourcesKnown};
-ghost use Rattle.order.specs.References.{referencesIn};
+ghost use Rattle.order.specs.References.{rankIn, SourcesKnown, referencesIn};
 
 // Whether the bytes `a` come before the bytes `b`.
-pub fn is_less(a: &[u8], b: &[u8]) -> bool
+fn is_less(a: &[u8], b: &[u8]) -> bool
     ensures { λ r. ⌜ r ≡ less (now (a .entry)) (now (b .entry)) ⌝ }
 {
     let mut i: usize = 0;
@@ -161,7 +160,7 @@ fn number_sources<'a>(
 }
 
 // The numbers from 1 on, `sources` of them, by their ranks.
-pub fn order_by_rank<'a>(
+fn order_by_rank<'a>(
     text: &'a [u8],
     pool: &'a [u8],
     groups: &[u16],
@@ -180,7 +179,7 @@ pub fn order_by_rank<'a>(
 }
 
 // The numbers from 1 on, `sources` of them.
-pub fn order_by_number(sources: usize, references: &mut [u16])
+fn order_by_number(sources: usize, references: &mut [u16])
     requires { ⌜ (sources ≤ 65535) × (sources ≤ length (now references)) ⌝ }
     ensures { λ _. ⌜ now (references .exit) ≡ written (upFrom 1 sources) (now (references .entry)) ⌝ }
 {

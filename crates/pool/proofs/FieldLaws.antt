@@ -1,4 +1,4 @@
--- The fields of a stretch, one at a time: more turns than bytes change nothing, so the stretch that is left stands for itself.
+-- The fields of a stretch, one at a time: more turns than bytes change nothing, so what is left is again the fields of a stretch.
 use Prim.Native.Nat.{ℕ, zero, suc, _+_, _-_, _≤_, _<_}
 use native.Mathlib.Omega.{arith}
 use mathlib.Core.Path.{_≡_, refl, _∙_}

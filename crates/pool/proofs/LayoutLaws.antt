@@ -105,7 +105,7 @@ entry-start s at e = refl
 
 pub ruleset field-laws = (field-after, field-no-head, field-past, field-order, field-content)
 
-pub ruleset entry-laws = (field-shrinks, field-ends, field-room, entry-next, entry-stop, entry-end, entry-start)
+pub ruleset entry-laws = (field-shrinks, field-ends, entry-next, entry-stop, entry-end, entry-start)
 
 -- the pairs
 module _ (s : List ℕ) (i at : ℕ) where

@@ -16,7 +16,7 @@ pub struct Begun {
 }
 
 // What refuses an annotation before the sweep, `index` and `records` being how many of these are lent; 0 for nothing.
-pub fn annotate_refusal(text: &[u8], mode: u8, pool: &[u8], index: usize, records: usize) -> u8
+fn annotate_refusal(text: &[u8], mode: u8, pool: &[u8], index: usize, records: usize) -> u8
     ensures { λ r. ⌜ r ≡ annotateRefusal (now (text .entry)) mode (now (pool .entry)) index records ⌝ }
 {
     let number = text_refusal(text);

@@ -9,7 +9,7 @@ use Rattle.base.specs.Lists.{part}
 use Rattle.rows.specs.Rows.{itemWidth}
 use Rattle.standing.specs.Rows.{groupWidth}
 
--- the number at place `c` of item record `k`, and of group record `g`
+-- the number at place `c` of item record `k`
 unfoldable pub itemField : List ℕ → ℕ → ℕ → ℕ
 itemField items k c = getD items (itemWidth * k + c) 0
 

@@ -43,7 +43,7 @@ sweptFrom text before from [] = []
 sweptFrom text before from (g ∷ gs) =
     placed g (pick (inLine text before from g) 0 1) ∷ sweptFrom text (inLine text before from g) (groupEnd g) gs
 
--- whether the last of some groups stands in a definition line, and where it ends
+-- whether the last of some groups stands in a definition line
 unfoldable pub insideAfter : List ℕ → Bool → ℕ → List Group → Bool
 insideAfter text before from [] = before
 insideAfter text before from (g ∷ gs) = insideAfter text (inLine text before from g) (groupEnd g) gs

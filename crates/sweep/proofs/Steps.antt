@@ -20,8 +20,8 @@ use Rattle.resolve.specs.Resolve.{closeAsRun, groupAsRun, wantsBuild}
 use Rattle.resolve.specs.Looks.{lookOf, isBuild, closeAfter, matched, Inside}
 use Rattle.resolve.proofs.Laws.{look-inside}
 use Rattle.resolve.proofs.Runs.{look-wants, look-close}
+use Rattle.sweep.specs.Sweep.{foundWith, wantsAt}
 use Rattle.sweep.specs.declared.Step.the-variants.{Next, Group as StepGroup, Build}
-use Rattle.sweep.specs.Stops.{foundWith, wantsAt}
 use Rattle.sweep.specs.Steps.{stepOf, stepAt}
 
 -- what a look says -----------------------------------------------------------------------------------------------------------------

@@ -15,8 +15,8 @@ use Rattle.index.specs.Built.{builtIndex}
 use Rattle.resolve.specs.Groups.{GroupAnswer, Found, NoGroup, groupAccepted, judge}
 use Rattle.item.specs.Group.{Group, groupOf}
 use Rattle.resolve.specs.Resolve.{storedClose, shortLook, orElse, isNothing, closeAsRun, groupAsRun, wantsBuild, noteAfter, indexAfter, recordsAfter}
-use Rattle.sweep.specs.Sweep.{Lent, swept, listed, nextAt, lentAfter, foundRun, buildsAt, sweepRunIn, sweepRun}
-use Rattle.sweep.specs.Stops.{Stop, stop, foundWith, wantsAt, after, stopIn, stopFrom}
+use Rattle.sweep.specs.Sweep.{Lent, swept, listed, nextAt, lentAfter, foundRun, buildsAt, sweepRunIn, sweepRun, foundWith, wantsAt}
+use Rattle.sweep.specs.Stops.{Stop, stop, after, stopIn, stopFrom}
 use Rattle.sweep.specs.Facts.{goneOn, SweepInTwo}
 use Rattle.resolve.specs.Looks.{Inside}
 use Rattle.resolve.proofs.Runs.{run-inside}
@@ -79,12 +79,12 @@ module _ (text : List ℕ) where
       go false = refl
 
   built-builds-none : (at : ℕ) (l : Lent) → l .note ≡ 1 → buildsAt text at l ≡ false
-  unfolding buildsAt wantsAt
+  unfolding wantsAt
   built-builds-none at l e = rw e (built-wants-none at)
 
   built-run : (n at : ℕ) (so-far : List Group) (l : Lent) → l .note ≡ 1
       → sweepRunIn n text at so-far l ≡ swept (so-far ++ stopIn n text (l .note) (l .index) at .groups) l
-  unfolding sweepRunIn stopIn foundRun foundWith lentAfter noteAfter indexAfter recordsAfter
+  unfolding sweepRunIn stopIn foundWith lentAfter noteAfter indexAfter recordsAfter
   built-run zero at so-far l e = ap (λ (gs : List Group). swept gs l) (sym (append-nil so-far))
   built-run (suc n) at so-far l e =
       go (ltb at (length text)) (buildsAt text at l) (built-builds-none at l e)
@@ -115,7 +115,7 @@ module _ (text : List ℕ) where
 
   -- a bracket that wants a build gives, as run, what it gives once the index is built
   build-same : (at : ℕ) (l : Lent) → buildsAt text at l ≡ true → foundRun text at l ≡ foundWith text 1 (builtIndex text (l .index)) at
-  unfolding buildsAt wantsBuild foundRun foundWith groupAsRun closeAsRun
+  unfolding wantsAt wantsBuild foundWith groupAsRun closeAsRun
   build-same at l h = go (opensAt text at) (eqb (l .note) 1) (shortLook text at) (ltb 64 (length text - at)) refl h
     where
       stored : Close
@@ -186,7 +186,7 @@ module _ (text : List ℕ) where
   -- the sweep from `at` on
   run-in-two : (n at : ℕ) (so-far : List Group) (l : Lent) → length text - at ≤ n
       → sweepRunIn n text at so-far l ≡ goneOn text so-far l (stopIn n text (l .note) (l .index) at)
-  unfolding sweepRunIn stopIn goneOn foundRun foundWith buildsAt wantsAt lentAfter noteAfter indexAfter recordsAfter
+  unfolding sweepRunIn stopIn goneOn foundWith wantsAt lentAfter noteAfter indexAfter recordsAfter
   run-in-two zero at so-far l h = at-end so-far at l (omega arith)
   run-in-two (suc n) at so-far l h =
       go (ltb at (length text)) refl (wantsAt text (l .note) at) refl

@@ -14,7 +14,7 @@ use Rattle.item.specs.Group.{Group}
 use Rattle.resolve.specs.Resolve.{groupAsRun, noteAfter, indexAfter}
 use Rattle.resolve.specs.Lefts.{Left}
 use Rattle.resolve.proofs.AtBracket.{bracket-true}
-use Rattle.sweep.specs.Sweep.{Lent, Swept, swept, listed, nextAt, lentAfter, foundAt, foundRun, buildsAt, sweepIn, sweepRunIn}
+use Rattle.sweep.specs.Sweep.{Lent, Swept, swept, listed, nextAt, lentAfter, foundAt, foundRun, buildsAt, sweepIn, sweepRunIn, foundWith}
 
 -- what a look-up leaves is again such an index, as long as it was
 left-after : (b : Bool) (text : List ℕ) (l : Lent) → Left text (l .index) (l .note)
@@ -30,7 +30,7 @@ length-after false text l h = h
 
 module _ (text : List ℕ) where
   found-same : (at : ℕ) (l : Lent) → Left text (l .index) (l .note) → length text ≤ length (l .index) → foundRun text at l ≡ foundAt text at
-  unfolding foundRun foundAt
+  unfolding foundWith foundAt
   found-same at l h g = go (opensAt text at) refl
     where
       go : (b : Bool) → opensAt text at ≡ b → pick b (groupAsRun text at (l .note) (l .index)) NoGroup ≡ pick b (groupAt text at) NoGroup

@@ -23,8 +23,8 @@ use Rattle.resolve.proofs.Runs.{run-inside}
 use Rattle.group_records.specs.declared.SweepState.{SweepState}
 use Rattle.sweep.specs.declared.Step.{Step}
 use Rattle.sweep.specs.declared.Step.the-variants.{Next, Group as StepGroup, Build}
-use Rattle.sweep.specs.Sweep.{listed, nextAt}
-use Rattle.sweep.specs.Stops.{stop, foundWith, wantsAt, after, stopIn, stopFrom, SweptTo}
+use Rattle.sweep.specs.Sweep.{listed, nextAt, foundWith, wantsAt}
+use Rattle.sweep.specs.Stops.{stop, after, stopIn, stopFrom, SweptTo}
 use Rattle.group_records.specs.Recording.{Counted, Recorded, Recordable, RecordedOne}
 use Rattle.sweep.specs.Steps.{stepOf, stepAt, movedTo, Onward, Turned}
 use Rattle.standing.specs.Stands.{GroupFrom}

@@ -10,7 +10,8 @@ use Rattle.item.specs.Group.{Group}
 use Rattle.group_records.specs.declared.SweepState.{SweepState}
 use Rattle.sweep.specs.declared.Step.{Step}
 use Rattle.sweep.specs.declared.Step.the-variants.{Next, Group as StepGroup, Build}
-use Rattle.sweep.specs.Stops.{stop, foundWith, wantsAt, after, stopFrom}
+use Rattle.sweep.specs.Sweep.{foundWith, wantsAt}
+use Rattle.sweep.specs.Stops.{stop, after, stopFrom}
 use Rattle.group_records.specs.Recording.{Counted, Recorded}
 
 -- a group by its close and the count of its items

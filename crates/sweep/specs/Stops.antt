@@ -2,17 +2,14 @@
 use Prim.Native.Nat.{ℕ, zero, suc}
 use mathlib.Core.Path.{_≡_}
 use mathlib.Core.List.{List, [], _++_}
-use mathlib.Core.Bool.{Bool, true, false, _&&_}
+use mathlib.Core.Bool.{Bool, true, false}
 use lib.ListN.{length}
 use lib.Dec.{ltb}
 use Rattle.base.specs.Pick.{pick}
-use Rattle.index.specs.Entries.{opensAt}
-use Rattle.resolve.specs.Groups.{GroupAnswer, NoGroup}
 use Rattle.item.specs.Group.{Group}
-use Rattle.resolve.specs.Resolve.{groupAsRun, wantsBuild}
 use Rattle.group_records.specs.declared.SweepState.{SweepState}
 use Rattle.group_records.specs.Recording.{Counted, Recorded}
-use Rattle.sweep.specs.Sweep.{listed, nextAt}
+use Rattle.sweep.specs.Sweep.{listed, nextAt, foundWith, wantsAt}
 
 -- the groups found, where the sweep stands, and whether the bracket there wants a build
 pub record Stop : Type 0 where
@@ -23,14 +20,6 @@ pub record Stop : Type 0 where
 -- the groups so far, the place, and whether a build is wanted there
 abbrev pub stop : List Group → ℕ → Bool → Stop
 stop groups at wants = record { groups = groups; at = at; wants = wants }
-
--- what is found at a place with this note and index
-unfoldable pub foundWith : List ℕ → ℕ → List ℕ → ℕ → GroupAnswer
-foundWith text note index at = pick (opensAt text at) (groupAsRun text at note index) NoGroup
-
--- the bracket at a place wants a build
-unfoldable pub wantsAt : List ℕ → ℕ → ℕ → Bool
-wantsAt text note at = opensAt text at && wantsBuild text at note
 
 -- the groups before those of a stop
 abbrev pub after : List Group → Stop → Stop

@@ -1,19 +1,12 @@
 // The sweep: left to right, each unescaped `[`; the records of the groups found.
 use base::bytes::find_byte;
 use close::Close;
-use definition_line::break_at;
-use definition_line::colon_after;
-use definition_line::starts_line;
 use group_records::SweepState;
 use group_records::record_group;
-use item::Parsed;
-use item::items_start;
-use item::parse_item;
 use resolve::Look;
 use resolve::Matched;
 use resolve::look_at;
 use resolve::match_citation;
-use rows::write_rows;
 use text::is_escaped_at;
 ghost use mathlib.Core.Path.{_≡_};
 ghost use Prim.Native.Nat.{_≤_, _<_};

@@ -8,11 +8,7 @@ pub has-id-spec : {M : Type 1} → statement M
 has-id-spec =
     tie.close
     (tie.spec
-    (λ c κs. search (id-laws, needs))
-    (λ c κs. search (id-laws, needs))
-    (λ c κs. search (id-laws, needs))
-    (λ c. search needs)
     (λ c κs. search needs)
-    (λ c. search needs)
     (λ c. search (id-laws, needs))
+    (λ c κs. search needs)
     (λ c. search (id-laws, needs)))

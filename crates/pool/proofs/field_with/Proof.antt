@@ -1,7 +1,6 @@
 -- `pool::field_with` meets its contract. The loop's invariant: the field is the first with its tag from `i` on. Assumes nothing.
 use borrow.Author.Needs.{needs}
-use Rattle.pool.proofs.ReaderLaws.{walk-laws}
-use Rattle.pool.proofs.ReaderLaws.{with-laws}
+use Rattle.pool.proofs.ReaderLaws.{walk-laws, with-laws}
 use Prim.Native.Nat.{_-_}
 use mathlib.Core.Path.{_≡_}
 use Rattle.pool.specs.Fields.{fieldsOf}

@@ -1,7 +1,6 @@
 -- `pool::name_field` meets its contract. The loop's invariant: the field is that of a name whose fields go on at `i`. Assumes nothing.
 use borrow.Author.Needs.{needs}
-use Rattle.pool.proofs.ReaderLaws.{walk-laws}
-use Rattle.pool.proofs.ReaderLaws.{in-laws}
+use Rattle.pool.proofs.ReaderLaws.{walk-laws, in-laws}
 use Prim.Native.Nat.{_-_}
 use mathlib.Core.Path.{_≡_}
 use Rattle.pool.specs.Fields.{fieldsOf}
