@@ -21,10 +21,13 @@ fn word_end(attributes: &[u8], from: usize) -> usize
 {
     let mut i = from;
     while i < attributes.len() {
-        if text::is_white_at(attributes, i) {
+        if white::is_ink(attributes[i]) {
+            i += 1;
+        } else if text::is_white_at(attributes, i) {
             return i;
+        } else {
+            i += 1;
         }
-        i += 1;
     }
     i
 }

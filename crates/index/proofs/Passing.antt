@@ -3,39 +3,28 @@ use Prim.Native.Nat.{ℕ, zero, suc, _+_, _-_, _≤_, _<_}
 use native.Mathlib.Omega.{arith}
 use mathlib.Core.Path.{_≡_, refl, sym, _∙_, ap}
 use mathlib.Core.List.{List}
-use mathlib.Core.Bool.{Bool, true, false, _&&_, _||_, not, true≢false}
+use mathlib.Core.Bool.{Bool, true, false, not, true≢false}
 use lib.ListN.{length, set}
-use lib.Dec.{eqb, leb, ltb}
-use borrow.Author.Tests.{ne-eqb, lt-ltb, le-ltb, lt-leb, leb-true, ltb-true}
+use lib.Dec.{eqb, ltb}
+use borrow.Author.Tests.{ne-eqb, lt-ltb, le-ltb, ltb-true}
 use Rattle.base.specs.Pick.{pick}
 use Rattle.base.specs.Lists.{byteAt}
-use Rattle.base.proofs.Bools.{and-left, and-right}
 use Rattle.base.proofs.Searches.{first-out, first-stop, first-more, first-from, first-by, first-before}
-use Rattle.white.specs.White.{isWhite}
+use Rattle.white.specs.White.{isInk, isWhite}
 use Rattle.text.specs.Trim.{contentEnd, trimEnd}
 use Rattle.text.proofs.Trims.{end-by}
-use Rattle.white.proofs.Whites.{white-ascii}
+use Rattle.white.proofs.Whites.{ink-plain}
 use Rattle.index.specs.declared.Bracket.{Bracket}
 use Rattle.index.specs.declared.Reads.{Reads}
 use Rattle.index.specs.declared.Scan.{Scan}
 use Rattle.index.specs.declared.Plan.{Plan}
 use Rattle.index.specs.Scan.{keyHere, latest, readOn, nextScan, scanPlan}
-use Rattle.index.specs.Passing.{isInk, isPlain, plainEnd, contentIn, passing, skipped, turnOf, unread, Fine, filled}
+use Rattle.index.specs.Passing.{isPlain, plainEnd, contentIn, passing, skipped, turnOf, unread, Fine, filled}
 
 -- bytes -----------------------------------------------------------------------------------------------------------------------------
 
 pub plain-ne : {b : ℕ} (k : ℕ) → isPlain k ≡ false → isPlain b ≡ true → b ≡ k → ⊥
 plain-ne k f h e = true≢false (sym h ∙ ap isPlain e ∙ f)
-
-pub ink-plain : (s : List ℕ) (i : ℕ) → isInk (byteAt s i) ≡ true → isWhite s i ≡ false
-ink-plain s i h =
-    let l = leb-true 33 (byteAt s i) (and-left (leb 33 (byteAt s i)) _ h) in
-    let u = leb-true (byteAt s i) 127 (and-right (leb 33 (byteAt s i)) _ h) in
-    white-ascii s i (omega arith) ∙ rw (lt-leb (byteAt s i) 13 (omega arith), ne-eqb (byteAt s i) 32 (omega arith)) (go (leb 9 (byteAt s i)))
-  where
-    go : (t : Bool) → (t && false || false) ≡ false
-    go true = refl
-    go false = refl
 
 -- what is known after a plain byte
 pub read-past : (s : List ℕ) (i : ℕ) (r : Reads) → isPlain (byteAt s i) ≡ true

@@ -5,7 +5,7 @@ use mathlib.Core.List.{List}
 use mathlib.Core.Bool.{Bool, true, _&&_, _||_, not}
 use mathlib.Core.Path.{_≡_}
 use lib.ListN.{length, getD, set}
-use lib.Dec.{eqb, leb, ltb}
+use lib.Dec.{eqb, ltb}
 use Rattle.base.specs.Pick.{pick}
 use Rattle.base.specs.Lists.{byteAt}
 use Rattle.base.specs.First.{first}
@@ -15,10 +15,6 @@ use Rattle.index.specs.declared.Scan.{Scan}
 use Rattle.index.specs.declared.Plan.{Plan}
 use Rattle.index.specs.Built.{blank}
 use Rattle.index.specs.Scan.{readOn, nextWith, scanPlan}
-
--- an ASCII byte that is no white space, control characters aside
-abbrev pub isInk : ℕ → Bool
-isInk b = leb 33 b && leb b 127
 
 -- none of `;` `@` `[` `\` `]`
 abbrev pub isPlain : ℕ → Bool

@@ -56,4 +56,4 @@ module _ (s : List ℕ) (i : ℕ) where
       unfolding isWhite
       white-third {z = z} f g c r = rw (← p, le-ltb 0 x f, ← d, ← q, le-ltb 1 y g, ← c, ← r)
 
-pub ruleset white-laws = (white-low, white-first, white-second, white-third)
+pub ruleset white-laws = (white-first, white-second, white-third)

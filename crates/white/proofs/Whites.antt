@@ -5,12 +5,12 @@ use mathlib.Core.Path.{_≡_, refl}
 use mathlib.Core.List.{List}
 use mathlib.Core.Logic.{_⊎_, inl, inr}
 use mathlib.Core.Bool.{Bool, true, false, false-and, and-false, or-false}
-use lib.Dec.{ltb}
-use borrow.Author.Tests.{ne-eqb, le-ltb, ltb-true, ltb-false, lt-leb}
+use lib.Dec.{leb, ltb}
+use borrow.Author.Tests.{ne-eqb, le-ltb, ltb-true, ltb-false, lt-leb, leb-true}
 use Rattle.base.specs.Pick.{pick}
 use Rattle.base.specs.Lists.{byteAt}
-use Rattle.base.proofs.Bools.{split}
-use Rattle.white.specs.White.{whiteOne, whiteTwo, whiteThree, spaceWidth, isWhite}
+use Rattle.base.proofs.Bools.{and-left, and-right, split}
+use Rattle.white.specs.White.{isInk, whiteOne, whiteTwo, whiteThree, spaceWidth, isWhite}
 
 -- the width by the bytes
 unfoldable pub widthBy : ℕ → ℕ → ℕ → ℕ
@@ -86,3 +86,10 @@ white-ascii s i h = go (whiteOne (byteAt s i)) refl
     go : (t : Bool) → whiteOne (byteAt s i) ≡ t → isWhite s i ≡ t
     go true q = rw q
     go false q = plain s i h q
+
+-- an ink byte is no white space
+pub ink-plain : (s : List ℕ) (i : ℕ) → isInk (byteAt s i) ≡ true → isWhite s i ≡ false
+ink-plain s i h =
+    let l = leb-true 33 (byteAt s i) (and-left (leb 33 (byteAt s i)) _ h) in
+    let u = leb-true (byteAt s i) 127 (and-right (leb 33 (byteAt s i)) _ h) in
+    plain s i (omega arith) (simp (lt-leb (byteAt s i) 13 (omega arith), ne-eqb (byteAt s i) 32 (omega arith), and-false))

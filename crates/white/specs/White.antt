@@ -22,6 +22,10 @@ whiteThree a b c =
     || eqb a 0xE2 && eqb b 0x81 && eqb c 0x9F
     || eqb a 0xE3 && eqb b 0x80 && eqb c 0x80
 
+-- an ASCII byte that is no white space, control characters aside
+abbrev pub isInk : ℕ → Bool
+isInk b = within 33 127 b
+
 -- how many bytes the White_Space character has that begins at place `i`; 0 where none does
 unfoldable pub spaceWidth : List ℕ → ℕ → ℕ
 spaceWidth s i =

@@ -4,7 +4,14 @@ use base::bytes::byte_at;
 ghost use mathlib.Core.Path.{_≡_};
 ghost use Prim.Native.Nat.{_-_, _<_};
 ghost use lib.ListN.{length};
-ghost use Rattle.white.specs.White.{whiteOne, whiteTwo, whiteThree, spaceWidth, isWhite};
+ghost use Rattle.white.specs.White.{isInk, whiteOne, whiteTwo, whiteThree, spaceWidth, isWhite};
+
+// Whether the byte is ASCII and no white space, control characters aside: what can be said without a look at the bytes around it.
+pub fn is_ink(b: u8) -> bool
+    ensures { λ r. ⌜ r ≡ isInk b ⌝ }
+{
+    (33 <= b) & (b <= 127)
+}
 
 // The place `n` bytes before `at`, or the text's start.
 fn back(at: usize, n: usize) -> usize
@@ -68,10 +75,6 @@ pub fn is_white_byte(text: &[u8], at: usize) -> bool
     requires { ⌜ at < length (now text) ⌝ }
     ensures { λ r. ⌜ r ≡ isWhite (now (text .entry)) at ⌝ }
 {
-    let b = text[at];
-    if b < 0x80 {
-        return is_white_one(b);
-    }
     if 0 < space_width(text, at) {
         return true;
     }
@@ -79,4 +82,17 @@ pub fn is_white_byte(text: &[u8], at: usize) -> bool
         return true;
     }
     2 < space_width(text, back(at, 2))
+}
+
+// The same, an ASCII byte being decided by itself: short enough for the compiler to put it into a caller's loop.
+pub fn is_white(text: &[u8], at: usize) -> bool
+    requires { ⌜ at < length (now text) ⌝ }
+    ensures { λ r. ⌜ r ≡ isWhite (now (text .entry)) at ⌝ }
+{
+    let b = text[at];
+    if b < 0x80 {
+        is_white_one(b)
+    } else {
+        is_white_byte(text, at)
+    }
 }

@@ -24,6 +24,11 @@ word-end-spec =
     Inv-loop
     μ-loop
     (λ c. search (word-laws, needs))
+    (λ c. search needs)
+    (λ c κs. search needs)
+    (λ c. search needs)
+    (λ c. search needs)
+    (λ c. search (word-laws, needs))
     (λ c κs. search needs)
     (λ c. search word-laws)
     (λ c. search needs)

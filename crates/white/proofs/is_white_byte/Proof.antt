@@ -1,5 +1,4 @@
--- `white::is_white_byte` meets its contract: a byte below 128 is decided by itself, another by the widths here and at the two places before.
--- Assumes nothing.
+-- `white::is_white_byte` meets its contract: the widths here and at the two places before decide. Assumes nothing.
 use borrow.Author.Needs.{needs}
 use Rattle.white.proofs.Laws.{white-laws}
 use Rattle.white.proofs.is_white_byte.Statement.{statement}
@@ -9,9 +8,6 @@ pub is-white-byte-spec : {M : Type 1} → statement M
 is-white-byte-spec =
     tie.close
     (tie.spec
-    (λ c. search needs)
-    (λ c κs. search needs)
-    (λ c. search white-laws)
     (λ c κs. search needs)
     (λ c. search white-laws)
     (λ c κs. search needs)
