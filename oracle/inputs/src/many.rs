@@ -10,11 +10,11 @@ const KEYS: usize = 3_001;
 const TEXT: usize = 65_535;
 const POOL: usize = 32_768;
 
-/// How many sources a text is to have: mostly 10 to 60, one time in fifty some hundreds, one in 2,500 some thousands.
+/// How many sources a text is to have: mostly 10 to 60, one time in twenty some hundreds, one in 800 some thousands.
 pub fn count(random: &mut Random) -> usize {
-    match random.below(2_500) {
-        0 => 600 + random.below(2_401),
-        1..=50 => 100 + random.below(501),
+    match random.below(800) {
+        0 => 1_000 + random.below(2_001),
+        1..=40 => 100 + random.below(501),
         _ => 10 + random.below(51),
     }
 }
@@ -26,7 +26,7 @@ pub fn sources(random: &mut Random, count: usize) -> (String, Vec<u8>) {
     let mut lines = Vec::new();
     let mut entries = Vec::new();
     for key in &style.keys {
-        let (line, entry) = match random.below(24) {
+        let (line, entry) = match random.below(if style.terse { 1_000 } else { 24 }) {
             0 => (false, false),
             n => style.defined[n % 4],
         };
@@ -73,6 +73,8 @@ struct Style {
     suppressed: usize,
     // how many bytes the longest definition line has, 0 for no such line
     longest: usize,
+    // most lines have no attributes, and few keys are cited again: so thousands fit
+    terse: bool,
 }
 
 impl Style {
@@ -90,12 +92,20 @@ impl Style {
             |n| format!("{n:b}").replace('0', "a").replace('1', "b"),
         ]);
         let (first, step) = (random.below(KEYS), 1 + random.below(KEYS - 1));
+        let terse = count > 600;
         Style {
             keys: (0..count.min(KEYS)).map(|i| form((first + i * step) % KEYS)).collect(),
             authors: random.of(&[&[0, 1, 2, 3, 4, 5, 6, 7][..], &[2], &[0], &[1], &[0, 1, 2], &[3], &[4], &[3, 4, 0]]),
-            defined: random.of(&[[LINE, LINE, ENTRY, BOTH], [LINE; 4], [ENTRY; 4], [BOTH; 4], [LINE, ENTRY, ENTRY, BOTH]]),
+            defined: match terse {
+                true => [LINE; 4],
+                false => random.of(&[[LINE, LINE, ENTRY, BOTH], [LINE; 4], [ENTRY; 4], [BOTH; 4], [LINE, ENTRY, ENTRY, BOTH]]),
+            },
             suppressed: random.of(&[2, 2, 3, 8, 100]),
-            longest: if random.below(if count > 60 { 3 } else { 40 }) == 0 { 1_000 + random.below(30_000) } else { 0 },
+            longest: match random.below(if count > 60 { 3 } else { 40 }) {
+                0 => 1_000 + random.below(if terse { 10_000 } else { 30_000 }),
+                _ => 0,
+            },
+            terse,
         }
     }
 
@@ -107,7 +117,7 @@ impl Style {
 // Lines with the citations: every key but a few in mixed order, then some again.
 fn citations(random: &mut Random, style: &Style) -> Vec<String> {
     let mut keys: Vec<&str> = style.keys.iter().map(String::as_str).filter(|_| random.below(16) > 0).collect();
-    for _ in 0..random.below(2 * style.keys.len() + 1) {
+    for _ in 0..random.below(if style.terse { style.keys.len() / 8 } else { 2 * style.keys.len() } + 1) {
         // one cited shortly before, or any
         let again = match random.below(2) {
             0 if !keys.is_empty() => keys[keys.len() - 1 - random.below(keys.len().min(4))],
@@ -123,7 +133,7 @@ fn citations(random: &mut Random, style: &Style) -> Vec<String> {
     while !rest.is_empty() {
         let mut line = random.of(&["", "", "See ", "x"]).to_string();
         for _ in 0..1 + random.below(12) {
-            let many = if random.below(3) == 0 { 1 + random.below(6) } else { 1 };
+            let many = if random.below(if style.terse { 30 } else { 3 }) == 0 { 1 + random.below(6) } else { 1 };
             let (group, after) = rest.split_at(many.min(rest.len()));
             rest = after;
             if !group.is_empty() {
@@ -144,11 +154,14 @@ fn group_of(random: &mut Random, style: &Style, keys: &[&str]) -> String {
         text.push_str(key);
         text.push_str(random.of(&["", "", "", "", "", "", ",", ", p. 3"]));
     }
-    text.push_str(random.of(&["] ", "] ", "]", "].", "] and "]));
+    text.push_str(random.of(&["] ", "] ", "].", "],", if style.terse { "]\u{a0}" } else { "] and " }]));
     text
 }
 
 fn definition(random: &mut Random, style: &Style, key: &str) -> String {
+    if style.terse && random.below(8) > 0 {
+        return format!("[@{key}]: ");
+    }
     let before = random.of(&[0, 0, 0, 1, 3, 20]);
     let attributes = attributes(random, style, before);
     let title = random.of(&["", "", " Title.", " see [@k1]."]);
