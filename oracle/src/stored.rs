@@ -67,7 +67,7 @@ pub fn lines(seed: u64, times: usize, name: &str, n: usize) -> Option<String> {
 }
 
 /// How many pools and calls the list has, by their answer: a line of the request's word, the answer's first number (for a call its number,
-/// 0 where it is accepted) and how many; ` built` where the call built the index.
+/// 0 where it is accepted) and how many; ` built` where the call built the index. Annotations of many sources are counted again.
 pub fn counts(seed: u64, times: usize) -> String {
     let mut counts = std::collections::BTreeMap::new();
     records(seed, times, &mut |_, requests, _| {
@@ -82,9 +82,13 @@ pub fn counts(seed: u64, times: usize) -> String {
                 Request::Annotate(..) => "annotate",
                 _ => continue,
             };
-            let number = request.answer(&mut session).expect("a request that can be answered").numbers[0];
+            let numbers = request.answer(&mut session).expect("a request that can be answered").numbers;
             let built = if session.note() > before { " built" } else { "" };
-            *counts.entry((word, number, built)).or_insert(0) += usize::from(!word.is_empty());
+            *counts.entry((word, numbers[0], built)).or_insert(0) += usize::from(!word.is_empty());
+            for (least, sort) in [(10, " with 10 sources or more"), (100, " with 100 sources or more")] {
+                let many = word == "annotate" && numbers[3] >= least;
+                *counts.entry((word, numbers[0], sort)).or_insert(0) += usize::from(many);
+            }
         }
     });
     let lines = counts.into_iter().filter(|(_, count)| *count > 0);
