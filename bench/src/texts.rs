@@ -117,11 +117,11 @@ fn worst_annotations(size: usize) -> Vec<Text> {
     let (undefined, of_undefined) = between("[@a]: \n", "[@b] ", "[@c]: \n");
     let sources = size / 64;
     vec![
-        with_long_group(format!("{ends} citations of a source, a line first and one last"), of_ends),
+        with_long_group(format!("{ends} citations, a line before and behind"), of_ends),
         with_long_group(format!("a line of {} bytes, cited {uses} times", long.len()), of_uses),
-        with_long_group(format!("the same, cited {} times, every other without author", 2 * pairs), of_pairs),
+        with_long_group(format!("that line cited {} times, half suppressed", 2 * pairs), of_pairs),
         with_long_group(format!("{sources} sources, one of a line of {} bytes", long.len()), middle_of(sources, &long)),
-        with_long_group(format!("{undefined} citations undefined, between two lines"), of_undefined),
+        with_long_group(format!("{undefined} undefined citations between two lines"), of_undefined),
     ]
 }
 

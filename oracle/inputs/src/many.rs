@@ -34,14 +34,14 @@ pub fn sources(random: &mut Random, count: usize) -> (String, Vec<u8>) {
             lines.push(definition(random, &style, key));
         }
         if entry {
-            entries.push(pool_entry(random, key));
+            entries.push(pool_entry(random, &style, key));
         }
     }
     // a later line of the same key hides the first, a later entry is hidden
     for _ in 0..random.below(2 + count / 10) {
         let key = style.key(random);
         match random.below(3) {
-            0 => entries.push(pool_entry(random, key)),
+            0 => entries.push(pool_entry(random, &style, key)),
             _ => lines.push(definition(random, &style, key)),
         }
     }
@@ -73,7 +73,7 @@ struct Style {
     suppressed: usize,
     // how many bytes the longest definition line has, 0 for no such line
     longest: usize,
-    // most lines have no attributes, and few keys are cited again: so thousands fit
+    // most lines and entries have nothing but a key, and few keys are cited again: so thousands fit
     terse: bool,
 }
 
@@ -97,7 +97,7 @@ impl Style {
             keys: (0..count.min(KEYS)).map(|i| form((first + i * step) % KEYS)).collect(),
             authors: random.of(&[&[0, 1, 2, 3, 4, 5, 6, 7][..], &[2], &[0], &[1], &[0, 1, 2], &[3], &[4], &[3, 4, 0]]),
             defined: match terse {
-                true => [LINE; 4],
+                true => random.of(&[[LINE; 4], [LINE; 4], [LINE, ENTRY, LINE, ENTRY]]),
                 false => random.of(&[[LINE, LINE, ENTRY, BOTH], [LINE; 4], [ENTRY; 4], [BOTH; 4], [LINE, ENTRY, ENTRY, BOTH]]),
             },
             suppressed: random.of(&[2, 2, 3, 8, 100]),
@@ -209,12 +209,16 @@ fn author(random: &mut Random, style: &Style, which: usize) -> Option<String> {
     })
 }
 
-fn pool_entry(random: &mut Random, key: &str) -> Vec<u8> {
+fn pool_entry(random: &mut Random, style: &Style, key: &str) -> Vec<u8> {
+    let mut out = Vec::new();
+    if style.terse && random.below(8) > 0 {
+        pools::field(1, key.as_bytes(), &mut out);
+        return out;
+    }
     let id = if random.below(20) == 0 { "" } else { key };
     if random.below(3) == 0 {
         return pools::entry_of(random, id);
     }
-    let mut out = Vec::new();
     pools::field(1, id.as_bytes(), &mut out);
     if random.below(6) > 0 {
         let name = match random.below(3) {
