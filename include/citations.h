@@ -11,7 +11,7 @@
  * THE INPUT.
  *
  *     citations_look_up      reads the group at one bracket
- *     citations_annotate     reads all groups of a text, numbers their sources and writes their labels
+ *     citations_annotate     reads the groups of a text, numbers their sources and writes their labels
  *     citations_size         says how many item records a text can need
  *     citations_locator      reads a locator such as `p. 3`
  *     citations_source_text  writes the text of an entry of a pool
