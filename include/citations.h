@@ -7,10 +7,11 @@
  *
  * The archive has no data that changes, allocates nothing, and needs only the C library's memory functions (memset).
  *
- * A text is UTF-8 bytes. A group is a bracket such as `[see @ant, p. 3; -@bee]`: items with a key each, parted by `;`.
+ * A text is UTF-8 bytes. A group is a bracket such as `[see @ant, p. 3; -@bee]`: items with a key each, parted by `;`. The rules are under
+ * THE INPUT.
  *
  *     citations_look_up      reads the group at one bracket
- *     citations_annotate     reads all groups of a text, numbers their sources and writes their labels
+ *     citations_annotate     reads the groups of a text, numbers their sources and writes their labels
  *     citations_size         says how many item records a text can need
  *     citations_locator      reads a locator such as `p. 3`
  *     citations_source_text  writes the text of an entry of a pool
@@ -22,7 +23,7 @@
  *   - Any other two areas of one call must not overlap, nor overlap text or pool.
  *   - Every pointer is aligned for its type and not null, also where the length is 0: pass the address of any object then.
  *   - An area of length n has n elements that may be read and, where the pointer is not to const, written. They are set before the call,
- *     to any values (calloc will do): the library may read what it has not written.
+ *     `answer` too, to any values (calloc or `= {0}` will do): the library may read what it has not written.
  * Beyond these rules no argument is wrong: every call returns, with an answer or with one of ten refusals. No two threads may use an area
  * at the same time while one of them writes it; calls on areas of their own may run at the same time.
  *
@@ -44,6 +45,26 @@
  * the place of that close, else 0) and sets the first text-length bracket records to zero; it answers the note 1. Any other call leaves
  * index and records as they were and answers the note that it was given.
  *
+ * THE INPUT. A byte is escaped where an odd run of backslashes stands just before it. White space is the 25 code points White_Space of
+ * Unicode. What is found are the text's own bytes, backslashes too.
+ *   - A group begins at an unescaped `[`. Its close is the `]` that leaves no bracket open; on the way there a backslash passes over the next
+ *     byte. Right after the close stands no `(`, `[` or `{`, and all its items are good. A `+` right after the `[` makes them integral.
+ *   - Every `;` splits a group into items, an escaped one and one in an inner bracket too.
+ *   - An item, its prefix and its locator lose white space at both ends. An item is a prefix or none, `@` and a key, then its end, or a comma
+ *     and a locator (`[@a,]` has none). The first unescaped `@` that fits counts; an item with none is not good. An unescaped `-` just before
+ *     that `@` suppresses the author.
+ *   - A key is an ASCII letter, digit or `_`, then any of these or of `: . # $ % & + ? < > ~ / -`: that of `@a.` is `a.`.
+ *   - A locator begins with a label from a fixed table, in any ASCII case (`p.` `pp.` `page` `pages`, `chap.`, `s.v.`, `§`, ..; the codes are
+ *     enum citations_label_code), if after it the locator ends or a space, tab, digit, `§` or `¶` stands. Without one a first digit means
+ *     page; anything else is all suffix. The value goes on over digits, IVXLCDM, ivxlcdm, spaces and `. , & -`, and loses these last five
+ *     at its end. The rest is suffix.
+ *   - A definition line begins, at the text's start or after a line feed outside groups, with a group of one item (no prefix, no locator,
+ *     not suppressed), then `:` and at least one space. It runs to the next line feed outside groups. If `{` comes right after the spaces,
+ *     and then `}` before any group or line feed, its attributes stand between them: words `name=value`, parted by white space. `author` and
+ *     `year` are read, the first of each, up to a word without `=`. A value ends at white space even in quotes: `author="Le Guin"` gives
+ *     `Le`. All `"`, then all `'`, come off its ends.
+ *   - A key is defined by its last definition line, else by the first pool entry with that id.
+ *
  * REFUSALS. A refused call leaves every area but `answer` as it was, with these exceptions:
  *   - 5 and 10 keep an index that was built on the way, and answer its note: 1;
  *   - 10 from citations_annotate fills its four areas items, groups, references and labels with zeros, over their whole length.
@@ -59,11 +80,15 @@
 extern "C" {
 #endif
 
-/* Limits: a longer text is refused by 1, a longer pool by 7, labels above their limit by 10. */
+/*
+ * Limits: a longer text is refused by 1, a longer pool by 7, labels above their limit by 10. A source text is at most three bytes longer than
+ * its pool: the longest is that of an entry with no more than an empty id and the year -9223372036854775808, 23 bytes of a pool of 20.
+ */
 enum {
     CITATIONS_TEXT_MAX = 65535,
     CITATIONS_POOL_MAX = 32768,
-    CITATIONS_LABELS_MAX = 65535
+    CITATIONS_LABELS_MAX = 65535,
+    CITATIONS_SOURCE_TEXT_MORE = 3
 };
 
 /* The number: answer[0] of every call. Where several refusals hold, the call gives the one that comes first in its own order. */
@@ -213,11 +238,9 @@ enum citations_annotate_answer {
 };
 
 /*
- * All groups of the text, from left to right, with numbers, uses, labels and the order of the sources.
- *
- * A definition line starts, at the text's start or after a line feed outside groups, with a group of one item (no prefix, no locator, not
- * suppressed), then `:` and at least one space. It runs to the next line feed outside groups, and may give attributes just after the
- * spaces: `[@ant]: {author=Ant year=1901} ..`. A key is defined by its last definition line, else by the first pool entry with that id.
+ * All groups of the text that begin inside no other, from left to right, with numbers, uses, labels and the order of the sources. Keys are
+ * defined by definition lines such as `[@ant]: {author=Ant year=1901} ..`, or by the pool. A group with a key that is not defined, and one
+ * in a definition line, is not numbered.
  *
  *   text                   the text; only read
  *   mode                   an enum citations_mode (else 6)
@@ -229,8 +252,9 @@ enum citations_annotate_answer {
  *   references             one element a source. Accepted: the sources' numbers in reference order.
  *   labels                 one element a label byte. Accepted: the labels one after the other, in item order, with nothing between.
  *
- * Areas that are always long enough, with n from citations_size: items 16 * n, groups 5 * n, references n, labels 65,535. If one of the
- * four is too short the call answers 10 and fills all four with zeros, over their whole length; any other refusal leaves them as they were.
+ * Areas that are always long enough, with n from citations_size: items 16 * n, groups 5 * n, references n, labels CITATIONS_LABELS_MAX; only
+ * labels above that many bytes are still refused by 10, whatever is lent. If one of the four is too short the call answers 10 and fills all
+ * four with zeros, over their whole length; any other refusal leaves them as they were.
  *
  * Refusals, in this order: 1, 2, 6, 7, 9, 10.
  */
@@ -282,6 +306,7 @@ enum citations_source_text_answer {
  *   pool                   the pool; only read. Length 0 is no pool: 8
  *   entry                  any number; 8 where the pool has no such entry
  *   area                   one element a byte of the text (else 10). Accepted: the text, with no 0 at its end. Refused, 10 too: as it was.
+ *                          pool_length + CITATIONS_SOURCE_TEXT_MORE elements always suffice.
  *
  * Refusals, in this order: 7, 8, 10.
  */

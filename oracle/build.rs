@@ -1,5 +1,6 @@
 //! Puts the given Rust source where the crate includes it from: $CARVE_SRC, or ../../shared/docs/src seen from here.
-//! Every file is copied unchanged; only after the end of citations.rs one line is added, which declares the module `probe`.
+//! Every file is copied unchanged; only after the end of citations.rs two lines are added, which declare the module `probe`. For the
+//! benchmark's bare annotation the statements by which `render_refs_list` sorts the keys are copied into a function of their own.
 
 use std::path::{Path, PathBuf};
 use std::{env, fs};
@@ -20,6 +21,8 @@ fn main() {
         copy(&source.join(name).with_extension("rs"), &to, &package);
         modules.push_str(&format!("#[path = {to:?}]\npub mod {name};\n"));
     }
+    let citations = fs::read_to_string(out.join("citations.rs")).unwrap();
+    fs::write(out.join("reference_order.rs"), reference_order(&citations)).unwrap();
     // `mod checked;` of ast.rs is looked for beside it.
     fs::copy(package.join("src/stubs/checked.rs"), out.join("checked.rs")).unwrap();
     fs::write(out.join("modules.rs"), modules).unwrap();
@@ -37,4 +40,19 @@ fn copy(from: &Path, to: &Path, package: &Path) {
         text.push_str(&format!("\n#[path = {probe:?}]\npub mod probe;\n"));
     }
     fs::write(to, text).unwrap();
+}
+
+// The function `sorted_keys`: what `render_refs_list` does before it writes. Where its statements are not found the function stops.
+fn reference_order(citations: &str) -> String {
+    const FIRST: &str = "let mut keys = order.to_vec();";
+    const AFTER: &str = "    let tag =";
+    let found = citations.split_once("fn render_refs_list(").and_then(|(_, after)| {
+        let (_, body) = after.split_once(FIRST)?;
+        Some(body.split_once(AFTER)?.0)
+    });
+    let body = match found {
+        Some(statements) => format!("    {FIRST}{statements}    keys\n"),
+        None => "    unimplemented!(\"the sort of render_refs_list was not found\")\n".to_string(),
+    };
+    format!("fn sorted_keys(mode: CitationMode, order: &[String], defs: &BTreeMap<String, Def>) -> Vec<String> {{\n{body}}}\n")
 }

@@ -1,5 +1,5 @@
-//! The time of the compiled library beside that of the Rust's bare calls, in one process, the best of many calls, in turns.
-//! bench/run builds and runs it; docs/PERFORMANCE.md says what each side does.
+//! The time of the compiled library beside that of the Rust's bare calls, in one process and in turns: the best of many calls, or the median
+//! of the thread's own time where a call is long. bench/run builds and runs it; docs/PERFORMANCE.md says what each side does.
 
 mod clock;
 mod port;

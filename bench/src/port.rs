@@ -1,15 +1,16 @@
 //! The compiled library with areas lent beforehand, long enough for every text.
 
 use citations::raw::{self, Ample};
+use citations::TEXT_MAX;
 
 pub struct Port {
     areas: Ample,
-    answer: [u32; 6],
+    answer: [u32; raw::ANNOTATION],
 }
 
 impl Port {
     pub fn new() -> Port {
-        Port { areas: Ample::new(65_535), answer: [0; 6] }
+        Port { areas: Ample::new(TEXT_MAX), answer: [0; raw::ANNOTATION] }
     }
 
     /// Looks up each of these places, the note kept from call to call: how many groups there are, and the note.

@@ -1,5 +1,7 @@
 //! The texts that are measured, each of about so many bytes.
 
+use citations::pool::{self, Entry, Name};
+
 /// A text of a sort: its name, the text, and the bracket whose look-up builds the index, its close being more than 64 bytes away.
 pub struct Text {
     pub name: String,
@@ -65,32 +67,19 @@ pub fn ordinary(size: usize, pool: bool) -> Text {
 
 /// The pool of the ordinary text's sources.
 pub fn pool() -> Vec<u8> {
-    let mut entries: Vec<Vec<u8>> = Vec::new();
-    for k in 0..SOURCES {
-        let mut entry = Vec::new();
-        field(1, format!("source{k}").as_bytes(), &mut entry);
-        field(2, b"", &mut entry);
-        field(3, format!("Author{:02}", 7 * k % SOURCES).as_bytes(), &mut entry);
-        field(4, b"A.", &mut entry);
-        field(6, &(1950 + k as i64).to_le_bytes(), &mut entry);
-        field(8, b"Title of the book", &mut entry);
-        entries.push(entry);
-    }
-    let mut out = (entries.len() as u16).to_le_bytes().to_vec();
-    let mut at = 2 + 4 * entries.len();
-    for entry in &entries {
-        out.extend((at as u16).to_le_bytes());
-        out.extend((entry.len() as u16).to_le_bytes());
-        at += entry.len();
-    }
-    out.extend(entries.concat());
-    out
-}
-
-fn field(tag: u8, bytes: &[u8], out: &mut Vec<u8>) {
-    out.push(tag);
-    out.extend((bytes.len() as u16).to_le_bytes());
-    out.extend(bytes);
+    let words: Vec<(String, String)> = (0..SOURCES).map(|k| (format!("source{k}"), format!("Author{:02}", 7 * k % SOURCES))).collect();
+    let names: Vec<Name> = words.iter().map(|(_, family)| Name { family: Some(family), given: Some("A."), ..Name::default() }).collect();
+    let entries: Vec<Entry> = (1950..)
+        .zip(words.iter().zip(&names))
+        .map(|(year, ((id, _), name))| Entry {
+            id,
+            names: std::slice::from_ref(name),
+            year: Some(year),
+            title: Some("Title of the book"),
+            ..Entry::default()
+        })
+        .collect();
+    pool::encode(&entries).expect("a pool of at most 32,768 bytes")
 }
 
 /// The worst texts.
@@ -100,7 +89,7 @@ pub fn worst(size: usize) -> Vec<Text> {
     let sources = (size - LONG_GROUP) / 20;
     let line = |k: usize| format!("[@k{k:04}]: \n");
     let cited = |k: usize| format!("[@k{k:04}] ");
-    vec![
+    let mut all = vec![
         by_itself("deep nesting", "[@a,".repeat(nested) + &"]".repeat(nested)),
         by_itself("only `[`", "[".repeat(size)),
         by_itself("`[`, then only `;`", format!("[{}]", ";".repeat(size - 2))),
@@ -110,7 +99,38 @@ pub fn worst(size: usize) -> Vec<Text> {
             (0..lines).map(line).collect::<String>() + &(0..lines / 5).map(|k| cited(5 * k)).collect::<String>(),
         ),
         with_long_group(format!("{sources} sources, each defined and cited once"), sources_of(sources)),
+    ];
+    all.extend(worst_annotations(size));
+    all
+}
+
+// Texts that are bad for an annotation's searches and labels: few definition lines and many citations, and a very long definition line.
+fn worst_annotations(size: usize) -> Vec<Text> {
+    let between = |first: &str, group: &str, last: &str| {
+        let count = (size - LONG_GROUP - first.len() - last.len()) / group.len();
+        (count, format!("{first}{}\n{last}", group.repeat(count - 1)))
+    };
+    let long = format!("[@a]: {{{}author=Ant year=1901}}\n", "x=1 ".repeat(size * 15 / 32 / 4));
+    let (ends, of_ends) = between("[@a]: \n", "[@a] ", "[@b]: \n");
+    let (uses, of_uses) = between(&long, "[@a] ", "");
+    let (pairs, of_pairs) = between(&long, "[@a] [-@a] ", "");
+    let (undefined, of_undefined) = between("[@a]: \n", "[@b] ", "[@c]: \n");
+    let sources = size / 64;
+    vec![
+        with_long_group(format!("{ends} citations, a line before and behind"), of_ends),
+        with_long_group(format!("a line of {} bytes, cited {uses} times", long.len()), of_uses),
+        with_long_group(format!("that line cited {} times, half suppressed", 2 * pairs), of_pairs),
+        with_long_group(format!("{sources} sources, one of a line of {} bytes", long.len()), middle_of(sources, &long)),
+        with_long_group(format!("{undefined} undefined citations between two lines"), of_undefined),
     ]
+}
+
+// So many sources, each cited once: those of even number are sorted before `Ant`, the others behind it, in turns; the long line is the first.
+fn middle_of(count: usize, long: &str) -> String {
+    let author = |k: usize| if k % 2 == 0 { format!("A{k:04}") } else { format!("B{k:04}") };
+    let lines: String = (1..count).map(|k| format!("[@{k:04}]: {{author={}}}\n", author(k))).collect();
+    let cited: String = (1..count).map(|k| format!("[@{k:04}]")).collect::<Vec<_>>().join(" ");
+    format!("{long}{lines}[@a] {cited}\n")
 }
 
 // Every source cited once, in mixed order, and defined in a line of its own.

@@ -1,13 +1,13 @@
 //! Finds libexports.a, the proved library: in the folder CITATIONS_LIB_DIR where that is set, else in the repository's target/staticlib.
 
 use std::env;
-use std::path::PathBuf;
+use std::path::{Path, PathBuf};
 
 fn main() {
     println!("cargo:rerun-if-env-changed=CITATIONS_LIB_DIR");
     println!("cargo:rerun-if-changed=build.rs");
     let folder = match env::var_os("CITATIONS_LIB_DIR") {
-        Some(folder) => PathBuf::from(folder),
+        Some(folder) => from_start(Path::new(&folder)),
         None => PathBuf::from(env::var_os("CARGO_MANIFEST_DIR").unwrap()).join("../../target/staticlib"),
     };
     let archive = folder.join("libexports.a");
@@ -20,9 +20,18 @@ fn main() {
     println!("cargo:rustc-link-lib=static=exports");
 }
 
-fn missing(archive: &std::path::Path) -> ! {
+// A relative path is seen from the folder in which cargo was started, which the shell names in PWD; this script runs in the package's.
+fn from_start(folder: &Path) -> PathBuf {
+    if folder.is_absolute() {
+        return folder.to_path_buf();
+    }
+    println!("cargo:rerun-if-env-changed=PWD");
+    env::var_os("PWD").map_or_else(PathBuf::new, PathBuf::from).join(folder)
+}
+
+fn missing(archive: &Path) -> ! {
     eprintln!("citations: the proved library is missing: no file {}", archive.display());
     eprintln!("citations: write it with `rt staticlib exports` in the repository's root,");
-    eprintln!("citations: or set CITATIONS_LIB_DIR to the folder (an absolute path) that holds libexports.a.");
+    eprintln!("citations: or set CITATIONS_LIB_DIR to the folder that holds libexports.a.");
     std::process::exit(1)
 }

@@ -49,7 +49,7 @@ static void part(const uint8_t *bytes, const uint16_t *pair)
 
 static void look_up(size_t at)
 {
-    uint32_t answer[CITATIONS_LOOK_UP_ANSWER];
+    uint32_t answer[CITATIONS_LOOK_UP_ANSWER] = {0};
     unsigned given = note;
 
     citations_look_up(text, length, at, note, index_area, length, records, length,
@@ -81,7 +81,7 @@ static void print_item(const uint16_t *group, const uint16_t *item)
 
 static int annotate(void)
 {
-    uint32_t answer[CITATIONS_ANNOTATE_ANSWER];
+    uint32_t answer[CITATIONS_ANNOTATE_ANSWER] = {0};
     size_t g, i;
 
     citations_annotate(text, length, CITATIONS_BY_AUTHOR_YEAR, text, 0 /* no pool */, note, index_area, length, records, length,
@@ -109,7 +109,7 @@ static int annotate(void)
 
 int main(void)
 {
-    uint32_t size[CITATIONS_SIZE_ANSWER];
+    uint32_t size[CITATIONS_SIZE_ANSWER] = {0};
     const uint8_t *bracket;
     int status;
 

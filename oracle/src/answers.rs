@@ -1,5 +1,5 @@
 //! Document 01's calls, answered by the Rust. What the Rust has no say in (the refusals 1 to 4 and 6 to 8, and the labels above
-//! 65,535 bytes of 10) is added here as the paper has it; 9 and 10 by the lengths of areas are outside the comparison.
+//! 65,535 bytes of 10) is added here as the paper has it; 9 and 10 by the lengths of areas are in tests/differential/src/rust.rs.
 
 use std::cell::OnceCell;
 use std::collections::HashMap;

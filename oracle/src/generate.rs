@@ -1,7 +1,7 @@
 //! Made-up requests, by seed and kind.
 
 use inputs::random::{character, Random, BROKEN, NEAR, WIDE};
-use inputs::{pools, texts};
+use inputs::{many, pools, texts};
 
 use crate::answers::text_refusal;
 use crate::protocol::Request;
@@ -31,7 +31,7 @@ pub fn turns(seed: u64, n: usize, kind: &str, take: &mut dyn FnMut(Vec<Request>)
     true
 }
 
-// One made-up request; for `lookup`, `annotate` and `large` a text with several, for `pool` and `source` a pool with several.
+// One made-up request; for `lookup`, `annotate`, `large` and `many` a text with several, for `pool` and `source` a pool with several.
 fn turn(random: &mut Random, kind: &str) -> Option<Vec<Request>> {
     Some(match kind {
         "lookup" => look_ups(random),
@@ -48,6 +48,7 @@ fn turn(random: &mut Random, kind: &str) -> Option<Vec<Request>> {
             let text = texts::large(random);
             annotations(random, text)
         }
+        "many" => many_sources(random),
         "pool" => pools_of_one(random),
         "source" => sources(random),
         _ => vec![request(random, kind)?],
@@ -268,6 +269,24 @@ fn annotations(random: &mut Random, text: String) -> Vec<Request> {
     for _ in 0..1 + random.below(3) {
         let mode = if random.below(50) == 0 { random.of(&[2, 3, 255]) } else { random.below(2) };
         let pool = if random.below(2) == 0 { Vec::new() } else { pools::pool(random) };
+        out.extend([Request::Annotate(mode, pool.clone()), Request::Plain(mode, pool)]);
+    }
+    out
+}
+
+// A text of many sources, perhaps with its index built beforehand, annotated with its pool or without; once where it is long, so that a
+// record of the stored list holds it.
+fn many_sources(random: &mut Random) -> Vec<Request> {
+    let count = many::count(random);
+    let (text, pool) = many::sources(random, count);
+    let times = if text.len() > 16_384 { 1 } else { 2 };
+    let mut out = vec![Request::Text(text.into_bytes())];
+    if random.below(3) == 0 {
+        out.push(Request::Build);
+    }
+    for _ in 0..times {
+        let mode = random.of(&[0, 1, 1]);
+        let pool = if random.below(3) == 0 { Vec::new() } else { pool.clone() };
         out.extend([Request::Annotate(mode, pool.clone()), Request::Plain(mode, pool)]);
     }
     out

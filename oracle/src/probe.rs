@@ -367,6 +367,9 @@ pub fn extension(mode: CitationMode, pool: Option<Vec<CslEntry>>) -> Citations {
     citations
 }
 
+// The sort of `render_refs_list`, by its own statements: build.rs takes them from the given source, since the rest of it renders.
+include!(concat!(env!("OUT_DIR"), "/carve/reference_order.rs"));
+
 /// The annotation, and nothing else: the sweep by `match_citation`, `after_parse`, `annotate_citations_inline` and the sort of
 /// `render_refs_list`. The paragraph as annotated, and the sources in reference order.
 pub fn bare_annotation(text: &str, ctx: &MatcherContext<'_>, citations: &Citations) -> (Document, Vec<String>) {
@@ -378,15 +381,7 @@ pub fn bare_annotation(text: &str, ctx: &MatcherContext<'_>, citations: &Citatio
             annotate_citations_inline(&mut p.children, &defs, citations.mode, citations.has_bib(), &mut seen, &mut order, &mut uses);
         }
     }
-    // the first lines of `render_refs_list`
-    let mut keys = order.to_vec();
-    if citations.mode == CitationMode::AuthorDate {
-        keys.sort_by(|a, b| {
-            let left = defs.get(a).and_then(|d| d.author.as_deref()).unwrap_or(a);
-            let right = defs.get(b).and_then(|d| d.author.as_deref()).unwrap_or(b);
-            left.cmp(right)
-        });
-    }
+    let keys = sorted_keys(citations.mode, &order, &defs);
     (doc, keys)
 }
 

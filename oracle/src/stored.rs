@@ -5,7 +5,7 @@ use crate::citations::probe::{Annotated, Record};
 use crate::generate;
 use crate::protocol::Request;
 
-/// The kinds: number in the list, name, seed, how many turns.
+/// The kinds: number in the list, name, seed, how many turns. `MANY` comes on top of them.
 const KINDS: [(u8, &str, u64, usize); 12] = [
     (1, "utf8", 1, 800),
     (2, "escaped", 2, 700),
@@ -20,6 +20,8 @@ const KINDS: [(u8, &str, u64, usize); 12] = [
     (11, "lookup", 11, 400),
     (12, "annotate", 12, 130),
 ];
+/// Annotations of texts of many sources, which the stored list has none of (that of seed 0).
+const MANY: (u8, &str, u64, usize) = (12, "many", 13, 40);
 /// A record lies within one block, and the rest of a block is filled with zeros.
 const BLOCK: usize = 1_048_576;
 
@@ -27,7 +29,7 @@ const BLOCK: usize = 1_048_576;
 /// requests, its body.
 pub fn records(seed: u64, times: usize, take: &mut dyn FnMut(u8, &[Request], Vec<u8>)) {
     let mut session = Session::default();
-    for (number, kind, own_seed, n) in KINDS {
+    for (number, kind, own_seed, n) in KINDS.into_iter().chain((seed != 0).then_some(MANY)) {
         let known = generate::turns(own_seed + seed, n * times, kind, &mut |turn| match turn[0] {
             Request::Text(_) => take(number, &turn, text_body(&turn, &mut session)),
             _ => turn.chunks(1).for_each(|request| take(number, request, body(&request[0], &mut session))),
@@ -65,7 +67,7 @@ pub fn lines(seed: u64, times: usize, name: &str, n: usize) -> Option<String> {
 }
 
 /// How many pools and calls the list has, by their answer: a line of the request's word, the answer's first number (for a call its number,
-/// 0 where it is accepted) and how many; ` built` where the call built the index.
+/// 0 where it is accepted) and how many; ` built` where the call built the index. Annotations of many sources are counted again.
 pub fn counts(seed: u64, times: usize) -> String {
     let mut counts = std::collections::BTreeMap::new();
     records(seed, times, &mut |_, requests, _| {
@@ -80,9 +82,13 @@ pub fn counts(seed: u64, times: usize) -> String {
                 Request::Annotate(..) => "annotate",
                 _ => continue,
             };
-            let number = request.answer(&mut session).expect("a request that can be answered").numbers[0];
+            let numbers = request.answer(&mut session).expect("a request that can be answered").numbers;
             let built = if session.note() > before { " built" } else { "" };
-            *counts.entry((word, number, built)).or_insert(0) += usize::from(!word.is_empty());
+            *counts.entry((word, numbers[0], built)).or_insert(0) += usize::from(!word.is_empty());
+            for (least, sort) in [(10, " with 10 sources or more"), (100, " with 100 sources or more")] {
+                let many = word == "annotate" && numbers[3] >= least;
+                *counts.entry((word, numbers[0], sort)).or_insert(0) += usize::from(many);
+            }
         }
     });
     let lines = counts.into_iter().filter(|(_, count)| *count > 0);

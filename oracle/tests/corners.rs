@@ -207,10 +207,10 @@ fn sources() {
 // What the kept index answers is what the unlimited scan answers, in every order of calls.
 #[test]
 fn index_and_scan() {
-    for kind in ["lookup", "annotate"] {
+    for (kind, count) in [("lookup", 20_000), ("annotate", 20_000), ("many", 500)] {
         let mut session = Session::default();
         let mut kept = Vec::new();
-        generate::requests(1, 20_000, kind, &mut |request| {
+        generate::requests(1, count, kind, &mut |request| {
             let answer = request.answer(&mut session).unwrap();
             match request {
                 Request::LookUp(_) | Request::Annotate(..) => kept = answer.numbers,

@@ -136,7 +136,8 @@ pub fn locator(text: &[u8]) -> Result<Locator, Refusal> {
     }
 }
 
-/// Writes the text of the pool's entry number `entry`, from 0, at the front of `area`, and answers how many bytes it has.
+/// Writes the text of the pool's entry number `entry`, from 0, at the front of `area`, and answers how many bytes it has: at most the pool's and
+/// [`SOURCE_TEXT_MORE`](crate::SOURCE_TEXT_MORE).
 ///
 /// Refusals, in this order: 7, 8, 10.
 pub fn source_text(pool: &[u8], entry: usize, area: &mut [u8]) -> Result<usize, Refusal> {

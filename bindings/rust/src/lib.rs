@@ -28,7 +28,8 @@
 //! | `items` | `u16`, [`ITEM_RECORD`] an item: [`ItemRecord`] | `ITEM_RECORD * n` |
 //! | `groups` | `u16`, [`GROUP_RECORD`] a group: [`GroupRecord`] | `GROUP_RECORD * n` |
 //! | `references` | `u16`, one a source: its number | `n` |
-//! | `labels` | `u8` | [`LABELS_MAX`] |
+//! | `labels` | `u8` | [`LABELS_MAX`]; longer labels are refused whatever is lent ([`Refusal::AreaTooShort`]) |
+//! | `area` of [`source_text`] | `u8` | the pool's bytes and [`SOURCE_TEXT_MORE`] |
 //!
 //! Lengths count elements. An accepted call writes its records at the front of its areas and leaves all beyond them as it was. A refused
 //! call leaves all areas as they were, except that [`Refusal::NoGroup`] and [`Refusal::AreaTooShort`] keep an index that was built on the
@@ -43,7 +44,8 @@
 //! # Linking
 //!
 //! The build script looks for `libexports.a` in the repository's `target/staticlib`, where `rt staticlib exports` writes it, or in the
-//! folder that the environment variable `CITATIONS_LIB_DIR` names. The archive is for x86-64 Linux.
+//! folder that the environment variable `CITATIONS_LIB_DIR` names; a relative one is seen from the folder in which cargo is started (the
+//! shell's `PWD`). The archive is for x86-64 Linux.
 #![warn(missing_docs)]
 #![deny(unsafe_code)]
 
@@ -66,6 +68,9 @@ pub const TEXT_MAX: usize = 65_535;
 pub const POOL_MAX: usize = 32_768;
 /// The most bytes that the labels of a text may have together; more are refused by [`Refusal::AreaTooShort`].
 pub const LABELS_MAX: usize = 65_535;
+/// By how many bytes a source text may be longer than its pool: the pool of 20 bytes with a year of 20 characters and nothing else has a text of
+/// 23, `(-9223372036854775808).`; all that is written between two parts is shorter than the tag and the length of the second.
+pub const SOURCE_TEXT_MORE: usize = 3;
 
 /// The note of a text whose index is not built. Any value other than [`BUILT`] means the same.
 pub const NOT_BUILT: u8 = 0;

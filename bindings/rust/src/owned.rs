@@ -4,7 +4,7 @@ use std::ops::Range;
 
 use crate::{
     annotate, group_records, item_records, look_up, size, source_text, Bracket, GroupRecord, ItemRecord, Refusal, BUILT, GROUP_RECORD,
-    ITEM_RECORD, LABELS_MAX, NOT_BUILT, POOL_MAX,
+    ITEM_RECORD, LABELS_MAX, NOT_BUILT, POOL_MAX, SOURCE_TEXT_MORE,
 };
 
 /// How an annotation labels its items and orders the sources.
@@ -181,16 +181,8 @@ impl Annotated {
 /// # Ok::<(), citations::Refusal>(())
 /// ```
 pub fn source_text_of(pool: &[u8], entry: usize) -> Result<Vec<u8>, Refusal> {
-    // Nearly every text is shorter than its pool; a year may be a few digits longer than its field.
-    let mut area = vec![0; pool.len().min(POOL_MAX) + 32];
-    loop {
-        match source_text(pool, entry, &mut area) {
-            Ok(bytes) => {
-                area.truncate(bytes);
-                return Ok(area);
-            }
-            Err(Refusal::AreaTooShort) => area.resize(2 * area.len(), 0),
-            Err(refusal) => return Err(refusal),
-        }
-    }
+    let mut area = vec![0; pool.len().min(POOL_MAX) + SOURCE_TEXT_MORE];
+    let bytes = source_text(pool, entry, &mut area)?;
+    cut(&mut area, bytes);
+    Ok(area)
 }

@@ -1,6 +1,6 @@
-//! The library's C names (include/citations.h) behind slices, answers and all: each area is lent as it is, and nothing is read or written
-//! here. For those who want the numbers as the library gives them; [`look_up`](crate::look_up) and the others put them into types.
-//! All `unsafe` of the crate is here.
+//! The library's C names (include/citations.h) behind slices, answers and all: a call here lends each area as it is, and reads and writes
+//! nothing itself. For those who want the numbers as the library gives them; [`look_up`](crate::look_up) and the others put them into types.
+//! [`Ample`] has areas to lend, made once for many calls. All `unsafe` of the crate is here.
 //!
 //! Why the calls are safe. The library asks of its caller what Rust's slices already promise: each pointer is aligned and not null, even
 //! for an empty slice; so many elements from it on are readable and set, and writable where the slice is `&mut`; a `&mut` slice overlaps
@@ -9,6 +9,8 @@
 //! takes no memory and does not unwind. Any bits are a value of `u8`, `u16`, `u32` and `Bracket`, so what it writes is always valid.
 //! `Bracket` has the layout of the header's struct: `repr(C)`, four `u16`.
 #![allow(unsafe_code)]
+
+use crate::{GROUP_RECORD, ITEM_RECORD, LABELS_MAX};
 
 /// A bracket record: room in which the library keeps an open bracket while it builds an index.
 ///
@@ -53,7 +55,11 @@ pub struct Lent<'a> {
     pub labels: &'a mut [u8],
 }
 
-/// Areas that are long enough for every call on a text of at most so many bytes.
+/// How many bytes of a text an item has at least: its `@`, a key of one byte, and the `;` or `]` behind it.
+const ITEM_BYTES: usize = 3;
+
+/// Areas that are long enough for every look-up and annotation of a text of at most so many bytes; labels above
+/// [`LABELS_MAX`](crate::LABELS_MAX) bytes are refused all the same.
 pub struct Ample {
     index: Vec<u16>,
     records: Vec<Bracket>,
@@ -64,17 +70,17 @@ pub struct Ample {
 }
 
 impl Ample {
-    /// Those for texts of at most `bytes` bytes: a third of them is room for all items.
+    /// Those for texts of at most `bytes` bytes, with room for as many items as the size call would say.
     #[must_use]
     pub fn new(bytes: usize) -> Ample {
-        let most = bytes / 3;
+        let most = bytes / ITEM_BYTES;
         Ample {
             index: vec![0; bytes],
             records: vec![Bracket::default(); bytes],
-            items: vec![0; 16 * most],
-            groups: vec![0; 5 * most],
+            items: vec![0; ITEM_RECORD * most],
+            groups: vec![0; GROUP_RECORD * most],
             references: vec![0; most],
-            labels: vec![0; 65_535],
+            labels: vec![0; LABELS_MAX],
         }
     }
 

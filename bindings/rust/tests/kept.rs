@@ -3,7 +3,8 @@
 mod common;
 
 use citations::{
-    pool, source_text_of, AnnotationCounts, Bracket, Index, Locator, LookedUp, Mode, Refusal, Refused, Standing, BUILT, NOT_BUILT,
+    pool, source_text, source_text_of, AnnotationCounts, Bracket, Index, Locator, LookedUp, Mode, Refusal, Refused, Standing, BUILT,
+    NOT_BUILT, SOURCE_TEXT_MORE,
 };
 use common::Areas;
 
@@ -179,6 +180,24 @@ fn a_pool_defines_keys_and_counts_uses() {
     assert_eq!(annotated.references(), [2, 1]);
     let last = annotated.items().last().unwrap();
     assert!(last.integral() && matches!(last.locator(), Locator::Plain { .. }));
+}
+
+// A source text is at most three bytes longer than its pool, and that one is the longest.
+#[test]
+fn the_area_that_always_suffices_for_a_source_text() {
+    let pool = pool::encode(&[pool::Entry { id: "", year: Some(i64::MIN), ..Default::default() }]).unwrap();
+    assert_eq!(pool.len(), 20);
+    assert_eq!(source_text_of(&pool, 0).unwrap().len(), pool.len() + SOURCE_TEXT_MORE);
+    assert_eq!(source_text(&pool, 0, &mut [0; 22]), Err(Refusal::AreaTooShort));
+    // more names, a date beside the year, or a title: never as much more
+    let name = pool::Name { family: Some("x"), given: Some(""), ..Default::default() };
+    for names in [&[name][..], &[name; 40]] {
+        for title in [None, Some("t")] {
+            let entry = pool::Entry { id: "", names, year: Some(i64::MIN), title, ..Default::default() };
+            let pool = pool::encode(&[entry]).unwrap();
+            assert!(source_text_of(&pool, 0).unwrap().len() < pool.len() + SOURCE_TEXT_MORE);
+        }
+    }
 }
 
 #[test]

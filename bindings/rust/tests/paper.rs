@@ -95,6 +95,58 @@ fn short_look_and_index() {
     assert_eq!(areas, expected);
 }
 
+// With the note 1 an index is taken as it is, whatever call left it: a stored place counts where it is after its bracket, in the text and at `]`.
+
+#[test]
+fn an_index_that_no_call_left_names_the_close() {
+    let text = b"[@a]@b]";
+    let mut areas = Areas::of(text);
+    areas.index[0] = 6;
+    let before = areas.clone();
+    let found = areas.look_up(text, 0, BUILT).unwrap();
+    assert_eq!((found.close, found.items, found.note), (6, 1, BUILT));
+    assert_eq!((&areas.index, &areas.records), (&before.index, &before.records));
+    let item = item_records(&areas.items[..16]).next().unwrap();
+    assert_eq!((item.prefix().unwrap().of(text), item.key().of(text)), (&b"@a]"[..], &b"b"[..]));
+    assert_eq!(item.locator(), Locator::Nothing);
+}
+
+#[test]
+fn an_index_may_name_an_escaped_close() {
+    let text = b"[@a,\\]";
+    let mut areas = Areas::of(text);
+    areas.index[0] = 5;
+    let found = areas.look_up(text, 0, BUILT).unwrap();
+    assert_eq!((found.close, found.items, found.note), (5, 1, BUILT));
+    let item = item_records(&areas.items[..16]).next().unwrap();
+    assert_eq!((item.key().of(text), item.locator_span().unwrap().of(text)), (&b"a"[..], &b"\\"[..]));
+}
+
+#[test]
+fn an_entry_of_0_is_no_group_and_nothing_is_scanned_or_built() {
+    let text = b"[@a]";
+    let mut areas = Areas::of(text);
+    areas.index[0] = 0;
+    let before = areas.clone();
+    assert_eq!(areas.look_up(text, 0, BUILT), Err(Refused { refusal: Refusal::NoGroup, note: BUILT }));
+    assert_eq!(areas, before);
+}
+
+#[test]
+fn a_good_index_and_no_bracket_records_are_refused() {
+    let text = b"[@a]";
+    let mut areas = Areas::of(text);
+    areas.index[..4].copy_from_slice(&[3, 0, 0, 0]);
+    areas.records.clear();
+    let before = areas.clone();
+    let refused = Refused { refusal: Refusal::IndexTooShort, note: BUILT };
+    assert_eq!(areas.look_up(text, 0, BUILT), Err(refused));
+    assert_eq!(areas.annotate(text, 0, b"", BUILT), Err(refused));
+    assert_eq!(areas, before);
+    // so is the annotation of a text without a bracket
+    assert_eq!(areas.annotate(b"a", 0, b"", BUILT), Err(refused));
+}
+
 // The ten refusals, each by the example of document 01's table.
 
 #[test]

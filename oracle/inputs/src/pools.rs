@@ -12,9 +12,15 @@ pub fn field(tag: u8, bytes: &[u8], out: &mut Vec<u8>) {
 
 /// An entry, with names, years and titles or without.
 pub fn entry(random: &mut Random) -> Vec<u8> {
+    let id = if random.below(8) == 0 { "" } else { random.of(&KEYS) };
+    entry_of(random, id)
+}
+
+/// The same with this id.
+pub fn entry_of(random: &mut Random, id: &str) -> Vec<u8> {
     const WORDS: [&str; 8] = ["", "Ant", "Bee", "Le Guin", "é", " ", "A; B", "𝄞\u{2003}"];
     let mut out = Vec::new();
-    field(1, if random.below(8) == 0 { b"" } else { random.of(&KEYS).as_bytes() }, &mut out);
+    field(1, id.as_bytes(), &mut out);
     for _ in 0..random.of(&[0, 1, 1, 2, 3]) {
         field(2, b"", &mut out);
         for tag in 3..=5 {

@@ -163,8 +163,8 @@ pub enum Fault {
     NoteAlone,
 }
 
-/// The names of the areas.
-pub const AREAS: [&str; 9] = ["text", "pool", "index", "records", "items", "groups", "references", "labels", "answer"];
+/// The names of the areas; `source` is that of the source text call.
+pub const AREAS: [&str; 10] = ["text", "pool", "index", "records", "items", "groups", "references", "labels", "source", "answer"];
 
 /// All areas of a case.
 pub struct Areas {
@@ -309,6 +309,7 @@ impl Areas {
             "groups" if annotates => self.groups.spoil(at(lengths.groups), |x| x ^ 1),
             "references" if annotates => self.references.spoil(at(lengths.references), |x| x ^ 1),
             "labels" if annotates => self.labels.spoil(at(lengths.labels), |x| x ^ 1),
+            "source" if matches!(call.what, What::SourceText { .. }) => self.labels.spoil(at(lengths.labels), |x| x ^ 1),
             "answer" => self.answer.spoil(at(lengths.answer), |x| x ^ 1),
             _ => {}
         }

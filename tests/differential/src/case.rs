@@ -139,7 +139,7 @@ impl Call {
             What::Size | What::Locator => name.to_string(),
             What::SourceText { pool, entry } => format!("{name} entry {entry}, pool of {} bytes: {}", pool.len(), hex(pool)),
         };
-        format!("{what}{}", self.rooms.shown())
+        format!("{what}{}, areas drawn from seed {}", self.rooms.shown(), self.seed)
     }
 }
 

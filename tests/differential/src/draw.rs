@@ -1,7 +1,7 @@
 //! Made-up cases: texts of every sort with calls on them, locators, pools.
 
 use inputs::random::Random;
-use inputs::{limits, pools, texts};
+use inputs::{limits, many, pools, texts};
 
 use crate::case::{Call, Case, Room, Rooms, What};
 
@@ -16,8 +16,9 @@ pub fn case(random: &mut Random) -> Case {
         }),
         9..=12 => large_pools(random),
         13..=149 => on_text(random, limits::near_64),
-        150..=499 => on_text(random, texts::text),
-        500..=749 => on_text(random, texts::prose),
+        150..=249 => many_sources(random),
+        250..=549 => on_text(random, texts::text),
+        550..=749 => on_text(random, texts::prose),
         750..=869 => locators(random),
         _ => sources(random),
     }
@@ -25,30 +26,43 @@ pub fn case(random: &mut Random) -> Case {
 
 /// A case for a list of calls: a text with 2 to 12 of them.
 pub fn list(random: &mut Random) -> Case {
-    let text = match random.below(400) {
-        0 => texts::large(random),
-        1 => texts::labelled(random),
-        2..=99 => limits::near_64(random),
-        100..=249 => texts::prose(random),
-        _ => texts::text(random),
+    let (text, pool) = match random.below(400) {
+        0 => (texts::large(random), Vec::new()),
+        1 => (texts::labelled(random), Vec::new()),
+        2..=99 => (limits::near_64(random), Vec::new()),
+        100..=229 => (texts::prose(random), Vec::new()),
+        230..=249 => {
+            let count = many::count(random);
+            many::sources(random, count)
+        }
+        _ => (texts::text(random), Vec::new()),
     };
     let places = texts::brackets(&text);
     let bytes = perhaps_broken(random, text);
     let count = 2 + random.below(11);
-    let calls = (0..count).map(|_| list_call(random, &bytes, &places)).collect();
+    let calls = (0..count).map(|_| list_call(random, &bytes, &places, &pool)).collect();
     Case { note: note(random), ..with_calls(random, bytes, calls) }
 }
 
-fn list_call(random: &mut Random, text: &[u8], places: &[usize]) -> Call {
+// A call of a list; annotations have this pool, where it has bytes, or another one.
+fn list_call(random: &mut Random, text: &[u8], places: &[usize], pool: &[u8]) -> Call {
     let what = match random.below(16) {
         0 => What::Size,
         1 => What::Locator,
         2 => What::LookUp { at: anywhere(random, text) },
-        3..=6 => annotation(random),
+        3..=6 if pool.is_empty() => annotation(random),
+        3..=6 => annotation_over(random, pool),
         _ if places.is_empty() => What::LookUp { at: 0 },
         _ => What::LookUp { at: random.of(places) },
     };
     call(random, what)
+}
+
+/// A source text call, for the self-test.
+pub fn source(random: &mut Random) -> Call {
+    let pool = pools::whole(random, 3);
+    let entry = random.below(3);
+    call(random, What::SourceText { pool, entry })
 }
 
 // A text with look-ups, annotations and other calls in any order.
@@ -90,6 +104,34 @@ fn annotation(random: &mut Random) -> What {
     let mode = if random.below(40) == 0 { random.of(&[2, 3, 128, 255]) } else { random.below(2) as u8 };
     let pool = if random.below(2) == 0 { Vec::new() } else { pools::pool(random) };
     What::Annotate { mode, pool }
+}
+
+// An annotation with this pool, another one, or none.
+fn annotation_over(random: &mut Random, pool: &[u8]) -> What {
+    match (annotation(random), random.below(4)) {
+        (What::Annotate { mode, .. }, 0..=2) => What::Annotate { mode, pool: pool.to_vec() },
+        (other, _) => other,
+    }
+}
+
+// A text of many sources: annotations, mostly in areas that are long enough, and a look-up.
+fn many_sources(random: &mut Random) -> Case {
+    let count = many::count(random);
+    let (text, pool) = many::sources(random, count);
+    let places = texts::brackets_mixed(random, &text, 1);
+    let bytes = perhaps_broken(random, text);
+    let mut whats: Vec<What> = places.into_iter().map(|at| What::LookUp { at }).collect();
+    let times = if count > 600 { 1 } else { 2 };
+    whats.extend((0..times).map(|_| annotation_over(random, &pool)));
+    let calls = whats.into_iter().map(|what| {
+        let mut call = call(random, what);
+        if random.below(4) > 0 {
+            call.rooms.each().into_iter().filter(|room| matches!(room, Room::Less(_))).for_each(|room| *room = Room::Exact);
+        }
+        call
+    });
+    let calls = calls.collect();
+    with_calls(random, bytes, calls)
 }
 
 // Labels by author of 65,535 bytes, or a few less or more, in areas that are long enough.

@@ -1,4 +1,5 @@
-//! Every text over a small alphabet, the shortest first; and every short row of a pool's fields, and every short pool.
+//! Every text over a small alphabet, the shortest first; and every short row of a pool's fields, and every short pool. Among the rows of one
+//! length the seed says with which a run begins, so that the rows that it comes to of its longest length are others for every seed.
 
 use std::sync::atomic::{AtomicU64, Ordering};
 
@@ -23,6 +24,8 @@ struct Alphabet {
 pub struct Exhaustive {
     alphabets: Vec<Alphabet>,
     turn: AtomicU64,
+    /// A number of the seed.
+    first: u64,
 }
 
 const BRACKETS: &[&[u8]] = &[b"[", b"]", b"@", b"a", b";", b",", b"\\", b"-", b"+", b" ", b"\n", b":"];
@@ -50,7 +53,7 @@ const FIELDS: &[&[u8]] = &[
 const BYTES: &[&[u8]] = &[b"\x00", b"\x01", b"\x02", b"\x03", b"\x05", b"\x06", b"\x08", b"\xFF"];
 
 impl Exhaustive {
-    pub fn new() -> Exhaustive {
+    pub fn new(seed: u64) -> Exhaustive {
         let alphabets = vec![
             alphabet("texts of `[` `]` `@` `a` `;` `,` `\\` `-` `+` space LF `:`", BRACKETS, brackets),
             alphabet("groups of `@a` `@` `-` `\\` `;` `,` space U+00A0 `x` `+` `[` `]`", INNER, inner),
@@ -60,12 +63,7 @@ impl Exhaustive {
             alphabet("entries of a pool: an id, then fields, empty and not", FIELDS, entry),
             alphabet("pools of the bytes 00 01 02 03 05 06 08 FF", BYTES, pool),
         ];
-        Exhaustive { alphabets, turn: AtomicU64::new(0) }
-    }
-
-    /// How many alphabets there are.
-    pub fn alphabets(&self) -> usize {
-        self.alphabets.len()
+        Exhaustive { alphabets, turn: AtomicU64::new(0), first: Random::new(seed).next() }
     }
 
     /// The next cases of the next alphabet.
@@ -73,7 +71,7 @@ impl Exhaustive {
         let which = self.turn.fetch_add(1, Ordering::Relaxed) as usize % self.alphabets.len();
         let alphabet = &self.alphabets[which];
         let from = alphabet.taken.fetch_add(BLOCK, Ordering::Relaxed);
-        (from..from + BLOCK).map(|row| (alphabet.case)(alphabet.row(row), &mut Random::new(row))).collect()
+        (from..from + BLOCK).map(|row| (alphabet.case)(alphabet.row(row, self.first), &mut Random::new(self.first ^ row))).collect()
     }
 
     /// How far each alphabet was gone through.
@@ -87,14 +85,15 @@ fn alphabet(name: &'static str, symbols: &'static [&'static [u8]], case: fn(Vec<
 }
 
 impl Alphabet {
-    // The row of that number: all rows of no symbol, of one, of two, and on.
-    fn row(&self, mut number: u64) -> Vec<u8> {
+    // The row of that number: all rows of no symbol, of one, of two, and on; those of a length from the one at `first` on, around.
+    fn row(&self, mut number: u64, first: u64) -> Vec<u8> {
         let count = self.symbols.len() as u64;
         let mut length = 0;
         while number >= count.pow(length) {
             number -= count.pow(length);
             length += 1;
         }
+        number = (number + first % count.pow(length)) % count.pow(length);
         let mut out = Vec::new();
         for _ in 0..length {
             out.extend_from_slice(self.symbols[(number % count) as usize]);

@@ -2,6 +2,7 @@
 //! those of the same call on a fresh index.
 
 use citations::raw::{self, Ample};
+use citations::{GROUP_RECORD, ITEM_RECORD};
 
 use crate::areas::{Areas, Lengths, Need};
 use crate::case::{Call, Case, What};
@@ -77,8 +78,13 @@ impl Runner for Lists {
             return Err(Difference::of(wrong, &self.shared));
         }
         let silent = lengths.answer < call.what.answer_length();
-        let number = if silent { 0 } else { self.shared.answer.content()[0] as usize };
-        Ok(Done { kind: call.what.kind(), number, built: after != note, silent, stray: false, note: after })
+        let answer = self.shared.answer.content();
+        let number = if silent { 0 } else { answer[0] as usize };
+        let sources = match call.what {
+            What::Annotate { .. } if !silent && number == 0 => answer[3] as usize,
+            _ => 0,
+        };
+        Ok(Done { kind: call.what.kind(), number, built: after != note, silent, stray: false, sources, note: after })
     }
 
     fn areas(&mut self) -> &mut Areas {
@@ -111,14 +117,14 @@ fn need_of(ample: &mut Ample, text: &[u8], call: &Call) -> Need {
         What::LookUp { at } => {
             raw::look_up(text, *at, 0, &mut lent, &mut answer);
             if answer[0] == 0 {
-                need.items = 16 * answer[2] as usize;
+                need.items = ITEM_RECORD * answer[2] as usize;
             }
         }
         What::Annotate { mode, pool } => {
             raw::annotate(text, *mode, pool, 0, &mut lent, &mut answer);
             if answer[0] == 0 {
                 let [_, groups, items, references, labels, _] = answer.map(|n| n as usize);
-                need = Need { items: 16 * items, groups: 5 * groups, references, labels };
+                need = Need { items: ITEM_RECORD * items, groups: GROUP_RECORD * groups, references, labels };
             }
         }
         _ => {}

@@ -2,7 +2,7 @@
 //!
 //!     differential rust SEED SECONDS     every call's answer and every byte lent, against the Rust
 //!     differential lists SEED SECONDS    lists of calls on one index, each call against the same one on a fresh index
-//!     differential self-test SEED        areas altered behind the library's back: each alteration must be seen
+//!     differential self-test SEED        areas changed after each call: each change must be seen
 
 // Without the Rust only the lists are built, which use a part of the rest.
 #![cfg_attr(not(feature = "rust"), allow(dead_code, unused_mut))]
@@ -65,16 +65,20 @@ fn numbers(seed: u64, thread: u64) -> Random {
 
 #[cfg(feature = "rust")]
 fn against_rust(seed: u64, seconds: u64) -> bool {
-    let exhaustive = exhaustive::Exhaustive::new();
+    let exhaustive = exhaustive::Exhaustive::new(seed);
     let batch = |thread| {
         let mut random = numbers(seed, thread);
         let exhaustive = &exhaustive;
-        let mut turn = 0;
+        // half of the time is for made-up cases
+        let (mut made_up, mut every) = (Duration::ZERO, Duration::ZERO);
+        let (mut makes_up, mut since) = (false, Instant::now());
         move || {
-            turn += 1;
-            match turn % (1 + exhaustive.alphabets()) {
-                0 => (0..BATCH).map(|_| draw::case(&mut random)).collect(),
-                _ => exhaustive.cases(),
+            let spent = std::mem::replace(&mut since, Instant::now()).elapsed();
+            *(if makes_up { &mut made_up } else { &mut every }) += spent;
+            makes_up = made_up <= every;
+            match makes_up {
+                true => (0..BATCH).map(|_| draw::case(&mut random)).collect(),
+                false => exhaustive.cases(),
             }
         }
     };

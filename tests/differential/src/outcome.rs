@@ -14,6 +14,8 @@ pub struct Done {
     pub silent: bool,
     /// It was given the note 1 and an index that no call left.
     pub stray: bool,
+    /// How many sources an accepted annotation has.
+    pub sources: usize,
     /// The note after it.
     pub note: u8,
 }
@@ -45,6 +47,9 @@ impl Difference {
     }
 }
 
+/// From how many sources on accepted annotations are counted.
+const SOURCES: [usize; 3] = [10, 100, 1_000];
+
 /// Calls by kind and number, and cases.
 #[derive(Clone, Default)]
 pub struct Counts {
@@ -54,6 +59,7 @@ pub struct Counts {
     built: [u64; 5],
     silent: [u64; 5],
     stray: [u64; 5],
+    sources: [u64; SOURCES.len()],
 }
 
 impl Counts {
@@ -66,6 +72,9 @@ impl Counts {
         }
         self.numbers[done.kind][done.number] += 1;
         self.built[done.kind] += u64::from(done.built);
+        for (count, least) in self.sources.iter_mut().zip(SOURCES) {
+            *count += u64::from(done.sources >= least);
+        }
     }
 
     pub fn add(&mut self, other: &Counts) {
@@ -78,6 +87,9 @@ impl Counts {
             self.built[kind] += other.built[kind];
             self.silent[kind] += other.silent[kind];
             self.stray[kind] += other.stray[kind];
+        }
+        for (count, more) in self.sources.iter_mut().zip(other.sources) {
+            *count += more;
         }
     }
 
@@ -104,6 +116,9 @@ impl Counts {
             }
             out.push('\n');
         }
+        let sources =
+            SOURCES.iter().zip(self.sources).map(|(least, count)| format!("{} or more: {}", grouped(*least as u64), grouped(count)));
+        out.push_str(&format!("  accepted annotations by their sources: {}\n", sources.collect::<Vec<_>>().join("; ")));
         out
     }
 }

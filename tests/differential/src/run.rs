@@ -83,9 +83,9 @@ pub fn run<R: Runner, B: FnMut() -> Vec<Case>>(new: fn() -> R, batch: impl Fn(u6
                     let mut next = batch(number);
                     let mut runner = new();
                     while !stop.load(Ordering::Relaxed) && !over(start, &counts.lock().unwrap(), until) {
-                        if let Err(case) = worker.run_batch(&mut runner, next(), counts) {
+                        if let Err(failure) = worker.run_batch(&mut runner, next(), counts) {
                             stop.store(true, Ordering::Relaxed);
-                            failed.lock().unwrap().get_or_insert(case);
+                            failed.lock().unwrap().get_or_insert(failure);
                         }
                     }
                 })
@@ -94,8 +94,8 @@ pub fn run<R: Runner, B: FnMut() -> Vec<Case>>(new: fn() -> R, batch: impl Fn(u6
         watch(start, &counts, &workers, |number| handles[number].is_finished());
     });
     let failed = failed.into_inner().unwrap();
-    if let Some(case) = failed {
-        report(&mut new(), case);
+    if let Some((case, first)) = failed {
+        report(&mut new(), case, &first);
         return None;
     }
     Some(counts.into_inner().unwrap())
@@ -106,15 +106,15 @@ fn over(start: Instant, counts: &Counts, until: Until) -> bool {
 }
 
 impl Worker {
-    // Runs some cases, and hands back the first that fails.
-    fn run_batch<R: Runner>(&self, runner: &mut R, cases: Vec<Case>, counts: &Mutex<Counts>) -> Result<(), Case> {
+    // Runs some cases, and hands back the first that fails with its difference.
+    fn run_batch<R: Runner>(&self, runner: &mut R, cases: Vec<Case>, counts: &Mutex<Counts>) -> Result<(), (Case, Box<Difference>)> {
         let cases = Arc::new(cases);
         *self.cases.lock().unwrap() = cases.clone();
         let mut own = Counts::default();
         for (at, case) in cases.iter().enumerate() {
             self.at.store(at, Ordering::Relaxed);
-            if run_one(runner, case, &mut |done| own.count(&done)).is_some() {
-                return Err(case.clone());
+            if let Some(difference) = run_one(runner, case, &mut |done| own.count(&done)) {
+                return Err((case.clone(), difference));
             }
             own.cases += 1;
             self.run.fetch_add(1, Ordering::Relaxed);
@@ -184,14 +184,19 @@ fn watch(start: Instant, counts: &Mutex<Counts>, workers: &[Worker], finished: i
     }
 }
 
-// Prints the smallest failing case that is found. Whatever differs, a smaller case must differ in the same area.
-fn report<R: Runner>(runner: &mut R, case: Case) {
-    let area = run_one(runner, &case, &mut |_| {}).map(|difference| difference.wrong.area);
-    println!("differ: DIFFERENCE in a case of {} bytes and {} calls; looking for the smallest", case.text.len(), case.calls.len());
-    let small = shrink::smallest(case, &mut |case| run_one(runner, case, &mut |_| {}).map(|difference| difference.wrong.area) == area);
-    print!("{}", small.shown());
-    match run_one(runner, &small, &mut |_| {}) {
-        Some(difference) => print!("{}", difference.shown(R::REFERENCE)),
-        None => println!("a second run of this case shows no difference"),
+// Prints the smallest failing case that is found: one that differs in the same area. Where the case does not differ again, it is printed as
+// it was, with the difference that was seen.
+fn report<R: Runner>(runner: &mut R, case: Case, first: &Difference) {
+    println!("differ: DIFFERENCE in a case of {} bytes and {} calls", case.text.len(), case.calls.len());
+    let mut again = |case: &Case| run_one(runner, case, &mut |_| {}).filter(|difference| difference.wrong.area == first.wrong.area);
+    if again(&case).is_some() {
+        println!("differ: looking for the smallest");
+        let small = shrink::smallest(case.clone(), &mut |case| again(case).is_some());
+        if let Some(difference) = again(&small) {
+            print!("{}{}", small.shown(), difference.shown(R::REFERENCE));
+            return;
+        }
     }
+    println!("differ: run once more, the case does not differ there again; the case as it was, and the difference that was seen:");
+    print!("{}{}", case.shown(), first.shown(R::REFERENCE));
 }

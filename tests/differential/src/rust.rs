@@ -23,6 +23,16 @@ struct Answer {
     labels: Vec<u8>,
 }
 
+impl Answer {
+    // How many sources an accepted annotation has.
+    fn sources(&self, what: &What) -> usize {
+        match what {
+            What::Annotate { .. } if self.number == 0 => self.references.len(),
+            _ => 0,
+        }
+    }
+}
+
 /// Areas and a session that are used for case after case.
 pub struct Comparison {
     areas: Areas,
@@ -157,6 +167,7 @@ impl Runner for Comparison {
                 built: answer.builds,
                 silent,
                 stray: case.note == 1 && call.what.kind() < 2,
+                sources: answer.sources(&call.what),
                 note: note_after,
             }),
             Some(wrong) => Err(Difference::of(wrong, &self.areas)),

@@ -7,7 +7,7 @@ use crate::draw;
 use crate::lists::Lists;
 use crate::run::{run_one, Runner};
 
-/// Lists of calls in which a fault must show.
+/// Lists of calls, each with a source text call behind it, in which a fault must show.
 const MOST: usize = 500;
 
 /// Tries every fault, against every reference that is built. False where one is not seen.
@@ -37,7 +37,8 @@ fn seen<R: Runner>(seed: u64, mut runner: R, fault: Fault) -> bool {
     let mut random = Random::new(seed);
     runner.areas().fault = Some(fault);
     (0..MOST).any(|_| {
-        let case = draw::list(&mut random);
+        let mut case = draw::list(&mut random);
+        case.calls.push(draw::source(&mut random));
         run_one(&mut runner, &case, &mut |_| {}).is_some_and(|difference| difference.wrong.area != "no answer")
     })
 }

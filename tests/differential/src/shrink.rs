@@ -68,7 +68,20 @@ impl Search<'_> {
             }
             length /= 2;
         }
+        self.brackets();
         self.characters();
+    }
+
+    // Leaves out each bracket together with its close, and with what stands between them or without.
+    fn brackets(&mut self) {
+        let mut open = 0;
+        while open < self.best.text.len() {
+            let smaller = close_of(&self.best.text, open).is_some_and(|close| {
+                let (whole, pair) = (without(&self.best, open, close + 1 - open), without(&without(&self.best, close, 1), open, 1));
+                self.offer(whole) || self.offer(pair)
+            });
+            open += usize::from(!smaller);
+        }
     }
 
     // Leaves out each character, or puts as many `x` in its place as it has bytes.
@@ -114,7 +127,7 @@ impl Search<'_> {
         }
     }
 
-    // Areas of the length needed, no note, no index beyond the text, low seeds.
+    // No note, no index beyond the text, seeds of 0, areas of the length needed.
     fn rest(&mut self) {
         let case = Case { note: 0, ..self.best.clone() };
         self.offer(case);
@@ -123,6 +136,9 @@ impl Search<'_> {
         let case = Case { seed: 0, ..self.best.clone() };
         self.offer(case);
         for i in 0..self.best.calls.len() {
+            let mut case = self.best.clone();
+            case.calls[i].seed = 0;
+            self.offer(case);
             let mut case = self.best.clone();
             case.calls[i].rooms = Rooms::EXACT;
             self.offer(case);
@@ -146,6 +162,25 @@ fn without(case: &Case, from: usize, length: usize) -> Case {
         }
     }
     case
+}
+
+// The close of the bracket at `open`; none where there is no bracket, or no close.
+fn close_of(text: &[u8], open: usize) -> Option<usize> {
+    let (mut depth, mut at) = (0, open);
+    while at < text.len() {
+        match text[at] {
+            b'\\' => at += 1,
+            b'[' => depth += 1,
+            b']' if depth == 1 => return Some(at),
+            b']' => depth -= 1,
+            _ => {}
+        }
+        if depth == 0 {
+            return None;
+        }
+        at += 1;
+    }
+    None
 }
 
 // How many bytes the first character has; 1 where it is none.
