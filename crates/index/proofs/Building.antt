@@ -8,7 +8,7 @@ use mathlib.Core.Bool.{Bool, true, false, _&&_, not}
 use lib.ListN.{length, getD, drop, replicate, length-set, length-replicate, getD-replicate, List·getD-append}
 use lib.Seq.{getD-set-same, getD-set-other, getD-append-add, getD-drop, ext-getD}
 use lib.Dec.{eqb, ltb}
-use borrow.Author.Tests.{eqb-true, eqb-false, lt-ltb, ltb-true, ltb-false}
+use borrow.Author.Tests.{eqb-true, eqb-false, ltb-true, ltb-false}
 use Rattle.base.specs.Pick.{pick}
 use Rattle.base.specs.Lists.{byteAt, written}
 use Rattle.base.proofs.Bools.{and-right, split}

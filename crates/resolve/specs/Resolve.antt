@@ -9,7 +9,6 @@ use Rattle.base.specs.Lists.{isAt}
 use Rattle.close.specs.declared.Close.{Close}
 use Rattle.close.specs.declared.Close.the-variants.{At, Nothing}
 use Rattle.close.specs.Scan.{closeWithin}
-use Rattle.index.specs.declared.Bracket.{Bracket}
 use Rattle.index.specs.Built.{builtIndex}
 unfoldable pub use Rattle.index.specs.Built.{indexAfter, recordsAfter}
 use Rattle.resolve.specs.Groups.{GroupAnswer, judge}

@@ -1,4 +1,4 @@
--- `index::write_entry` meets its contract. Assumes nothing.
+-- `index::write_entry` meets its contract: the code is the definition. Assumes nothing.
 use borrow.Author.Needs.{needs}
 use Rattle.index.specs.Scan.{stepIndex}
 use Rattle.index.proofs.write_entry.Statement.{statement}
