@@ -1,29 +1,33 @@
--- What holds where a turn of the code begins, from the cleared index to the cleared records: that every turn keeps it, and that a build is right at the end.
+-- A build: what is known holds at the start and after every turn, so that a turn can be taken and the areas are right at the end.
 use Prim.Native.Nat.{ℕ, zero, suc, _+_, _-_, _≤_, _<_}
 use native.Mathlib.Omega.{arith}
-use mathlib.Core.Path.{_≡_, refl, sym, _∙_, ap, subst}
-use mathlib.Core.List.{List}
-use mathlib.Core.Logic.{_⊎_, inl, inr, ⊎-elim}
+use mathlib.Core.Path.{_≡_, refl, sym, _∙_, ap, ap₂, subst}
+use mathlib.Core.List.{List, _++_}
+use mathlib.Core.Logic.{inl, inr, ⊎-elim}
 use mathlib.Core.Bool.{Bool, true, false, _&&_, not}
-use lib.ListN.{length, getD, set, length-set}
-use lib.Seq.{getD-set-same, getD-set-other, set-getD}
-use lib.Dec.{eqb}
-use borrow.Author.Tests.{eqb-true, eqb-false, lt-ltb, ltb-true}
+use lib.ListN.{length, getD, drop, replicate, length-set, length-replicate, getD-replicate, List·getD-append}
+use lib.Seq.{getD-set-same, getD-set-other, getD-append-add, getD-drop, ext-getD}
+use lib.Dec.{eqb, ltb}
+use borrow.Author.Tests.{eqb-true, eqb-false, ltb-true, ltb-false}
 use Rattle.base.specs.Pick.{pick}
-use Rattle.base.specs.Lists.{byteAt}
+use Rattle.base.specs.Lists.{byteAt, written}
 use Rattle.base.proofs.Bools.{and-right, split}
+use Rattle.base.proofs.Areas.{written-length}
+use Rattle.close.proofs.Laws.{ended}
 use Rattle.index.specs.declared.Bracket.{Bracket}
 use Rattle.index.specs.declared.Scan.{Scan}
-use Rattle.index.specs.Built.{blank, builtIndex, builtRecords}
-use Rattle.index.specs.Scan.{Both, start, reach, allGoodIn, closes, nextScan, scanPlan, planOf, planAt, stepIndex, stepRecords}
-use Rattle.index.specs.Passing.{isPlain, plainEnd, passing, skipped, turnOf, turnAt, filled}
-use Rattle.index.proofs.Stack.{Stack}
-use Rattle.index.proofs.Turns.{KnownAt, turn-on, pass-on}
-use Rattle.index.proofs.Linear.{bad-first, reads-first, Cleared, built, clears, ends}
-use Rattle.index.proofs.Fits.{Fits, fits-start, fits-turn}
-use Rattle.index.proofs.Passing.{plain-from, plain-by, plain-before}
+use Rattle.index.specs.Entries.{indexAt, indexOf}
+use Rattle.index.specs.Built.{blank, builtIndex, builtRecords, Both, built}
+use Rattle.index.specs.Scan.{firstReads, start, closes, nextScan, scanPlan, stepIndex, stepRecords}
+use Rattle.index.specs.Passing.{isOrdinary, ordinaryEnd, passing, skipped, turnOf, turnAt, unread, Fine, filled}
+use Rattle.index.proofs.Reading.{readsAt}
+use Rattle.index.proofs.Marks.{badAt, bad-by}
+use Rattle.index.proofs.Stack.{Stack, stack-end}
+use Rattle.index.proofs.Turns.{Area, Settled, KnownAt, byte-on, pass-on, entry-open}
+use Rattle.index.proofs.Passing.{ordinary-from, ordinary-by, ordinary-before}
+use Rattle.index.proofs.Built.{length-index, at-index}
 
--- areas that are filled -------------------------------------------------------------------------------------------------------------
+-- areas -----------------------------------------------------------------------------------------------------------------------------
 
 module _ {A : Type 0} (x d : A) where
   length-filled : (n : ℕ) (area : List A) → length (filled x n area) ≡ length area
@@ -45,167 +49,129 @@ module _ {A : Type 0} (x d : A) where
   filled-out zero area p h = refl
   filled-out (suc n) area p h = getD-set-other (filled x n area) n p x d (omega arith) ∙ filled-out n area p (omega arith)
 
--- entries that are 0 ----------------------------------------------------------------------------------------------------------------
+written-is : {A : Type 0} (d : A) (out area new : List A) → length out ≤ length area → Area A (length out) d area new
+    → ((p : ℕ) → p < length out → getD new p d ≡ getD out p d) → new ≡ written out area
+unfolding written
+written-is d out area new f a g =
+    ext-getD d new (out ++ drop (length out) area) (a .long ∙ sym sum) (λ p l. ⊎-elim (λ q. front p (ltb-true p (length out) q)) (λ q. behind p (ltb-false p (length out) q)) (split (ltb p (length out))))
+  where
+    sum : length (out ++ drop (length out) area) ≡ length area
+    sum = written-length out area f
 
--- the entries from `i` on, and those at `]`
-abbrev Clear : List ℕ → ℕ → List ℕ → Type 0
-Clear s i index = (p : ℕ) → p < length s → (i ≤ p) ⊎ (byteAt s p ≡ 93) → getD index p 0 ≡ 0
+    front : (p : ℕ) → p < length out → getD new p d ≡ getD (out ++ drop (length out) area) p d
+    front p l = g p l ∙ sym (List·getD-append out (drop (length out) area) d p l)
 
-clear-on : (s : List ℕ) (i j : ℕ) (index : List ℕ) → i ≤ j → Clear s i index → Clear s j index
-clear-on s i j index h w p l (inl x) = w p l (inl (omega arith))
-clear-on s i j index h w p l (inr x) = w p l (inr x)
+    behind : (p : ℕ) → length out ≤ p → getD new p d ≡ getD (out ++ drop (length out) area) p d
+    behind p l =
+        let q = p - length out in
+        let e : length out + q ≡ p = omega arith in
+        a .beyond p l
+        ∙ sym (subst (λ (n : ℕ). getD (out ++ drop (length out) area) n d ≡ getD area n d) e
+        (getD-append-add out (drop (length out) area) q d ∙ getD-drop (length out) area q d))
+
+-- places ----------------------------------------------------------------------------------------------------------------------------
 
 passing-at : (n : ℕ) (s : List ℕ) (c : Scan) → passing n s c .at ≡ c .at + n
 unfolding passing
 passing-at zero s c = omega arith
 passing-at (suc n) s c = ap (λ (k : ℕ). k + 1) (passing-at n s c) ∙ (let e : c .at + n + 1 ≡ c .at + suc n = omega arith in e)
 
-module _ (s index₀ : List ℕ) (records₀ : List Bracket) (fi : length s ≤ length index₀) (fr : length s ≤ length records₀) where
-  pub record Building (c : Scan) (index : List ℕ) (records : List Bracket) : Type 0 where
-    pub within : c .at ≤ length s
-    pub fits : Fits s c records
-    pub known : KnownAt s index₀ records₀ fi fr c index records
-    pub clear : Clear s (c .at) index
+-- a turn goes on
+pub turn-far : (s : List ℕ) (c : Scan) (records : List Bracket) → c .at < turnAt s c records .next .at
+unfolding turnAt turnOf skipped scanPlan nextScan
+turn-far s c records =
+    let n = scanPlan s c (getD records (c .depth - 1) blank) .next in
+    omega (arith, passing-at (ordinaryEnd s (n .at) - n .at) s n)
 
-  pub build-start : Building (start s) (filled 0 (length s) index₀) records₀
-  unfolding start
+-- turns -----------------------------------------------------------------------------------------------------------------------------
+
+module _ (s index₀ : List ℕ) (records₀ : List Bracket) (fi : length s ≤ length index₀) (fr : length s ≤ length records₀) where
+  pub build-start : KnownAt s index₀ records₀ fi fr start (filled 0 (length s) index₀) records₀
+  unfolding start firstReads readsAt badAt
   build-start = record {
     within = omega arith;
-    fits = fits-start s records₀;
-    known = record {
-      deep = omega arith;
-      reads = reads-first s;
-      count = bad-first s;
-      stack = tt;
-      settled = λ p l. absurd (omega arith);
-      indexed = record { long = length-filled 0 0 (length s) index₀; beyond = λ v l. filled-out 0 0 (length s) index₀ v l };
-      recorded = record { long = refl; beyond = λ v l. refl };
-    };
-    clear = λ p l x. filled-in 0 0 (length s) index₀ p l fi;
+    deep = omega arith;
+    reads = refl;
+    count = refl;
+    stack = tt;
+    settled = λ p l. absurd (omega arith);
+    clear = λ p l k. filled-in 0 0 (length s) index₀ p k fi;
+    indexed = record { long = length-filled 0 0 (length s) index₀; beyond = λ v l. filled-out 0 0 (length s) index₀ v l };
+    recorded = record { long = refl; beyond = λ v l. refl };
   }
 
-  module _ (c : Scan) (index : List ℕ) (records : List Bracket) where
-    -- over plain bytes
-    passes : (n : ℕ) → c .at + n ≤ length s → ((v : ℕ) → c .at ≤ v → v < c .at + n → isPlain (byteAt s v) ≡ true)
-        → KnownAt s index₀ records₀ fi fr c index records → Clear s (c .at) index → KnownAt s index₀ records₀ fi fr (passing n s c) index records
+  module _ (c : Scan) (index : List ℕ) (records : List Bracket) (w : KnownAt s index₀ records₀ fi fr c index records) where
+    passes : (n : ℕ) → c .at + n ≤ length s → ((v : ℕ) → c .at ≤ v → v < c .at + n → isOrdinary (byteAt s v) ≡ true)
+        → KnownAt s index₀ records₀ fi fr (passing n s c) index records
     unfolding passing
-    passes zero h p w z = w
-    passes (suc n) h p w z =
+    passes zero h p = w
+    passes (suc n) h p =
         let e = passing-at n s c in
         pass-on s index₀ records₀ fi fr (passing n s c) index records (omega arith) (p (passing n s c .at) (omega arith) (omega arith))
-        (z (passing n s c .at) (omega arith) (inl (omega arith))) (passes n (omega arith) (λ v l k. p v l (omega arith)) w z)
+        (passes n (omega arith) (λ v l k. p v l (omega arith)))
 
-    skips : c .at ≤ length s → KnownAt s index₀ records₀ fi fr c index records → Clear s (c .at) index → KnownAt s index₀ records₀ fi fr (skipped s c) index records
+    skips : KnownAt s index₀ records₀ fi fr (skipped s c) index records
     unfolding skipped
-    skips h w z =
-        let f = plain-from s (c .at) in
-        let b = plain-by s (c .at) refl h in
-        passes (plainEnd s (c .at) - c .at) (omega arith) (λ v l k. plain-before s (c .at) v l (omega arith)) w z
+    skips =
+        let f = ordinary-from s (c .at) in
+        let b = ordinary-by s (c .at) refl (w .within) in
+        passes (ordinaryEnd s (c .at) - c .at) (omega arith) (λ v l k. ordinary-before s (c .at) v l (omega arith))
 
-    skip-at : skipped s c .at ≡ plainEnd s (c .at)
-    unfolding skipped
-    skip-at = let f = plain-from s (c .at) in passing-at (plainEnd s (c .at) - c .at) s c ∙ (let e : c .at + (plainEnd s (c .at) - c .at) ≡ plainEnd s (c .at) = omega arith in e)
-
-    -- an entry is written where 0 need not stand: at the place itself, or at the bracket that closes
-    writes : c .at < length s → KnownAt s index₀ records₀ fi fr c index records → Clear s (c .at) index
-        → Clear s (c .at + 1) (stepIndex (scanPlan s c (getD records (c .depth - 1) blank)) index)
-    unfolding stepIndex scanPlan closes
-    writes h w z p l x = go (closes s c) refl
-      where
-        i : ℕ
-        i = c .at
-
-        old : (p ≡ i → ⊥) → getD index p 0 ≡ 0
-        old ne = z p l (⊎-elim (λ y. inl (let k = y in omega arith)) (λ y. inr y) x)
-
-        top : (d : ℕ) → 0 < d → Stack s i d records (c .inner) → (c .inner .place < i) × (byteAt s (c .inner .place) ≡ 91)
-        top zero k t = absurd (omega arith)
-        top (suc d) k t = (t .0 .before, t .0 .bracket)
-
-        apart : (c .inner .place < i) × (byteAt s (c .inner .place) ≡ 91) → p ≡ c .inner .place → ⊥
-        apart t e = ⊎-elim (λ y. let k = t .0 in absurd (omega arith)) (λ y. let k = t .1 in let b : byteAt s p ≡ byteAt s (c .inner .place) = ap (byteAt s) e in absurd (omega arith)) x
-
-        go : (t : Bool) → closes s c ≡ t
-            → getD (set index (pick t (c .inner .place) i) (pick t (pick (allGoodIn (c .inner) (reach (c .reads)) (c .bad)) i 0) 0)) p 0 ≡ 0
-        go true q =
-            let d = ltb-true 0 (c .depth) (and-right (eqb (byteAt s i) 93 && not (c .reads .esc)) _ q) in
-            let a = top (c .depth) d (w .stack) in
-            getD-set-other index (c .inner .place) p _ 0 (apart a) ∙ ⊎-elim (λ y. z p l (inl (omega arith))) (λ y. z p l (inr y)) x
-        go false q =
-            let e = w .indexed .long in
-            ⊎-elim (λ y. rw (eqb-true p i y) (getD-set-same index i 0 0 (omega arith))) (λ y. let ne = eqb-false p i y in getD-set-other index i p 0 0 ne ∙ old ne) (split (eqb p i))
-
-    plan-is : c .at < length s → planAt s c records ≡ scanPlan s c (getD records (c .depth - 1) blank)
-    unfolding planAt planOf
-    plan-is h = rw (lt-ltb (c .at) (length s) h)
-
-  module _ (c : Scan) (index : List ℕ) (records : List Bracket) (w : Building c index records) (h : c .at < length s) where
-    long : length s ≤ length records
-    long = let e = w .known .recorded .long in omega arith
-
-    abbrev n : Scan
-    n = scanPlan s c (getD records (c .depth - 1) blank) .next
-
-    n-at : n .at ≡ c .at + 1
-    unfolding scanPlan nextScan
-    n-at = refl
-
-    turned : KnownAt s index₀ records₀ fi fr n (stepIndex (turnAt s c records) index) (stepRecords (turnAt s c records) records)
+  module _ (c : Scan) (index : List ℕ) (records : List Bracket) (w : KnownAt s index₀ records₀ fi fr c index records) where
+    pub build-turn : c .at < length s
+        → KnownAt s index₀ records₀ fi fr (turnAt s c records .next) (stepIndex (turnAt s c records) index) (stepRecords (turnAt s c records) records)
     unfolding turnAt turnOf stepIndex stepRecords
-    turned = rw (plan-is c index records h) at (turn-on s index₀ records₀ fi fr c index records h (w .known))
+    build-turn h = skips _ _ _ (byte-on s index₀ records₀ fi fr c index records h w)
 
-    zeros : Clear s (n .at) (stepIndex (turnAt s c records) index)
-    unfolding turnAt turnOf stepIndex
-    zeros = rw n-at (writes c index records h (w .known) (w .clear))
+    -- what a turn asks for, and the places that it touches
+    pub fine : unread s c ≡ true → length s ≤ 65535 → Fine s c
+    fine m l = record { short = l; goes = m; deep = w .deep; few = omega (arith, w .count, bad-by s (c .at)) }
 
-    by : plainEnd s (n .at) ≤ length s
-    by = plain-by s (n .at) refl (omega (arith, n-at))
+    pub read-in : c .at < length s → c .depth - 1 < length records
+    read-in h = let l = w .recorded .long in let d = w .deep in omega arith
 
-    next-at : turnAt s c records .next .at ≡ plainEnd s (n .at)
-    unfolding turnAt turnOf
-    next-at = skip-at n (stepIndex (turnAt s c records) index) (stepRecords (turnAt s c records) records)
+    pub slot-in : c .at < length s → turnAt s c records .slot < length records
+    unfolding turnAt turnOf scanPlan
+    slot-in h = let l = w .recorded .long in let d = w .deep in omega arith
 
-    within-next : turnAt s c records .next .at ≤ length s
-    within-next = omega (arith, next-at, by)
+    pub place-in : c .at < length s → turnAt s c records .place < length s
+    unfolding turnAt turnOf scanPlan closes
+    place-in h = go (closes s c) refl
+      where
+        inner : (d : ℕ) → 0 < d → Stack s (c .at) d records (c .inner) → c .inner .place < length s
+        inner zero l t = absurd (omega arith)
+        inner (suc d) l t = let b = t .0 .before in omega arith
 
-    known-next : KnownAt s index₀ records₀ fi fr (turnAt s c records .next) (stepIndex (turnAt s c records) index) (stepRecords (turnAt s c records) records)
-    unfolding turnAt turnOf
-    known-next = skips n (stepIndex (turnAt s c records) index) (stepRecords (turnAt s c records) records) (omega (arith, n-at)) turned zeros
+        go : (t : Bool) → closes s c ≡ t → pick t (c .inner .place) (c .at) < length s
+        go true q = inner (c .depth) (ltb-true 0 (c .depth) (and-right (eqb (byteAt s (c .at)) 93 && not (c .reads .esc)) _ q)) (w .stack)
+        go false q = h
 
-    clear-next : Clear s (turnAt s c records .next .at) (stepIndex (turnAt s c records) index)
-    clear-next = clear-on s (n .at) (turnAt s c records .next .at) (stepIndex (turnAt s c records) index) (omega (arith, next-at, plain-from s (n .at))) zeros
+    -- at the text's end a bracket that is still open has no close
+    pub build-end : length s ≤ c .at → _≡_ {A = Both} (index, filled blank (length s) records) (built s index₀ records₀)
+    unfolding builtIndex builtRecords
+    build-end h = ap₂ (λ (x : List ℕ) (y : List Bracket). (x, y)) first second
+      where
+        right : (p : ℕ) → Settled s (c .depth) records (c .inner) index p → getD index p 0 ≡ indexAt s p
+        right p (inl x) = x
+        right p (inr x) =
+            x .1 ∙ sym (entry-open s p (stack-end s (c .at) (c .depth) records (c .inner) (sym (ended s (c .at) (length s) _ refl h)) (w .stack) p (x .0)))
 
-    pub build-turn : Building (turnAt s c records .next) (stepIndex (turnAt s c records) index) (stepRecords (turnAt s c records) records)
-    build-turn = record {
-      within = within-next;
-      fits = fits-turn s c records long (w .fits) h;
-      known = known-next;
-      clear = clear-next;
-    }
+        li : length (indexOf s) ≡ length s
+        li = length-index s
 
-  -- a turn goes on
-  pub turn-far : (c : Scan) (records : List Bracket) → c .at < turnAt s c records .next .at
-  unfolding turnAt turnOf scanPlan nextScan
-  turn-far c records =
-      let n = scanPlan s c (getD records (c .depth - 1) blank) .next in
-      omega (arith, skip-at n index₀ records, plain-from s (n .at))
+        lr : length (replicate (length s) blank) ≡ length s
+        lr = length-replicate (length s) blank
 
-  pub build-end : (c : Scan) (index : List ℕ) (records : List Bracket) → Building c index records → length s ≤ c .at
-      → _≡_ {A = Both} (index, filled blank (length s) records) (builtIndex s index₀, builtRecords s records₀)
-  unfolding filled
-  build-end c index records w h =
-      let l = w .within in
-      built s index₀ records₀ fi fr index (filled blank (length s) records) (cleared (length s) (omega arith))
-    where
-      kept : (j : ℕ) (t : Bool) → j < length s → eqb (byteAt s j) 93 ≡ t → pick t (set index j 0) index ≡ index
-      kept j true l q = let z = w .clear j l (inr (eqb-true (byteAt s j) 93 q)) in ap (λ (k : ℕ). set index j k) (sym z) ∙ set-getD index j 0
-      kept j false l q = refl
+        first : index ≡ written (indexOf s) index₀
+        first =
+            written-is 0 (indexOf s) index₀ index (omega (arith, li)) (rw li (w .indexed))
+            (λ p l. let k : p < length s = omega (arith, li) in right p (w .settled p (omega arith)) ∙ sym (at-index s p k))
 
-      at-end : Cleared s index₀ records₀ fi fr 0 index records
-      at-end = let l = w .within in ends s index₀ records₀ fi fr c index records (omega arith) (w .known)
-
-      cleared : (j : ℕ) → j ≤ length s → Cleared s index₀ records₀ fi fr j index (filled blank j records)
-      cleared zero l = at-end
-      cleared (suc j) l =
-          subst (λ (x : List ℕ). Cleared s index₀ records₀ fi fr (suc j) x (set (filled blank j records) j blank)) (kept j (eqb (byteAt s j) 93) l refl)
-          (clears s index₀ records₀ fi fr j index (filled blank j records) l (cleared j (omega arith)))
+        second : filled blank (length s) records ≡ written (replicate (length s) blank) records₀
+        second =
+            let a = w .recorded in
+            let f = length-filled blank blank (length s) records in
+            written-is blank (replicate (length s) blank) records₀ (filled blank (length s) records) (omega (arith, lr))
+            (rw lr (record { long = f ∙ a .long; beyond = λ v l. filled-out blank blank (length s) records v l ∙ a .beyond v l }))
+            (λ p l. let k : p < length s = omega (arith, lr) in let e = a .long in
+            filled-in blank blank (length s) records p k (omega arith) ∙ sym (getD-replicate (length s) p blank blank k))

@@ -3,7 +3,7 @@ use Prim.Native.Nat.{ℕ, _+_, _-_, _≤_, _<_, max}
 use native.Mathlib.Omega.{arith}
 use mathlib.Core.Path.{_≡_, _∙_}
 use mathlib.Core.List.{List}
-use lib.ListN.{length, set}
+use lib.ListN.{length}
 use mathlib.Core.Bool.{Bool, true, false, _&&_, not, and-false}
 use lib.Dec.{eqb}
 use borrow.Author.Tests.{eq-eqb, ne-eqb, lt-ltb, le-ltb, eqb-true, not-true}
@@ -19,7 +19,7 @@ use Rattle.index.specs.declared.Bracket.{Bracket}
 use Rattle.index.specs.declared.Reads.{Reads}
 use Rattle.index.specs.declared.Scan.{Scan}
 use Rattle.index.specs.declared.Plan.{Plan}
-use Rattle.index.specs.Scan.{reach, parted, around, counted, allGoodIn, stepIndex, keyHere, latest, readOn, opens, closes, parts, nextInner, nextScan, scanPlan, nextWith, planWith, openPlan, closePlan, partPlan, passPlan}
+use Rattle.index.specs.Scan.{reach, parted, around, counted, allGoodIn, keyHere, latest, readOn, opens, closes, parts, nextInner, nextScan, scanPlan, nextWith, planWith, openPlan, closePlan, partPlan, passPlan}
 
 -- the bracket records
 module _ (b : Bracket) (r n : ℕ) where
@@ -84,11 +84,11 @@ module _ (s : List ℕ) (i : ℕ) (r : Reads) where
   unfolding readOn latest keyHere
   read-key h f p l q = rw (white-ascii s i (omega arith), h, f, ← p, lt-ltb _ _ l, q)
 
-  pub read-plain : {k : ℕ} → (byteAt s i ≡ 59 → ⊥) → eqb (byteAt s i) 64 && not (r .esc) ≡ false
+  pub read-other : {k : ℕ} → (byteAt s i ≡ 59 → ⊥) → eqb (byteAt s i) 64 && not (r .esc) ≡ false
       → k ≡ pick (isWhite s i) (r .content) (i + 1)
       → record { esc = eqb (byteAt s i) 92 && not (r .esc); comma = r .comma; key = r .key; end = r .end; content = k } ≡ readOn s i r
   unfolding readOn latest keyHere
-  read-plain h f q = rw (ne-eqb _ _ h, f, q)
+  read-other h f q = rw (ne-eqb _ _ h, f, q)
 
 -- the plans of the four kinds of turn, from what the calls gave
 pub plan-next : (c next : Scan) (place mark : ℕ) {n : Scan} {p : Plan} → n ≡ next → p ≡ planWith c n place mark
@@ -134,16 +134,6 @@ module _ (s : List ℕ) (c : Scan) (outer : Bracket) {w : Reads} (e : w ≡ read
   unfolding scanPlan nextScan nextInner opens closes parts
   plan-at-other h k l q = q ∙ rw (e, ne-eqb _ _ h, ne-eqb _ _ k, ne-eqb _ _ l)
 
--- the index after a turn
-module _ (p : Plan) (index : List ℕ) where
-  pub entry-set : p .writes ≡ true → set index (p .place) (p .mark) ≡ stepIndex p index
-  unfolding stepIndex
-  entry-set e = rw e
-
-  pub entry-kept : p .writes ≡ false → index ≡ stepIndex p index
-  unfolding stepIndex
-  entry-kept e = rw e
-
 pub ruleset laws = (
   pick-yes,
   pick-no,
@@ -163,7 +153,7 @@ pub ruleset laws = (
   read-parts,
   read-no-key,
   read-key,
-  read-plain,
+  read-other,
   plan-next,
   plan-closed,
   plan-parted,
@@ -173,6 +163,4 @@ pub ruleset laws = (
   plan-at-close,
   plan-at-lone,
   plan-at-other,
-  entry-set,
-  entry-kept,
 )

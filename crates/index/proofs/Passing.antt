@@ -1,4 +1,4 @@
--- Laws on the plain bytes that a turn goes on over, in the form of the code's needs.
+-- Laws on the ordinary bytes that a turn goes on over, in the form of the code's needs.
 use Prim.Native.Nat.{ℕ, zero, suc, _+_, _-_, _≤_, _<_}
 use native.Mathlib.Omega.{arith}
 use mathlib.Core.Path.{_≡_, refl, sym, _∙_, ap}
@@ -19,18 +19,18 @@ use Rattle.index.specs.declared.Reads.{Reads}
 use Rattle.index.specs.declared.Scan.{Scan}
 use Rattle.index.specs.declared.Plan.{Plan}
 use Rattle.index.specs.Scan.{keyHere, latest, readOn, nextScan, scanPlan}
-use Rattle.index.specs.Passing.{isPlain, plainEnd, contentIn, passing, skipped, turnOf, unread, Fine, filled}
+use Rattle.index.specs.Passing.{isOrdinary, ordinaryEnd, contentIn, passing, skipped, turnOf, unread, Fine, filled}
 
 -- bytes -----------------------------------------------------------------------------------------------------------------------------
 
-pub plain-ne : {b : ℕ} (k : ℕ) → isPlain k ≡ false → isPlain b ≡ true → b ≡ k → ⊥
-plain-ne k f h e = true≢false (sym h ∙ ap isPlain e ∙ f)
+pub ordinary-ne : {b : ℕ} (k : ℕ) → isOrdinary k ≡ false → isOrdinary b ≡ true → b ≡ k → ⊥
+ordinary-ne k f h e = true≢false (sym h ∙ ap isOrdinary e ∙ f)
 
--- what is known after a plain byte
-pub read-past : (s : List ℕ) (i : ℕ) (r : Reads) → isPlain (byteAt s i) ≡ true
+-- what is known after an ordinary byte
+pub read-past : (s : List ℕ) (i : ℕ) (r : Reads) → isOrdinary (byteAt s i) ≡ true
     → readOn s i r ≡ record { esc = false; comma = r .comma; key = r .key; end = r .end; content = pick (isWhite s i) (r .content) (i + 1) }
 unfolding readOn latest keyHere
-read-past s i r h = rw (ne-eqb _ 59 (plain-ne 59 refl h), ne-eqb _ 64 (plain-ne 64 refl h), ne-eqb _ 92 (plain-ne 92 refl h))
+read-past s i r h = rw (ne-eqb _ 59 (ordinary-ne 59 refl h), ne-eqb _ 64 (ordinary-ne 64 refl h), ne-eqb _ 92 (ordinary-ne 92 refl h))
 
 -- content ---------------------------------------------------------------------------------------------------------------------------
 
@@ -72,35 +72,35 @@ module _ (s : List ℕ) (a e : ℕ) (k : ℕ) where
 
 -- the search ------------------------------------------------------------------------------------------------------------------------
 
-module _ (s : List ℕ) (i : ℕ) {w : ℕ} (p : w ≡ plainEnd s i) where
-  pub plain-out : length s ≤ i → i ≡ w
-  unfolding plainEnd
-  plain-out = first-out (λ j. not (isPlain (byteAt s j))) i (length s) p
+module _ (s : List ℕ) (i : ℕ) {w : ℕ} (p : w ≡ ordinaryEnd s i) where
+  pub ordinary-out : length s ≤ i → i ≡ w
+  unfolding ordinaryEnd
+  ordinary-out = first-out (λ j. not (isOrdinary (byteAt s j))) i (length s) p
 
-  pub plain-stop : {b : Bool} → i < length s → b ≡ isPlain (byteAt s i) → b ≡ false → i ≡ w
-  unfolding plainEnd
-  plain-stop h q t = first-stop (λ j. not (isPlain (byteAt s j))) i (length s) p h (ap not (sym q ∙ t))
+  pub ordinary-stop : {b : Bool} → i < length s → b ≡ isOrdinary (byteAt s i) → b ≡ false → i ≡ w
+  unfolding ordinaryEnd
+  ordinary-stop h q t = first-stop (λ j. not (isOrdinary (byteAt s j))) i (length s) p h (ap not (sym q ∙ t))
 
-  pub plain-more : {b : Bool} → i < length s → b ≡ isPlain (byteAt s i) → b ≡ true → w ≡ plainEnd s (i + 1)
-  unfolding plainEnd
-  plain-more h q t = first-more (λ j. not (isPlain (byteAt s j))) i (length s) p h (ap not (sym q ∙ t))
+  pub ordinary-more : {b : Bool} → i < length s → b ≡ isOrdinary (byteAt s i) → b ≡ true → w ≡ ordinaryEnd s (i + 1)
+  unfolding ordinaryEnd
+  ordinary-more h q t = first-more (λ j. not (isOrdinary (byteAt s j))) i (length s) p h (ap not (sym q ∙ t))
 
-pub plain-from : (s : List ℕ) (i : ℕ) → i ≤ plainEnd s i
-unfolding plainEnd
-plain-from s i = first-from (λ j. not (isPlain (byteAt s j))) (length s - i) i
+pub ordinary-from : (s : List ℕ) (i : ℕ) → i ≤ ordinaryEnd s i
+unfolding ordinaryEnd
+ordinary-from s i = first-from (λ j. not (isOrdinary (byteAt s j))) (length s - i) i
 
-pub plain-by : (s : List ℕ) (i : ℕ) {e : ℕ} → e ≡ plainEnd s i → i ≤ length s → e ≤ length s
-unfolding plainEnd
-plain-by s i p h = let l = first-by (λ j. not (isPlain (byteAt s j))) (length s - i) i in omega arith
+pub ordinary-by : (s : List ℕ) (i : ℕ) {e : ℕ} → e ≡ ordinaryEnd s i → i ≤ length s → e ≤ length s
+unfolding ordinaryEnd
+ordinary-by s i p h = let l = first-by (λ j. not (isOrdinary (byteAt s j))) (length s - i) i in omega arith
 
--- all bytes before it are plain
-pub plain-before : (s : List ℕ) (i v : ℕ) → i ≤ v → v < plainEnd s i → isPlain (byteAt s v) ≡ true
-unfolding plainEnd
-plain-before s i v l h = go (isPlain (byteAt s v)) refl
+-- all bytes before it are ordinary
+pub ordinary-before : (s : List ℕ) (i v : ℕ) → i ≤ v → v < ordinaryEnd s i → isOrdinary (byteAt s v) ≡ true
+unfolding ordinaryEnd
+ordinary-before s i v l h = go (isOrdinary (byteAt s v)) refl
   where
-    go : (t : Bool) → isPlain (byteAt s v) ≡ t → t ≡ true
+    go : (t : Bool) → isOrdinary (byteAt s v) ≡ t → t ≡ true
     go true q = refl
-    go false q = let b = first-before (λ j. not (isPlain (byteAt s j))) (length s - i) i v l (ap not q) in absurd (omega arith)
+    go false q = let b = first-before (λ j. not (isOrdinary (byteAt s j))) (length s - i) i v l (ap not q) in absurd (omega arith)
 
 -- the state after them --------------------------------------------------------------------------------------------------------------
 
@@ -117,18 +117,18 @@ module _ (s : List ℕ) (c : Scan) where
     reads = record { esc = escIn n; comma = c .reads .comma; key = c .reads .key; end = c .reads .end; content = contentIn s (c .at) n (c .reads .content) };
   }
 
-  passing-is : (n : ℕ) → ((v : ℕ) → c .at ≤ v → v < c .at + n → isPlain (byteAt s v) ≡ true) → passing n s c ≡ carried n
+  passing-is : (n : ℕ) → ((v : ℕ) → c .at ≤ v → v < c .at + n → isOrdinary (byteAt s v) ≡ true) → passing n s c ≡ carried n
   unfolding passing contentIn
   passing-is zero h = let z : c .at + 0 ≡ c .at = omega arith in rw z
   passing-is (suc n) h =
       let e : c .at + n + 1 ≡ c .at + suc n = omega arith in
       rw (passing-is n (λ v l k. h v l (omega arith)), read-past s (c .at + n) (carried n .reads) (h (c .at + n) (omega arith) (omega arith)), ne-eqb (suc n) 0 (omega arith), e)
 
-  pub skip-none : {e : ℕ} → e ≡ plainEnd s (c .at) → e ≤ c .at → c ≡ skipped s c
+  pub skip-none : {e : ℕ} → e ≡ ordinaryEnd s (c .at) → e ≤ c .at → c ≡ skipped s c
   unfolding skipped passing
-  skip-none p h = let z : plainEnd s (c .at) - c .at ≡ 0 = omega arith in rw z
+  skip-none p h = let z : ordinaryEnd s (c .at) - c .at ≡ 0 = omega arith in rw z
 
-  pub skip-some : {e k : ℕ} → e ≡ plainEnd s (c .at) → c .at < e → k ≡ contentIn s (c .at) (e - c .at) (c .reads .content)
+  pub skip-some : {e k : ℕ} → e ≡ ordinaryEnd s (c .at) → c .at < e → k ≡ contentIn s (c .at) (e - c .at) (c .reads .content)
       → record {
         at = e;
         depth = c .depth;
@@ -141,7 +141,7 @@ module _ (s : List ℕ) (c : Scan) where
   skip-some {e} p h q =
       let n = e - c .at in
       let z : c .at + n ≡ e = omega arith in
-      sym (rw (← p) (passing-is n (λ v l k. plain-before s (c .at) v l (omega arith)) ∙ rw (z, ne-eqb n 0 (omega arith), q)))
+      sym (rw (← p) (passing-is n (λ v l k. ordinary-before s (c .at) v l (omega arith)) ∙ rw (z, ne-eqb n 0 (omega arith), q)))
 
 -- a turn ----------------------------------------------------------------------------------------------------------------------------
 
@@ -149,16 +149,17 @@ pub turn-here : (s : List ℕ) (c : Scan) → Fine s c → c .at < length s
 unfolding unread
 turn-here s c f = ltb-true _ _ (f .goes)
 
-pub turn-by : (s : List ℕ) (c : Scan) (top : Bracket) {p : Plan} → p ≡ scanPlan s c top → c .at < length s → p .next .at ≤ length s
+pub turn-by : (s : List ℕ) (c : Scan) (outer : Bracket) {p : Plan} → p ≡ scanPlan s c outer → c .at < length s → p .next .at ≤ length s
 unfolding scanPlan nextScan
-turn-by s c top e h = rw e (omega arith)
+turn-by s c outer e h = rw e (omega arith)
 
-pub turn-is : (s : List ℕ) (c : Scan) (top : Bracket) {p : Plan} {n : Scan} → p ≡ scanPlan s c top → n ≡ skipped s (p .next)
-    → record { next = n; slot = p .slot; top = p .top; writes = p .writes; place = p .place; mark = p .mark } ≡ turnOf s c top
+pub turn-is : (s : List ℕ) (c : Scan) (outer : Bracket) {p : Plan} {n : Scan} → p ≡ scanPlan s c outer → n ≡ skipped s (p .next)
+    → record { next = n; slot = p .slot; top = p .top; place = p .place; mark = p .mark } ≡ turnOf s c outer
 unfolding turnOf
-turn-is s c top e q = rw (q, e)
+turn-is s c outer e q = rw (q, e)
 
--- an area that is filled
+-- an area that is filled ------------------------------------------------------------------------------------------------------------
+
 pub fill-none : {A : Type 0} (x : A) (area : List A) → area ≡ filled x 0 area
 unfolding filled
 fill-none x area = refl
@@ -176,10 +177,10 @@ pub ruleset passing-laws = (
   content-ink,
   content-some,
   content-none,
-  plain-out,
-  plain-stop,
-  plain-more,
-  plain-by,
+  ordinary-out,
+  ordinary-stop,
+  ordinary-more,
+  ordinary-by,
   skip-none,
   skip-some,
   turn-here,

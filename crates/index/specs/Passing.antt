@@ -1,5 +1,5 @@
--- How the code takes the turns of the scan: one at a byte that can change more than what was read, and from there on over the plain bytes after it.
--- The index is zero before the first turn, and the records are cleared after the last.
+-- A build as the code does it: it clears the index, takes the turns of the scan, and clears the records. A turn is that of one byte, and goes
+-- on over the ordinary bytes after it, which change nothing but what was read.
 use Prim.Native.Nat.{ℕ, zero, suc, _+_, _-_, _≤_}
 use mathlib.Core.List.{List}
 use mathlib.Core.Bool.{Bool, true, _&&_, _||_, not}
@@ -13,23 +13,23 @@ use Rattle.white.specs.White.{isWhite}
 use Rattle.index.specs.declared.Bracket.{Bracket}
 use Rattle.index.specs.declared.Scan.{Scan}
 use Rattle.index.specs.declared.Plan.{Plan}
-use Rattle.index.specs.Built.{blank}
-use Rattle.index.specs.Scan.{readOn, nextWith, scanPlan}
+use Rattle.index.specs.Built.{blank, Both, built}
+use Rattle.index.specs.Scan.{readOn, nextWith, start, scanPlan, stepIndex, stepRecords}
 
 -- none of `;` `@` `[` `\` `]`
-abbrev pub isPlain : ℕ → Bool
-isPlain b = not (eqb b 59) && not (eqb b 64) && (ltb b 91 || ltb 93 b)
+abbrev pub isOrdinary : ℕ → Bool
+isOrdinary b = not (eqb b 59) && not (eqb b 64) && (ltb b 91 || ltb 93 b)
 
 -- the first place from `i` on that holds none, or the text's end
-unfoldable pub plainEnd : List ℕ → ℕ → ℕ
-plainEnd s i = first (λ j. not (isPlain (byteAt s j))) (length s - i) i
+unfoldable pub ordinaryEnd : List ℕ → ℕ → ℕ
+ordinaryEnd s i = first (λ j. not (isOrdinary (byteAt s j))) (length s - i) i
 
 -- where the content ends after the `n` bytes from `a` on; it ended at `content` before them
 unfoldable pub contentIn : List ℕ → ℕ → ℕ → ℕ → ℕ
 contentIn s a zero content = content
 contentIn s a (suc n) content = pick (isWhite s (a + n)) (contentIn s a n content) (a + n + 1)
 
--- the state after a plain byte
+-- the state after an ordinary byte
 abbrev pub passed : List ℕ → Scan → Scan
 passed s c = nextWith c (c .depth) (c .inner) (c .bad) (readOn s (c .at) (c .reads))
 
@@ -40,15 +40,14 @@ passing (suc n) s c = passed s (passing n s c)
 
 -- after all from here on
 unfoldable pub skipped : List ℕ → Scan → Scan
-skipped s c = passing (plainEnd s (c .at) - c .at) s c
+skipped s c = passing (ordinaryEnd s (c .at) - c .at) s c
 
--- a turn: that of the scan at a byte of the text, and on over the plain bytes after it
+-- a turn: that of the scan at a byte of the text, and on over the ordinary bytes after it
 unfoldable pub turnOf : List ℕ → Scan → Bracket → Plan
 turnOf s c outer = record {
   next = skipped s (scanPlan s c outer .next);
   slot = scanPlan s c outer .slot;
   top = scanPlan s c outer .top;
-  writes = scanPlan s c outer .writes;
   place = scanPlan s c outer .place;
   mark = scanPlan s c outer .mark;
 }
@@ -61,7 +60,7 @@ turnAt s c records = turnOf s c (getD records (c .depth - 1) blank)
 unfoldable pub unread : List ℕ → Scan → Bool
 unread s c = ltb (c .at) (length s)
 
--- what a turn of the code asks for: a text that can be judged, a turn to do, and counts that the place bounds
+-- what a turn of the code asks for: a text of at most 65,535 bytes, a turn to do, and counts that the place bounds
 pub record Fine (s : List ℕ) (c : Scan) : Type 0 where
   pub short : length s ≤ 65535
   pub goes : unread s c ≡ true
@@ -72,3 +71,18 @@ pub record Fine (s : List ℕ) (c : Scan) : Type 0 where
 unfoldable pub filled : {A : Type 0} → A → ℕ → List A → List A
 filled x zero area = area
 filled x (suc n) area = set (filled x n area) n x
+
+-- index and bracket records after at most `n` turns
+unfoldable pub runs : ℕ → List ℕ → Scan → List ℕ → List Bracket → Both
+runs zero s c index records = (index, records)
+runs (suc n) s c index records =
+    pick (unread s c)
+    (runs n s (turnAt s c records .next) (stepIndex (turnAt s c records) index) (stepRecords (turnAt s c records) records))
+    (index, records)
+
+-- THEOREM: a build in at most as many turns as the text has bytes leaves the index by its definition, and zero records
+abbrev pub LinearIndex : Type 0
+LinearIndex =
+    (s index : List ℕ) (records : List Bracket) → length s ≤ length index → length s ≤ length records
+    → (let after = runs (length s) s start (filled 0 (length s) index) records in (after .0, filled blank (length s) (after .1)))
+    ≡ built s index records

@@ -1,5 +1,5 @@
 -- Two steps of the calculus of walks for a local array of many elements. They say nothing of the crate.
---     lends-long  a local array of `n` elements lent as a `&mut [T]` (`lends-local` of `pairs`), with the list's length as an equation: no proof has to count the list
+--     lends-long  a local array of `n` elements lent as a `&mut [T]` (`lends-local`), with the list's length as an equation: no proof has to count the list
 --     big-lit     a constant above 1,023
 -- Assumes `Given`.
 use mathlib.Core.Path.{_≡_, subst}
@@ -23,7 +23,7 @@ use denote.ArrayMemory.{Single}
 use denote.Slice.{sliceVal, MutSlice, Room}
 use denote.Lend.{Held}
 use Rattle.pairs.proofs.Lent.{at-list}
-use Rattle.pairs.proofs.Local.{lends-local}
+use Rattle.local_records.proofs.Local.{lends-local}
 
 module _ {M : Type 1} {𝓤 : URA M} {H : Heap 𝓤} {A : Atoms 𝓤} {K : Type 0} {W : Given 𝓤 H A} {Γ : List (Item 𝓤)} {G : Goal 𝓤 H} where
   pub lends-long : K → Soaks G → (R : RattleType) → Single (R .mir) → (ℓ : Lifetime) (n : ℕ) (xs : List (R .Denot)) (us : List Val) (b : ℕ) → length xs ≡ n → Room R n

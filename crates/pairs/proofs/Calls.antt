@@ -1,6 +1,6 @@
 -- The calls of this crate's public functions, each as one step, for the walks of the crates above. What is lent on comes back within the step, and the operands are read from the rest of the context, Γ.
 --     counts       `count`: the result is the number of records, which stay as they are
---     builds-when  `build_when`: the text stays, and index and records are as `built-when` says, as long as they were
+--     builds-when  `build_when`: the text stays, and index and records are as `builtWhen` says, as long as they were
 -- Assumes `Given`.
 use mathlib.Core.Path.{_≡_, refl, ap}
 use Prim.Native.Nat.{ℕ, _<_, _^_}
@@ -29,9 +29,9 @@ use denote.Steps.{owned, nothing}
 use denote.Triple.Spec.{tripleOf}
 use denote.Triple.Statement.{Contract, Triple}
 use Rattle.index.specs.declared.Bracket.{Bracket}
-use Rattle.index.specs.Scan.{Both}
+use Rattle.index.specs.Built.{Both, builtWhen}
 use Rattle.index.proofs.Bracket as T
-use Rattle.pairs.specs.Turn.{Enough, built-when}
+use Rattle.pairs.specs.Turn.{Enough}
 use Rattle.pairs.proofs.Lent.{at-list, lent, back}
 use Rattle.base.proofs.Calling.{beside, calls-row, copied, last-list, no-last}
 use Rattle.pairs.proofs.count as count
@@ -62,9 +62,9 @@ module _ {M : Type 1} {𝓤 : URA M} {H : Heap 𝓤} {A : Atoms 𝓤} {K : Type 
   pub builds-when : K → (mem : Memory → SProp 𝓤) (run : Routine → Fun 𝓤) → FmC 𝓤 H (W .laws) C → Triple 𝓤 (C #pairs·build-when) (BuildWhen 𝓤 H A mem run)
       → {κ₀ κ₁ κ₂ : Lft} {q₀ q₁ q₂ : Share} {γ₀ γ₁ γ₂ : GName} (ℓ₀ ℓ₁ ℓ₂ : Lifetime) (b₀ o₀ b₁ o₁ b₂ o₂ : ℕ) (c : Bool) (ts is : List ℕ) (ys : List Bracket) → Room u16 (length is) → Room T.the-row (length ys) → (c ≡ true → Enough ts is ys)
       → Opds K W Γ E xs (vbool c ∷ sliceVal (b₀, o₀) (length ts) ∷ sliceVal (b₁, o₁) (length is) ∷ sliceVal (b₂, o₂) (length ys) ∷ [])
-      → (length (built-when c ts is ys .0) ≡ length is → length (built-when c ts is ys .1) ≡ length ys
-      → Seq K W (‵ (flft κ₀ q₀) ∷ ‵ (ShrSlice ℓ₀ κ₀ u8 .own (at-list b₀ o₀ γ₀ ts) (sliceVal (b₀, o₀) (length ts) ∷ [])) ∷ ‵ (flft κ₁ q₁) ∷ ‵ (MutSlice ℓ₁ κ₁ u16 .own (at-list b₁ o₁ γ₁ (built-when c ts is ys .0)) (sliceVal (b₁, o₁) (length is) ∷ []))
-      ∷ ‵ (flft κ₂ q₂) ∷ ‵ (MutSlice ℓ₂ κ₂ T.the-row .own (at-list b₂ o₂ γ₂ (built-when c ts is ys .1)) (sliceVal (b₂, o₂) (length ys) ∷ [])) ∷ Γ) (lands C Λ E d vunit rest p))
+      → (length (builtWhen c ts is ys .0) ≡ length is → length (builtWhen c ts is ys .1) ≡ length ys
+      → Seq K W (‵ (flft κ₀ q₀) ∷ ‵ (ShrSlice ℓ₀ κ₀ u8 .own (at-list b₀ o₀ γ₀ ts) (sliceVal (b₀, o₀) (length ts) ∷ [])) ∷ ‵ (flft κ₁ q₁) ∷ ‵ (MutSlice ℓ₁ κ₁ u16 .own (at-list b₁ o₁ γ₁ (builtWhen c ts is ys .0)) (sliceVal (b₁, o₁) (length is) ∷ []))
+      ∷ ‵ (flft κ₂ q₂) ∷ ‵ (MutSlice ℓ₂ κ₂ T.the-row .own (at-list b₂ o₂ γ₂ (builtWhen c ts is ys .1)) (sliceVal (b₂, o₂) (length ys) ∷ [])) ∷ Γ) (lands C Λ E d vunit rest p))
       → Seq K W (‵ (flft κ₀ q₀) ∷ ‵ (ShrSlice ℓ₀ κ₀ u8 .own (at-list b₀ o₀ γ₀ ts) (sliceVal (b₀, o₀) (length ts) ∷ [])) ∷ ‵ (flft κ₁ q₁) ∷ ‵ (MutSlice ℓ₁ κ₁ u16 .own (at-list b₁ o₁ γ₁ is) (sliceVal (b₁, o₁) (length is) ∷ []))
       ∷ ‵ (flft κ₂ q₂) ∷ ‵ (MutSlice ℓ₂ κ₂ T.the-row .own (at-list b₂ o₂ γ₂ ys) (sliceVal (b₂, o₂) (length ys) ∷ [])) ∷ Γ) (runs C Λ E (seq (call #pairs·build-when xs d) rest) p)
   builds-when t mem run fm known {κ₀} {κ₁} {κ₂} {q₀} {q₁} {q₂} {γ₀} {γ₁} {γ₂} ℓ₀ ℓ₁ ℓ₂ b₀ o₀ b₁ o₁ b₂ o₂ c ts is ys room₁ room₂ enough os k =
@@ -73,12 +73,12 @@ module _ {M : Type 1} {𝓤 : URA M} {H : Heap 𝓤} {A : Atoms 𝓤} {K : Type 
       -- [ν₁; the index lent; what is kept of it; ν₂; the records lent; what is kept of them; κ₀; text's; …]
       move t (7 ∷ []) $ copied t u8 ℓ₀ κ₀ text $ nothing t $ owned t Boolean (Is Boolean) (bool-makes 𝓤 H A W) c (vbool c ∷ []) refl $ nothing t $ move t (11 ∷ 5 ∷ 8 ∷ 0 ∷ 1 ∷ 3 ∷ 6 ∷ 9 ∷ 2 ∷ []) $
       calls-row W t when.ended (when.clauses 𝓤 H A mem run) ((κ₀, (ν₁ ∷ [], (ν₂ ∷ [], tt))), (q₀, (fullShare, (fullShare, tt))), tt, (c, (text, (at-list b₁ o₁ δ₁ is, (at-list b₂ o₂ δ₂ ys, tt)))), (vbool c ∷ [], (sv₀ ∷ [], (sv₁ ∷ [], (sv₂ ∷ [], tt))))) tt
-      (λ r zs. (zs .1 .1 .0, zs .1 .1 .1 .0) ≡ built-when c ts is ys) (‵ (flft κ₀ q₀) ∷ ‵ (flft (ν₁ ∷ []) fullShare) ∷ ‵ (flft (ν₂ ∷ []) fullShare) ∷ ‵ ftrue ∷ [])
+      (λ r zs. (zs .1 .1 .0, zs .1 .1 .1 .0) ≡ builtWhen c ts is ys) (‵ (flft κ₀ q₀) ∷ ‵ (flft (ν₁ ∷ []) fullShare) ∷ ‵ (flft (ν₂ ∷ []) fullShare) ∷ ‵ ftrue ∷ [])
       (‵ (Boolean .own c (vbool c ∷ [])) ∷ ‵ (ShrSlice (named 0) κ₀ u8 .own text (sv₀ ∷ [])) ∷ ‵ (MutSlice (named 1) (ν₁ ∷ []) u16 .own (at-list b₁ o₁ δ₁ is) (sv₁ ∷ [])) ∷ ‵ (MutSlice (named 2) (ν₂ ∷ []) T.the-row .own (at-list b₂ o₂ δ₂ ys) (sv₂ ∷ [])) ∷ ‵ ftrue ∷ [])
       (record { tokens = refl; owned = refl; required = factI 𝓤 (c ≡ true → Enough ts is ys) (emp 𝓤) enough; ensured = λ r zs. id⊢ 𝓤 _ }) fm known (beside _ (beside _ (beside _ os)))
       (λ _. vunit) nothing-tells tt (λ r zs e. refl) (λ _ zs e. move t (4 ∷ []) $ no-last t $ no-last t $
-      last-list t u16 δ₁ (zs .1 .1 .0) (built-when c ts is ys .0) (ap (λ (b : Both). b .0) e) (λ e₁. last-list t T.the-row δ₂ (zs .1 .1 .1 .0) (built-when c ts is ys .1) (ap (λ (b : Both). b .1) e) (λ e₂. drop t $
+      last-list t u16 δ₁ (zs .1 .1 .0) (builtWhen c ts is ys .0) (ap (λ (b : Both). b .0) e) (λ e₁. last-list t T.the-row δ₂ (zs .1 .1 .1 .0) (builtWhen c ts is ys .1) (ap (λ (b : Both). b .1) e) (λ e₂. drop t $
       -- [the records' last list; the index's; κ₀; ν₁; ν₂; true; text's; what is kept of the index; of the records; …]
-      move t (4 ∷ 0 ∷ 8 ∷ []) $ back t tt T.the-row b₂ o₂ ℓ₂ ys (built-when c ts is ys .1) room₂ e₂ $ move t (4 ∷ 2 ∷ 7 ∷ []) $ back t tt u16 b₁ o₁ ℓ₁ is (built-when c ts is ys .0) room₁ e₁ $
+      move t (4 ∷ 0 ∷ 8 ∷ []) $ back t tt T.the-row b₂ o₂ ℓ₂ ys (builtWhen c ts is ys .1) room₂ e₂ $ move t (4 ∷ 2 ∷ 7 ∷ []) $ back t tt u16 b₁ o₁ ℓ₁ is (builtWhen c ts is ys .0) room₁ e₁ $
       -- [κ₁; index's; κ₂; records'; κ₀; true; text's; …]
       move t (5 ∷ []) $ drop t $ move t (4 ∷ 5 ∷ 0 ∷ 1 ∷ 2 ∷ 3 ∷ []) $ k e₁ e₂)))))

@@ -1,5 +1,4 @@
 pub mod Lent
-pub mod Local
 pub mod Turns
 pub mod Clearing
 pub mod Calls

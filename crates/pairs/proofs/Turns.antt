@@ -10,12 +10,12 @@ use lib.ListN.{length}
 use borrow.Author.Tests.{ltb-true, ltb-false}
 use Rattle.index.specs.declared.Bracket.{Bracket}
 use Rattle.index.specs.declared.Scan.{Scan}
-use Rattle.index.specs.Built.{blank}
+use Rattle.index.specs.Built.{blank, Both, built}
 use Rattle.index.specs.Passing.{turnAt, unread, filled}
-use Rattle.index.specs.Scan.{Both, start, stepIndex, stepRecords}
-use Rattle.index.proofs.Building.{Building, build-start, build-turn, build-end, turn-far}
-use Rattle.index.proofs.Fits.{read-in, slot-in, place-in, fine}
-use Rattle.pairs.specs.Turn.{Ready, Enough, built}
+use Rattle.index.specs.Scan.{start, stepIndex, stepRecords}
+use Rattle.index.proofs.Turns.{KnownAt}
+use Rattle.index.proofs.Building.{turn-far, build-start, build-turn, build-end, fine, read-in, slot-in, place-in}
+use Rattle.pairs.specs.Turn.{Ready, Enough}
 
 -- what a turn changes: the scan's state, the index and the records
 abbrev pub State : Type 0
@@ -37,12 +37,12 @@ unread-is s c m = ltb-true (c .at) (length s) m
 
 module _ (s index₀ : List ℕ) (records₀ : List Bracket) (enough : Enough s index₀ records₀) where
   pub record Facts (x : State) : Type 0 where
-    pub building : Building s index₀ records₀ (enough .wide) (enough .long) (x .0) (x .1 .0) (x .1 .1)
+    pub known : KnownAt s index₀ records₀ (enough .wide) (enough .long) (x .0) (x .1 .0) (x .1 .1)
     pub same-index : length (x .1 .0) ≡ length index₀
     pub same-records : length (x .1 .1) ≡ length records₀
 
-  pub at-start : length (filled 0 (length s) index₀) ≡ length index₀ → Facts (start s, (filled 0 (length s) index₀, records₀))
-  at-start e = record { building = build-start s index₀ records₀ (enough .wide) (enough .long); same-index = e; same-records = refl }
+  pub at-start : length (filled 0 (length s) index₀) ≡ length index₀ → Facts (start, (filled 0 (length s) index₀, records₀))
+  at-start e = record { known = build-start s index₀ records₀ (enough .wide) (enough .long); same-index = e; same-records = refl }
 
   module _ (x : State) (f : Facts x) where
     pub long : length s ≤ length (x .1 .1)
@@ -51,24 +51,25 @@ module _ (s index₀ : List ℕ) (records₀ : List Bracket) (enough : Enough s 
     pub ready : unread s (x .0) ≡ true → Ready s (x .0) (x .1 .0) (x .1 .1)
     ready m =
         let h = unread-is s (x .0) m in
-        let fits = f .building .fits in
+        let w = f .known in
+        let place = place-in s index₀ records₀ (enough .wide) (enough .long) (x .0) (x .1 .0) (x .1 .1) w h in
         record {
-          fine = fine s (x .0) (x .1 .1) fits m (enough .short);
-          read = read-in s (x .0) (x .1 .1) long fits h;
-          slot = slot-in s (x .0) (x .1 .1) long fits h;
-          place = let e = f .same-index in let l = enough .wide in let p = place-in s (x .0) (x .1 .1) long fits h in omega arith;
+          fine = fine s index₀ records₀ (enough .wide) (enough .long) (x .0) (x .1 .0) (x .1 .1) w m (enough .short);
+          read = read-in s index₀ records₀ (enough .wide) (enough .long) (x .0) (x .1 .0) (x .1 .1) w h;
+          slot = slot-in s index₀ records₀ (enough .wide) (enough .long) (x .0) (x .1 .0) (x .1 .1) w h;
+          place = let e = f .same-index in let l = enough .wide in omega arith;
         }
 
     pub less : unread s (x .0) ≡ true → below s (next s x) x
-    less m = let h = unread-is s (x .0) m in omega (arith, turn-far s index₀ records₀ (enough .wide) (enough .long) (x .0) (x .1 .1))
+    less m = let h = unread-is s (x .0) m in omega (arith, turn-far s (x .0) (x .1 .1))
 
     pub after : unread s (x .0) ≡ true → length (next s x .1 .0) ≡ length (x .1 .0) → length (next s x .1 .1) ≡ length (x .1 .1) → Facts (next s x)
     after m e₁ e₂ = record {
-      building = build-turn s index₀ records₀ (enough .wide) (enough .long) (x .0) (x .1 .0) (x .1 .1) (f .building) (unread-is s (x .0) m);
+      known = build-turn s index₀ records₀ (enough .wide) (enough .long) (x .0) (x .1 .0) (x .1 .1) (f .known) (unread-is s (x .0) m);
       same-index = e₁ ∙ f .same-index;
       same-records = e₂ ∙ f .same-records;
     }
 
     pub at-end : unread s (x .0) ≡ false → _≡_ {A = Both} (x .1 .0, filled blank (length s) (x .1 .1)) (built s index₀ records₀)
     unfolding unread
-    at-end m = build-end s index₀ records₀ (enough .wide) (enough .long) (x .0) (x .1 .0) (x .1 .1) (f .building) (ltb-false (x .0 .at) (length s) m)
+    at-end m = build-end s index₀ records₀ (enough .wide) (enough .long) (x .0) (x .1 .0) (x .1 .1) (f .known) (ltb-false (x .0 .at) (length s) m)

@@ -1,13 +1,13 @@
 // The build of the index: what it reads and stores of the lent bracket records, one turn of the scan, and the loop.
-// The borrow checker does not cover a slice of structs, so each function here is a line of calls, proved by a walk of its MIR.
+// The borrow checker does not cover a slice of structs, so each function over one only makes calls, and is proved by a walk of its MIR.
 ghost use Prim.Native.Nat.{_-_, _<_, _≤_};
 ghost use lib.ListN.{length, set, getD};
 ghost use mathlib.Core.Bool.{true};
 ghost use mathlib.Core.Path.{_≡_};
-ghost use Rattle.index.specs.Built.{blank};
+ghost use Rattle.index.specs.Built.{blank, built, builtWhen};
 ghost use Rattle.index.specs.Passing.{turnAt, filled};
 ghost use Rattle.index.specs.Scan.{stepIndex, stepRecords};
-ghost use Rattle.pairs.specs.Turn.{Ready, Enough, built, built-when};
+ghost use Rattle.pairs.specs.Turn.{Ready, Enough};
 use index::Bracket;
 use index::Scan;
 
@@ -44,7 +44,7 @@ fn below(depth: usize) -> usize
     depth - 1
 }
 
-// One turn of the scan: the next state, with one record stored and at most one entry written.
+// One turn of the scan: the next state, with one record stored and one entry written.
 fn step(text: &[u8], c: Scan, index: &mut [u16], records: &mut [Bracket]) -> Scan
     requires { ⌜ Ready (now text) c (now index) (now records) ⌝ }
     ensures { λ r. ⌜ (r ≡ turnAt (now (text .entry)) c (now (records .entry)) .next)
@@ -76,13 +76,13 @@ fn clear(text: &[u8], records: &mut [Bracket])
     }
 }
 
-// Builds the index of the text, in one pass over a cleared index.
-pub fn bracket_pairs(text: &[u8], index: &mut [u16], records: &mut [Bracket])
+// Builds the index of the text: clears its entries, takes the turns of the scan, and clears the records.
+fn bracket_pairs(text: &[u8], index: &mut [u16], records: &mut [Bracket])
     requires { ⌜ Enough (now text) (now index) (now records) ⌝ }
     ensures { λ _. ⌜ (now (index .exit), now (records .exit)) ≡ built (now (text .entry)) (now (index .entry)) (now (records .entry)) ⌝ }
 {
     index::clear_entries(text, index);
-    let mut c = index::begin(text);
+    let mut c = index::begin();
     while index::is_more(text, c) {
         c = step(text, c, index, records);
     }
@@ -92,7 +92,7 @@ pub fn bracket_pairs(text: &[u8], index: &mut [u16], records: &mut [Bracket])
 // The same where it is wanted; else nothing.
 pub fn build_when(want: bool, text: &[u8], index: &mut [u16], records: &mut [Bracket])
     requires { ⌜ (want ≡ true → Enough (now text) (now index) (now records)) ⌝ }
-    ensures { λ _. ⌜ (now (index .exit), now (records .exit)) ≡ built-when want (now (text .entry)) (now (index .entry)) (now (records .entry)) ⌝ }
+    ensures { λ _. ⌜ (now (index .exit), now (records .exit)) ≡ builtWhen want (now (text .entry)) (now (index .entry)) (now (records .entry)) ⌝ }
 {
     if want {
         bracket_pairs(text, index, records);

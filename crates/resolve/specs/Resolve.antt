@@ -9,8 +9,8 @@ use Rattle.base.specs.Lists.{isAt}
 use Rattle.close.specs.declared.Close.{Close}
 use Rattle.close.specs.declared.Close.the-variants.{At, Nothing}
 use Rattle.close.specs.Scan.{closeWithin}
-use Rattle.index.specs.declared.Bracket.{Bracket}
-use Rattle.index.specs.Built.{builtIndex, builtRecords}
+use Rattle.index.specs.Built.{builtIndex}
+unfoldable pub use Rattle.index.specs.Built.{indexAfter, recordsAfter}
 use Rattle.resolve.specs.Groups.{GroupAnswer, judge}
 
 -- "The note .. is 1 for built and all else for not built"
@@ -54,11 +54,3 @@ groupAsRun s p note index = judge s p (closeAsRun s p note index)
 -- "a call that builds returns 1, any other the note it was given"
 unfoldable pub noteAfter : Bool → ℕ → ℕ
 noteAfter built note = pick built 1 note
-
--- the index area, built or as it was
-unfoldable pub indexAfter : Bool → List ℕ → List ℕ → List ℕ
-indexAfter built s index = pick built (builtIndex s index) index
-
--- the bracket records, likewise
-unfoldable pub recordsAfter : Bool → List ℕ → List Bracket → List Bracket
-recordsAfter built s records = pick built (builtRecords s records) records

@@ -1,7 +1,6 @@
 -- What the code's needs cite, each law in the form of a need: premises are what the loop's invariant, the callees and the branches say.
 use Prim.Native.Nat.{ℕ, suc, _+_, _-_, _%_, _≤_, _<_}
 use native.Mathlib.Omega.{arith}
-use native.Mathlib.Numerals.{add-one}
 use mathlib.Core.Path.{_≡_, refl, sym, _∙_, ap}
 use mathlib.Core.List.{List}
 use mathlib.Core.Bool.{Bool, true, false, _&&_, not}
@@ -47,9 +46,9 @@ unfolding escapedAt
 escaped-odd s at p = rw p
 
 -- a place is escaped exactly where an unescaped backslash stands just before it
-pub escaped-next : (s : List ℕ) (i : ℕ) → escapedAt s (i + 1) ≡ (eqb (byteAt s i) 92 && not (escapedAt s i))
+pub escaped-next : (s : List ℕ) (i : ℕ) → escapedAt s (suc i) ≡ (eqb (byteAt s i) 92 && not (escapedAt s i))
 unfolding escapedAt slashes
-escaped-next s i = rw add-one (go (eqb (byteAt s i) 92))
+escaped-next s i = go (eqb (byteAt s i) 92)
   where
     odd : (n : ℕ) (t : Bool) → eqb (n % 2) 1 ≡ t → eqb (suc n % 2) 1 ≡ not t
     odd n true p = let q = eqb-true (n % 2) 1 p in ne-eqb (suc n % 2) 1 (omega arith)

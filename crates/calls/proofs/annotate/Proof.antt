@@ -39,7 +39,8 @@ use denote.Triple.Walked.{says, Stays, stay-none, stay-none-slice, stay-slice, g
 use denote.Exit.{yes}
 use Rattle.index.specs.declared.Bracket.{Bracket}
 use Rattle.index.proofs.Bracket as T
-use Rattle.pairs.specs.Turn.{Enough, built-when}
+use Rattle.index.specs.Built.{builtWhen}
+use Rattle.pairs.specs.Turn.{Enough}
 use Rattle.pairs.proofs.Lent.{at-list, lent, back}
 use Rattle.base.proofs.Calling.{calls-fn, calls-row, copied, last-list, no-last}
 use Rattle.pairs.proofs.Calls.{Count, BuildWhen, counts, builds-when}
@@ -138,10 +139,10 @@ module _ {M : Type 1} (𝓤 : URA M) (H : Heap 𝓤) (A : Atoms 𝓤) (W : Given
 
   -- the index and the records after the build, if one is wanted
   abbrev is′ : Begun → List ℕ
-  is′ p = built-when (p .sweep .wants) ts is ys .0
+  is′ p = builtWhen (p .sweep .wants) ts is ys .0
 
   abbrev ys′ : Begun → List Bracket
-  ys′ p = built-when (p .sweep .wants) ts is ys .1
+  ys′ p = builtWhen (p .sweep .wants) ts is ys .1
 
   -- the call as run
   abbrev ran : AnnotateRan

@@ -38,7 +38,8 @@ use denote.Triple.Walked.{says, Stays, stay-none, stay-none-slice, stay-slice, g
 use denote.Exit.{yes}
 use Rattle.index.specs.declared.Bracket.{Bracket}
 use Rattle.index.proofs.Bracket as T
-use Rattle.pairs.specs.Turn.{Enough, built-when}
+use Rattle.index.specs.Built.{builtWhen}
+use Rattle.pairs.specs.Turn.{Enough}
 use Rattle.pairs.proofs.Lent.{at-list, lent, back}
 use Rattle.base.proofs.Calling.{calls-fn, calls-row, copied, last-list, no-last}
 use Rattle.pairs.proofs.Calls.{Count, BuildWhen, counts, builds-when}
@@ -122,10 +123,10 @@ module _ {M : Type 1} (𝓤 : URA M) (H : Heap 𝓤) (A : Atoms 𝓤) (W : Given
 
   -- the index, the records and the items at exit
   abbrev is′ : List ℕ
-  is′ = built-when w ts is ys .0
+  is′ = builtWhen w ts is ys .0
 
   abbrev ys′ : List Bracket
-  ys′ = built-when w ts is ys .1
+  ys′ = builtWhen w ts is ys .1
 
   abbrev js′ : List ℕ
   js′ = finishedItems ts at p is′ js

@@ -1,3 +1,4 @@
+-- `index::all_good_in` meets its contract: the code is the definition. Assumes nothing.
 use borrow.Author.Needs.{needs}
 use Rattle.index.specs.Scan.{allGoodIn}
 use Rattle.index.proofs.all_good_in.Statement.{statement}

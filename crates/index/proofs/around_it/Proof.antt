@@ -1,3 +1,4 @@
+-- `index::around_it` meets its contract. A law for each way. Assumes nothing.
 use Rattle.index.proofs.Laws.{laws}
 use Rattle.index.proofs.around_it.Statement.{statement}
 use Rattle.index.proofs.around_it.Tie as tie

@@ -1,3 +1,4 @@
+-- `index::at_sign` meets its contract. A law for an `@` without a key, and one for an `@` with one. Assumes nothing.
 use borrow.Author.Needs.{needs}
 use Rattle.index.proofs.Laws.{laws}
 use Rattle.index.proofs.at_sign.Statement.{statement}

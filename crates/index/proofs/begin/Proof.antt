@@ -1,3 +1,4 @@
+-- `index::begin` meets its contract: the code is the definition. Assumes nothing.
 use borrow.Author.Needs.{needs}
 use Rattle.index.specs.Scan.{start, firstReads}
 use Rattle.index.proofs.begin.Statement.{statement}

@@ -1,3 +1,4 @@
+-- `index::count_on` meets its contract. A law for each way. Assumes nothing.
 use borrow.Author.Needs.{needs}
 use Rattle.index.proofs.Laws.{laws}
 use Rattle.index.proofs.count_on.Statement.{statement}

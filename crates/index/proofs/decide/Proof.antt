@@ -1,3 +1,4 @@
+-- `index::decide` meets its contract: the turn of the scan, and on over what `skip` ensures. Assumes nothing.
 use borrow.Author.Needs.{needs}
 use Rattle.index.proofs.Passing.{passing-laws}
 use Rattle.index.proofs.decide.Statement.{statement}

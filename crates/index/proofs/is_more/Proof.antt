@@ -1,3 +1,4 @@
+-- `index::is_more` meets its contract: the code is the definition. Assumes nothing.
 use borrow.Author.Needs.{needs}
 use Rattle.index.specs.Passing.{unread}
 use Rattle.index.proofs.is_more.Statement.{statement}

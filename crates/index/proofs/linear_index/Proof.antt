@@ -1,3 +1,4 @@
+-- `index::linear_index` meets its contract: the theorem of `Linear.antt`. Assumes nothing.
 use Rattle.index.proofs.Linear.{linear}
 use Rattle.index.proofs.linear_index.Statement.{statement}
 use Rattle.index.proofs.linear_index.Tie as tie

@@ -1,3 +1,4 @@
+-- `index::mark_of` meets its contract. A law for each way. Assumes nothing.
 use borrow.Author.Needs.{needs}
 use Rattle.index.proofs.Laws.{laws}
 use Rattle.index.proofs.mark_of.Statement.{statement}

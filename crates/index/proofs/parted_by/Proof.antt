@@ -1,3 +1,4 @@
+-- `index::parted_by` meets its contract. A law for each way. Assumes nothing.
 use Rattle.index.proofs.Laws.{laws}
 use Rattle.index.proofs.parted_by.Statement.{statement}
 use Rattle.index.proofs.parted_by.Tie as tie

@@ -1,3 +1,4 @@
+-- `index::reach_of` meets its contract. A law for each way. Assumes nothing.
 use borrow.Author.Needs.{needs}
 use Rattle.index.proofs.Laws.{laws}
 use Rattle.index.proofs.reach_of.Statement.{statement}

@@ -1,3 +1,4 @@
+-- `index::scan_plan` meets its contract. A law for each kind of byte. Assumes nothing.
 use borrow.Author.Needs.{needs}
 use Rattle.index.proofs.Laws.{laws}
 use Rattle.index.proofs.scan_plan.Statement.{statement}

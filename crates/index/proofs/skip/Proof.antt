@@ -1,3 +1,4 @@
+-- `index::skip` meets its contract. A law for no byte passed, and one for some. Assumes nothing.
 use borrow.Author.Needs.{needs}
 use Rattle.index.proofs.Passing.{passing-laws}
 use Rattle.index.proofs.skip.Statement.{statement}

@@ -40,13 +40,13 @@ use denote.Triple.Walked.{says, needs, Stays, stay-slice, stay-none-slice, walkO
 use denote.Exit.{yes}
 use Rattle.index.specs.declared.Bracket.{Bracket}
 use Rattle.index.specs.declared.Scan.{Scan}
-use Rattle.index.specs.Built.{blank}
+use Rattle.index.specs.Built.{blank, Both, built}
 use Rattle.index.specs.Passing.{unread, filled}
-use Rattle.index.specs.Scan.{Both, start}
+use Rattle.index.specs.Scan.{start}
 use Rattle.index.proofs.Bracket as T
 use Rattle.index.proofs.Scan as S
 use Rattle.index.proofs.Scan.Laws as S′
-use Rattle.pairs.specs.Turn.{Ready, Enough, built}
+use Rattle.pairs.specs.Turn.{Ready, Enough}
 use Rattle.pairs.proofs.Lent.{at-list, lent, back}
 use Rattle.base.proofs.Bools.{split as cases}
 use Rattle.base.proofs.Calling.{calls-row, calls-row-last, copied, last-list, no-last}
@@ -253,15 +253,13 @@ module _ {M : Type 1} (𝓤 : URA M) (H : Heap 𝓤) (A : Atoms 𝓤) (W : Given
           land ! (from ! (stop !)) (init ! 24 refl (tt, tt)) $
           rewrite ! 3 (λ (m : ℕ). ‵ (MutSlice (named 1) κ₁ u16 .own (at-list b₁ o₁ γ₁ zs₀) (sliceVal (b₁, o₁) m ∷ []))) (sym e₁) refl $ rewrite ! 30 (λ (m : ℕ). ‵ (fat fullShare indexTy l₂ 0 (sliceVal (b₁, o₁) m))) (sym e₁) refl $
           forget ! 20 refl $ forget ! 22 refl $ forget ! 24 refl $
-          move ! (5 ∷ []) $ copied ! u8 (named 0) κ₀ text $ nothing ! $ nothing ! $ move ! (8 ∷ 0 ∷ 2 ∷ 1 ∷ []) $
-          calls-row W ! begin.ended (begin.clauses 𝓤 H A mem run) ((κ₀, tt), (q₀, tt), tt, (text, tt), (sv₀ ∷ [], tt)) tt (λ r zs. r ≡ start ts)
-          (‵ (flft κ₀ q₀) ∷ ‵ ftrue ∷ []) (‵ (ShrSlice (named 0) κ₀ u8 .own text (sv₀ ∷ [])) ∷ ‵ ftrue ∷ [])
-          (record { tokens = refl; owned = refl; required = id⊢ 𝓤 _; ensured = λ r zs. id⊢ 𝓤 _ }) (fmOf 𝓤 H (W .laws) 𝓣) (known .0) (and-then ! (load ! (from ! (stop !)) (look ! 31 refl)) (no-more !))
-          scan (LL.tells S.the-type S′.the-laws) (start ts) (λ r zs e. e) (λ s-is zs _. move ! (1 ∷ 2 ∷ []) $ drop ! $ drop ! $
-          -- [κ₀; text's; κ₂; records'; κ₁; index's; _14; …]
-          land ! (from ! (stop !)) (init ! 26 refl (LL.lawful S.the-type S′.the-laws 𝓤 H A W .typed (start ts) _ s-is .0)) $ move ! (2 ∷ 3 ∷ 4 ∷ 5 ∷ []) $
-          use0 W (given (Good (start ts, (zs₀, ys₀))) (‵ ftrue)) (guardI 𝓤 (Good (start ts, (zs₀, ys₀))) (emp 𝓤) (at-start ts is₀ ys₀ enough e₁, s-is)) $
-          first ! $ blocks ! $ loops ! 𝓣 (below ts) (below-wf ts) Inv turns (start ts, (zs₀, ys₀))))))
+          nothing ! $ nothing ! $
+          calls-row W ! begin.ended (begin.clauses 𝓤 H A mem run) (tt, tt, tt, tt, tt) tt (λ r zs. r ≡ start) (‵ ftrue ∷ []) (‵ ftrue ∷ [])
+          (record { tokens = refl; owned = refl; required = id⊢ 𝓤 _; ensured = λ r zs. id⊢ 𝓤 _ }) (fmOf 𝓤 H (W .laws) 𝓣) (known .0) (no-more !)
+          scan (LL.tells S.the-type S′.the-laws) start (λ r zs e. e) (λ s-is zs _. drop ! $ drop ! $
+          land ! (from ! (stop !)) (init ! 26 refl (LL.lawful S.the-type S′.the-laws 𝓤 H A W .typed start _ s-is .0)) $
+          use0 W (given (Good (start, (zs₀, ys₀))) (‵ ftrue)) (guardI 𝓤 (Good (start, (zs₀, ys₀))) (emp 𝓤) (at-start ts is₀ ys₀ enough e₁, s-is)) $
+          first ! $ blocks ! $ loops ! 𝓣 (below ts) (below-wf ts) Inv turns (start, (zs₀, ys₀))))))
 
     walk : ent 𝓤 (onEntry 𝓤 H A f.signature (κ₀, (κ₁, (κ₂, tt))) (q₀, (q₁, (q₂, tt))) a vals) (WpFn 𝓤 H (𝓣 .C) (𝓣 .Λ) code.function (sv₀ ∷ sv₁ is₀ ∷ sv₂ ys₀ ∷ []) Post)
     walk =

@@ -38,8 +38,8 @@ use denote.Triple.Table.{entered, cited}
 use denote.Triple.Walked.{says, needs, Stays, stay-none, stay-slice, stay-none-slice, walkOf, goes-none, goes-slice, goes-none-slice, Walks, ends-at, walked, walk-meets}
 use denote.Exit.{yes}
 use Rattle.index.specs.declared.Bracket.{Bracket}
-use Rattle.index.specs.Scan.{Both}
-use Rattle.pairs.specs.Turn.{Enough, built, built-when}
+use Rattle.index.specs.Built.{Both, built, indexAfter, recordsAfter, builtWhen}
+use Rattle.pairs.specs.Turn.{Enough}
 use Rattle.index.proofs.Bracket as T
 use Rattle.pairs.proofs.Lent.{at-list, lent, back}
 use Rattle.base.proofs.Calling.{calls-row-last, copied, last-list, no-last}
@@ -110,7 +110,7 @@ module _ {M : Type 1} (𝓤 : URA M) (H : Heap 𝓤) (A : Atoms 𝓤) (W : Given
   Held x Γ = ‵ (flft κ₂ q₂) ∷ ‵ (MutSlice (named 2) κ₂ T.the-row .own (at-list b₂ o₂ γ₂ (x .1)) (sv₂ ∷ [])) ∷ ‵ (flft κ₁ q₁) ∷ ‵ (MutSlice (named 1) κ₁ u16 .own (at-list b₁ o₁ γ₁ (x .0)) (sv₁ ∷ []))
       ∷ ‵ (flft κ₀ q₀) ∷ ‵ (ShrSlice (named 0) κ₀ u8 .own text (sv₀ ∷ [])) ∷ Γ
 
-  exits : (x : Both) → x ≡ built-when c ts is₀ ys₀ → length (x .0) ≡ length is₀ → length (x .1) ≡ length ys₀ → ent 𝓤 (⋆ 𝓤 H A (Held x [])) (Post vunit)
+  exits : (x : Both) → x ≡ builtWhen c ts is₀ ys₀ → length (x .0) ≡ length is₀ → length (x .1) ≡ length ys₀ → ent 𝓤 (⋆ 𝓤 H A (Held x [])) (Post vunit)
   exits x e e₁ e₂ =
       qed W (Held x []) ∵
       suffices ! _ (ends-at 𝓤 H A f.ended stayed (f.clauses 𝓤 H A mem run) W (((κ₀, (κ₁, (κ₂, tt))), (q₀, (q₁, (q₂, tt))), tt, a, vals), tt) vunit tt (tt, (tt, (x .0, (x .1, tt)))) (tt, (tt, (e₁, (e₂, tt))))) $ says ! e $
@@ -130,13 +130,14 @@ module _ {M : Type 1} (𝓤 : URA M) (H : Heap 𝓤) (A : Atoms 𝓤) (W : Given
           ∷ ‵ (froom tyUnit l₆ 0) ∷ ‵ (fdies tyUnit l₆) ∷ ‵ (fat fullShare tyBool l₅ 0 (vbool c)) ∷ ‵ (fdies tyBool l₅) ∷ ‵ (fat fullShare recordsTy l₄ 0 sv₂) ∷ ‵ (fdies recordsTy l₄) ∷ ‵ (fat fullShare indexTy l₃ 0 sv₁) ∷ ‵ (fdies indexTy l₃)
           ∷ ‵ (fat fullShare textTy l₂ 0 sv₀) ∷ ‵ (fdies textTy l₂) ∷ ‵ (fat fullShare tyBool l₁ 0 (vbool c)) ∷ ‵ (fdies tyBool l₁) ∷ ‵ (froom tyUnit l₀ 0) ∷ ‵ (fdies tyUnit l₀) ∷ [])
 
-      leaves : (x : Both) → x ≡ built-when c ts is₀ ys₀ → length (x .0) ≡ length is₀ → length (x .1) ≡ length ys₀ → Sq W (After x) (runs C Λ En code.Mir.t-3 (atRet En Post))
+      leaves : (x : Both) → x ≡ builtWhen c ts is₀ ys₀ → length (x .0) ≡ length is₀ → length (x .1) ≡ length ys₀ → Sq W (After x) (runs C Λ En code.Mir.t-3 (atRet En Post))
       leaves x e e₁ e₂ =
           assigns ! (of-opd ! (unit-lit !)) (from ! (stop !)) (init ! 26 refl (tt, tt)) $ returns ! (look ! 26 refl) $ forget ! 16 refl $ forget ! 18 refl $ forget ! 20 refl $ forget ! 22 refl $ forget ! 24 refl $ forget ! 26 refl $
           move ! (26 ∷ 27 ∷ []) $ free1 ! $ move ! (24 ∷ 25 ∷ []) $ free1 ! $ move ! (22 ∷ 23 ∷ []) $ free1 ! $ move ! (20 ∷ 21 ∷ []) $ free1 ! $ move ! (18 ∷ 19 ∷ []) $ free1 ! $ move ! (16 ∷ 17 ∷ []) $ free1 ! $ move ! (14 ∷ 15 ∷ []) $ free1 ! $ move ! (12 ∷ 13 ∷ []) $ free1 ! $ move ! (10 ∷ 11 ∷ []) $ free1 ! $ move ! (8 ∷ 9 ∷ []) $ free1 ! $ move ! (6 ∷ 7 ∷ []) $ free1 ! $ free0 ! $
           by ! (exits x e e₁ e₂)
 
       body : (c ≡ true → Enough ts is₀ ys₀) → Sq W (After (is₀, ys₀)) (runs C Λ En code.Mir.t-2 (atRet En Post))
+      unfolding indexAfter recordsAfter
       body enough = first ! $ branches ! (load ! (from ! (stop !)) (look ! 16 refl))
           (λ yes.
           assigns ! (addr ! (from ! (fld ! refl (hop ! (look-in ! 20 (sub ! 0 refl (whole !))) (stop !))))) (from ! (stop !)) (init ! 12 refl (tt, tt)) $
@@ -155,8 +156,8 @@ module _ {M : Type 1} (𝓤 : URA M) (H : Heap 𝓤) (A : Atoms 𝓤) (W : Given
           move ! (3 ∷ 1 ∷ 7 ∷ []) $ back ! tt u16 b₁ o₁ (named 1) is₀ (built ts is₀ ys₀ .0) room₁ e₁ $ move ! (4 ∷ 2 ∷ 7 ∷ []) $ back ! tt T.the-row b₂ o₂ (named 2) ys₀ (built ts is₀ ys₀ .1) room₂ e₂ $ move ! (5 ∷ []) $ drop ! $
           land-last ! (from ! (stop !)) (init ! 14 refl (tt, tt)) $ exec ! C Λ En code.Mir.t-3 (atRet En Post) $
           forget ! 6 refl $ forget ! 8 refl $ forget ! 10 refl $ forget ! 12 refl $ forget ! 14 refl $
-          leaves (built ts is₀ ys₀) (ap (λ (t : Bool). built-when t ts is₀ ys₀) (sym (holds c yes))) e₁ e₂))))))
-          (λ no. skips ! $ exec ! C Λ En code.Mir.t-3 (atRet En Post) $ leaves (is₀, ys₀) (ap (λ (t : Bool). built-when t ts is₀ ys₀) (sym (fails c no))) refl refl)
+          leaves (built ts is₀ ys₀) (ap (λ (t : Bool). builtWhen t ts is₀ ys₀) (sym (holds c yes))) e₁ e₂))))))
+          (λ no. skips ! $ exec ! C Λ En code.Mir.t-3 (atRet En Post) $ leaves (is₀, ys₀) (ap (λ (t : Bool). builtWhen t ts is₀ ys₀) (sym (fails c no))) refl refl)
 
     walk : (c ≡ true → Enough ts is₀ ys₀) → ent 𝓤 (onEntry 𝓤 H A f.signature (κ₀, (κ₁, (κ₂, tt))) (q₀, (q₁, (q₂, tt))) a vals) (WpFn 𝓤 H C Λ code.function (vbool c ∷ sv₀ ∷ sv₁ ∷ sv₂ ∷ []) Post)
     walk enough =

@@ -127,10 +127,6 @@ module _ {M : Type 1} (𝓤 : URA M) (H : Heap 𝓤) (A : Atoms 𝓤) (W : Given
       abbrev At : State → List (Item 𝓤)
       At x = Held (x .1) (‵ (froom (sliceTy ref₁) l₉ 0) ∷ ‵ (fdies (sliceTy ref₁) l₉) ∷ ‵ (froom ref₁ l₈ 0) ∷ ‵ (fdies ref₁ l₈) ∷ ‵ (froom tyUnit l₇ 0) ∷ ‵ (fdies tyUnit l₇) ∷ ‵ (froom tyBool l₆ 0) ∷ ‵ (fdies tyBool l₆) ∷ ‵ (froom (tyInt w64) l₅ 0) ∷ ‵ (fdies (tyInt w64) l₅) ∷ ‵ (fat fullShare (tyInt w64) l₄ 0 (vint w64 (x .0))) ∷ ‵ (fdies (tyInt w64) l₄) ∷ ‵ (fat fullShare T′.mir l₃ 0 (bracket blank)) ∷ ‵ (fdies T′.mir l₃) ∷ ‵ (fat fullShare recordsTy l₂ 0 (sv₁ (x .1))) ∷ ‵ (fdies recordsTy l₂) ∷ ‵ (fat fullShare textTy l₁ 0 (sv₀)) ∷ ‵ (fdies textTy l₁) ∷ ‵ (froom tyUnit l₀ 0) ∷ ‵ (fdies tyUnit l₀) ∷ [])
 
-      -- the test is read
-      abbrev Tested : State → Bool → List (Item 𝓤)
-      Tested x y = Held (x .1) (‵ (froom (sliceTy ref₁) l₉ 0) ∷ ‵ (fdies (sliceTy ref₁) l₉) ∷ ‵ (froom ref₁ l₈ 0) ∷ ‵ (fdies ref₁ l₈) ∷ ‵ (froom tyUnit l₇ 0) ∷ ‵ (fdies tyUnit l₇) ∷ ‵ (fat fullShare tyBool l₆ 0 (vbool y)) ∷ ‵ (fdies tyBool l₆) ∷ ‵ (fat fullShare (tyInt w64) l₅ 0 (vint w64 (length ts))) ∷ ‵ (fdies (tyInt w64) l₅) ∷ ‵ (fat fullShare (tyInt w64) l₄ 0 (vint w64 (x .0))) ∷ ‵ (fdies (tyInt w64) l₄) ∷ ‵ (fat fullShare T′.mir l₃ 0 (bracket blank)) ∷ ‵ (fdies T′.mir l₃) ∷ ‵ (fat fullShare recordsTy l₂ 0 (sv₁ (x .1))) ∷ ‵ (fdies recordsTy l₂) ∷ ‵ (fat fullShare textTy l₁ 0 (sv₀)) ∷ ‵ (fdies textTy l₁) ∷ ‵ (froom tyUnit l₀ 0) ∷ ‵ (fdies tyUnit l₀) ∷ [])
-
       abbrev Inv : State → List (Item 𝓤)
       Inv x = given (Facts ts ys₀ long x) (‵ ftrue) ∷ At x
 
