@@ -10,6 +10,7 @@ ghost use Prim.Native.Nat.{_≤_};
 ghost use mathlib.Core.Bool.{true};
 ghost use Rattle.pool.specs.Layout.{wellFormed};
 ghost use Rattle.numbering.specs.Numbers.{numberAll};
+ghost use Rattle.numbering.specs.Progress.{Unnumbered};
 ghost use Rattle.after_sweep.specs.Ordering.{Orderable, Ordered};
 
 // Numbers the groups of a sweep and orders the references: the answer, or 10 where the labels or the references have no room.
@@ -24,12 +25,12 @@ pub fn number_and_order<'a>(
     references: &mut [u16],
     labels: &mut [u8],
 ) -> Annotation
-    requires { ⌜ (s .groups ≤ 32768) × (s .items ≤ 65535) × (wellFormed (now pool) ≡ true) × Orderable (now text) (now pool) (s .groups) (s .items) (numberAll (now text) mode (now pool) (s .groups) (now items) (now groups)) ⌝ }
+    requires { ⌜ (s .groups ≤ 32768) × (s .items ≤ 65535) × (wellFormed (now pool) ≡ true) × Unnumbered (s .items) (now items) × Orderable (now text) (now pool) (s .groups) (s .items) (numberAll (now text) mode (now pool) (s .groups) (now items) (now groups)) ⌝ }
     ensures { λ r. ⌜ Ordered (now (text .entry)) mode (now (pool .entry)) (s .groups) (s .items) note (now (items .entry)) (now (groups .entry)) (now (references .entry)) (now (labels .entry)) r (now (items .exit)) (now (groups .exit)) (now (references .exit)) (now (labels .exit)) ⌝ }
 {
     let n = s.groups;
     let m = s.items;
-    let numbers = number_groups(text, mode, pool, n, items, groups, labels);
+    let numbers = number_groups(text, mode, pool, n, m, items, groups, labels);
     let sources = numbers.sources;
     if numbers.fits & (sources <= references.len()) {
         order_references(text, mode, pool, n, m, sources, items, groups, references);

@@ -20,6 +20,8 @@ use Rattle.sweep.specs.Stops.{startState, SweptTo}
 use Rattle.group_records.specs.Recording.{Recorded}
 use Rattle.sweep.proofs.Laws.{item-rows-length, group-rows-length, swept-length, all-groups-count, all-items-count, all-fitted, all-item-rows, all-group-rows, swept-whole, swept-lent}
 use Rattle.numbering.specs.Numbers.{Numbered, numberAll}
+use Rattle.numbering.specs.Progress.{Unnumbered}
+use Rattle.numbering.proofs.LabelledLaws.{swept-unnumbered}
 use Rattle.order.specs.References.{SourcesKnown}
 use Rattle.annotation_answer.specs.declared.Annotation.{Annotation}
 use Rattle.annotation_answer.specs.declared.Annotation.the-variants.{Refused}
@@ -127,6 +129,10 @@ module _ {text : List ℕ} {mode : ℕ} {pool : List ℕ} {note : ℕ} {index₀
       groups-then : groups' ≡ sweptGroups text all restGroups
       unfolding written
       groups-then = all-group-rows whole f
+
+      -- none of the records has a number yet
+      pub items-unnumbered : Unnumbered (s .items) items'
+      items-unnumbered = rw (items-then, all-items-count whole) (swept-unnumbered all restItems)
 
       then-known : made ≡ known
       then-known = rw (all-groups-count whole, items-then, groups-then)

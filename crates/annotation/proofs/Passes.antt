@@ -103,7 +103,7 @@ module _ (text : List ℕ) (mode : ℕ) (pool : List ℕ) (n : ℕ) (all : List 
     unfolding citeIn citeAs its-record recordOf useOf
     its-joined =
         joined-cite text (s .items) _ (hasPool pool) k (t .sources) (keyOf text i) (a .joined)
-        (λ j c h l. set-last-other (s .items) k _ _ _ _ j c h l)
+        (λ j c h l. set-last-other (s .items) k _ _ _ _ j c (λ e. omega arith) l)
         (key-same text _ (s .items) k (set-last-same (s .items) k _ _ _ _) ∙ its-key)
         (its-field 12)
         (λ p. its-field 13 ∙ rw p)

@@ -11,13 +11,14 @@ use Rattle.group_records.specs.declared.SweepState.{SweepState}
 use Rattle.group_records.specs.Recording.{Counted}
 use Rattle.sweep.specs.Stops.{SweptTo}
 use Rattle.numbering.specs.Numbers.{numberAll}
+use Rattle.numbering.specs.Progress.{Unnumbered}
 use Rattle.annotation_answer.specs.declared.Annotation.{Annotation}
 use Rattle.annotation_answer.specs.declared.Annotation.the-variants.{Refused}
 use Rattle.annotation_answer.specs.Zeros.{Zeroed}
 use Rattle.preparation.specs.declared.Begun.{Begun}
 use Rattle.preparation.proofs.RefusalLaws.{Unrefused, unrefused}
 use Rattle.after_sweep.specs.Ordering.{Orderable, Ordered}
-use Rattle.annotation.proofs.Answers.{sources-short, sources-known, done-refused, done-few, done-room}
+use Rattle.annotation.proofs.Answers.{items-unnumbered, sources-short, sources-known, done-refused, done-few, done-room}
 use Rattle.completion.specs.SecondHalf.{Continues, Finished}
 
 -- what the first half left
@@ -49,6 +50,9 @@ module _ {text : List ℕ} {mode : ℕ} {pool : List ℕ} {note : ℕ} {p : Begu
         let x = t .counted .items-by in
         let y = t .counted .at-by in
         omega arith
+
+    pub numbers-none : k ≡ noteAfter (p .sweep .wants) note → s .fits ≡ true → Unnumbered (s .items) items'
+    numbers-none q f = items-unnumbered (c .begun) [] z q (c .built) t f
 
     pub numbers-known : k ≡ noteAfter (p .sweep .wants) note → s .fits ≡ true
         → Orderable text pool (s .groups) (s .items) (numberAll text mode pool (s .groups) items' groups')
@@ -82,6 +86,7 @@ pub ruleset finish-laws = (
   goes-counted,
   groups-short,
   items-short,
+  numbers-none,
   numbers-known,
   finished-refused,
   finished-few,

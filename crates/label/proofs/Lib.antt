@@ -2,3 +2,4 @@ pub mod Joins
 pub mod Decimals
 pub mod WriteLaws
 pub mod LabelLaws
+pub mod AreaLaws

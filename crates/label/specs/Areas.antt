@@ -1,7 +1,7 @@
 -- An area that was lent for one answer.
 use Prim.Native.Nat.{ℕ}
-use mathlib.Core.List.{List}
-use lib.ListN.{length}
+use mathlib.Core.List.{List, _++_}
+use lib.ListN.{length, take, drop}
 use lib.Dec.{leb}
 use Rattle.base.specs.Pick.{pick}
 use Rattle.base.specs.Lists.{written}
@@ -9,3 +9,7 @@ use Rattle.base.specs.Lists.{written}
 -- `out` at the front of the area, or the area as it was where that is too short
 abbrev pub fitted : List ℕ → List ℕ → List ℕ
 fitted out area = pick (leb (length out) (length area)) (written out area) area
+
+-- the same from place `at` of the area on
+unfoldable pub fittedAt : List ℕ → ℕ → List ℕ → List ℕ
+fittedAt out at area = take at area ++ fitted out (drop at area)

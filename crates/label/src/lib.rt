@@ -3,8 +3,8 @@ use definition::Author;
 use definition::Year;
 ghost use mathlib.Core.Path.{_≡_};
 ghost use mathlib.Core.List.{[], _∷_, _++_};
-ghost use Prim.Native.Nat.{_<_};
-ghost use lib.ListN.{length};
+ghost use Prim.Native.Nat.{_+_, _<_, _≤_};
+ghost use lib.ListN.{length, take, drop};
 ghost use Rattle.base.specs.Lists.{part, written};
 ghost use Rattle.text.specs.Trim.{trimEnd, trim};
 ghost use Rattle.pool.specs.Numbers.{signed};
@@ -12,7 +12,7 @@ ghost use Rattle.pool.specs.Entries.{bytesOr};
 ghost use Rattle.decimal.specs.Decimal.{decimal};
 ghost use Rattle.source.specs.Decimal.{signedDecimal};
 ghost use Rattle.definition.specs.Parts.{authorGiven, yearBytes};
-ghost use Rattle.label.specs.Areas.{fitted};
+ghost use Rattle.label.specs.Areas.{fitted, fittedAt};
 ghost use Rattle.label.specs.Labels.{authorYear, yearOnly, labelBy};
 
 // Bytes, where they fit. Their length.
@@ -201,4 +201,19 @@ pub fn write_label<'a>(
         return write_year(text, pool, number, year, out);
     }
     write_named(text, pool, number, author, year, out)
+}
+
+// The `len` bytes from `from` on, copied to `at`, where they fit: the label of an item that has the label of an earlier one.
+pub fn copy_label(from: usize, len: usize, at: usize, labels: &mut [u8])
+    requires { ⌜ (from + len ≤ at) × (at ≤ length (now labels)) ⌝ }
+    ensures { λ _. ⌜ now (labels .exit) ≡ fittedAt (take len (drop from (now (labels .entry)))) at (now (labels .entry)) ⌝ }
+{
+    if labels.len() - at < len {
+        return;
+    }
+    let mut i: usize = 0;
+    while i < len {
+        labels[at + i] = labels[from + i];
+        i += 1;
+    }
 }

@@ -2,24 +2,20 @@
 use Prim.Native.Nat.{ℕ, _+_, _-_, _*_, _≤_, _<_, min}
 use native.Mathlib.Omega.{arith}
 use mathlib.Core.Path.{_≡_, refl, sym, _∙_, ap}
-use mathlib.Core.List.{List, _++_}
-use mathlib.Core.Bool.{Bool, true, false, not, true≢false}
-use lib.ListN.{length, set, take, drop, length-append, length-take, length-drop}
-use lib.Dec.{leb}
-use borrow.Author.Tests.{le-leb, lt-leb, leb-true, leb-false, not-true, not-false}
-use Rattle.base.specs.Pick.{pick}
+use mathlib.Core.List.{List}
+use mathlib.Core.Bool.{true, false, not, true≢false}
+use lib.ListN.{length, set, length-append}
+use borrow.Author.Tests.{le-leb, lt-leb, leb-false, not-true, not-false}
 use Rattle.base.specs.Lists.{written}
 use Rattle.pool.specs.Layout.{hasPool}
-use Rattle.base.proofs.Areas.{written-after, written-length}
-use Rattle.label.specs.Labels.{labelText}
-use Rattle.label.specs.Areas.{fitted}
+use Rattle.label.specs.Areas.{fittedAt}
+use Rattle.label.proofs.AreaLaws.{fitted-at-length, fitted-at-next}
 use Rattle.numbering.specs.declared.Numbering.{Numbering}
 use Rattle.uses.specs.declared.Count.{Count}
-use Rattle.defined.specs.Definitions.{definitionIn, LinesBelow}
-use Rattle.records.specs.Records.{keyIn, suppressedIn}
+use Rattle.defined.specs.Definitions.{LinesBelow}
 use Rattle.numbering.specs.Numbers.{Numbered, labelIn, citeAs, citeIn}
 use Rattle.uses.specs.Uses.{setLast}
-use Rattle.numbering.specs.Progress.{roomOf, state, Agrees, Holds, Advances}
+use Rattle.numbering.specs.Progress.{labelOf, roomOf, state, Agrees, Holds, Advances}
 use Rattle.uses.specs.Uses.{Counts}
 use Rattle.uses.proofs.Fields.{set-last-same, set-standing-same}
 use Rattle.numbering.proofs.ByLines.{lines-same}
@@ -75,31 +71,7 @@ as-step x l e = record {
 
 -- one item -------------------------------------------------------------------------------------------------------------------------
 
--- an area is as long after an answer as before, whether that fit or not
-fitted-length : (out s : List ℕ) → length (fitted out s) ≡ length s
-fitted-length out s = go (leb (length out) (length s)) refl
-  where
-    go : (t : Bool) → leb (length out) (length s) ≡ t → length (pick t (written out s) s) ≡ length s
-    go true q = written-length out s (leb-true _ _ q)
-    go false q = refl
-
--- the area whose rest from `at` on was lent, and came back as `p`
-abbrev back : List ℕ → ℕ → List ℕ → List ℕ
-back s at p = take at s ++ (p ++ drop (length s - at) (drop at s))
-
-abbrev rest : List ℕ → ℕ → List ℕ
-rest s at = take (length s - at) (drop at s)
-
-back-length : (s p out : List ℕ) (at : ℕ) → at ≤ length s → p ≡ fitted out (rest s at) → length (back s at p) ≡ length s
-back-length s p out at h e =
-    let a = ap length e ∙ fitted-length out (rest s at) in
-    simp (length-append, length-take, length-drop) (omega (arith, simp (length-take, length-drop) at a))
-
 module _ (text : List ℕ) (mode : ℕ) (pool : List ℕ) (n k : ℕ) where
-  -- the label that the code writes, from the areas
-  abbrev labelOf : List ℕ → List ℕ → ℕ → List ℕ
-  labelOf items groups number = labelText mode (suppressedIn items k) number (definitionIn text groups items n pool (keyIn text items k))
-
   pub cite-grows : (t : Numbered) → length (t .labels) ≤ length (citeIn text mode pool n t k .labels)
   unfolding citeIn citeAs
   cite-grows t = simp length-append (omega arith)
@@ -114,12 +86,12 @@ module _ (text : List ℕ) (mode : ℕ) (pool : List ℕ) (n k : ℕ) where
       long = refl;
     }
 
-    module _ {c : Count} {len : ℕ} {p : List ℕ} (o : not (s .fits) ≡ false) (h : s .«label_bytes» ≤ roomOf labels)
+    module _ {c : Count} {len : ℕ} {labels′ : List ℕ} (o : not (s .fits) ≡ false) (h : s .«label_bytes» ≤ roomOf labels)
         (q : Counts text items (hasPool pool) (s .sources) k c)
-        (e : len ≡ length (labelOf items groups (c .number)))
-        (w : p ≡ fitted (labelOf items groups (c .number)) (rest labels (s .«label_bytes»))) where
+        (e : len ≡ length (labelOf text mode pool groups items n k (c .number)))
+        (w : labels′ ≡ fittedAt (labelOf text mode pool groups items n k (c .number)) (s .«label_bytes») labels) where
       -- it is the label that the state asks for
-      label-is : (t : Numbered) (before : List ℕ) → Agrees t before s items groups labels → labelOf items groups (c .number) ≡ labelIn text mode pool n t k
+      label-is : (t : Numbered) (before : List ℕ) → Agrees t before s items groups labels → labelOf text mode pool groups items n k (c .number) ≡ labelIn text mode pool n t k
       unfolding labelIn
       label-is t before a = rw (q .number, a .item-area, a .group-area, a .sources) refl
 
@@ -128,12 +100,12 @@ module _ (text : List ℕ) (mode : ℕ) (pool : List ℕ) (n k : ℕ) where
       unfolding citeIn citeAs
       longer t before a = rw (length-append, ← label-is t before a, ← a .label-bytes, ← e) refl
 
-      same-long : length (back labels (s .«label_bytes») p) ≡ length labels
-      same-long = back-length labels p (labelOf items groups (c .number)) (s .«label_bytes») (omega arith) w
+      same-long : length labels′ ≡ length labels
+      same-long = rw w (fitted-at-length (labelOf text mode pool groups items n k (c .number)) labels (s .«label_bytes»))
 
       over : roomOf labels - s .«label_bytes» < len
           → Advances 1 (λ t. citeIn text mode pool n t k) s (state false (s .sources) (s .«label_bytes»))
-          items groups labels items groups (back labels (s .«label_bytes») p)
+          items groups labels items groups labels′
       over l = record {
         holds = λ t before x.
             let y = longer t before (x .agrees (not-false (s .fits) o)) in
@@ -159,26 +131,23 @@ module _ (text : List ℕ) (mode : ℕ) (pool : List ℕ) (n k : ℕ) where
       unfolding citeIn citeAs
       items-done t before a = rw (q .number, q .use-index, e, label-is t before a, a .label-bytes, a .item-area, a .sources) refl
 
-      -- the lent rest has room for it
-      fits-rest : len ≤ roomOf labels - s .«label_bytes» → length (labelOf items groups (c .number)) ≤ length (rest labels (s .«label_bytes»))
-      fits-rest l = simp (length-take, length-drop) (omega arith)
-
-      room-there : len ≤ roomOf labels - s .«label_bytes» → (t : Numbered) (before : List ℕ) → Agrees t before s items groups labels
-          → length (t .labels) + length (labelOf items groups (c .number)) ≤ length before
-      room-there l t before a = let x = a .label-long in let y = a .label-bytes in omega arith
+      -- there is room for it
+      fits-there : len ≤ roomOf labels - s .«label_bytes»
+          → s .«label_bytes» + length (labelOf text mode pool groups items n k (c .number)) ≤ length labels
+      fits-there l = omega arith
 
       written-done : len ≤ roomOf labels - s .«label_bytes» → (t : Numbered) (before : List ℕ) → Agrees t before s items groups labels
-          → back labels (s .«label_bytes») p ≡ written (citeIn text mode pool n t k .labels) before
+          → labels′ ≡ written (citeIn text mode pool n t k .labels) before
       unfolding citeIn citeAs
       written-done l t before a =
-          let u : p ≡ written (labelOf items groups (c .number)) (rest labels (s .«label_bytes»)) = w ∙ rw (le-leb _ _ (fits-rest l)) refl in
-          rw (← label-is t before a)
-          (written-after before labels (t .labels) (labelOf items groups (c .number)) p (s .«label_bytes») (a .label-area) (a .label-bytes) (room-there l t before a) u)
+          rw (w, ← label-is t before a)
+          (fitted-at-next (labelOf text mode pool groups items n k (c .number)) labels (s .«label_bytes») (fits-there l) before (t .labels)
+          (a .label-area) (a .label-bytes))
 
       done : {items′ : List ℕ} → len ≤ roomOf labels - s .«label_bytes»
           → items′ ≡ setLast items k (c .number) (c .use_index) (s .«label_bytes») len
           → Advances 1 (λ t. citeIn text mode pool n t k) s (state true (c .sources) (s .«label_bytes» + len))
-          items groups labels items′ groups (back labels (s .«label_bytes») p)
+          items groups labels items′ groups labels′
       done l i = record {
         holds = λ t before x.
             let a = x .agrees (not-false (s .fits) o) in
@@ -200,10 +169,10 @@ module _ (text : List ℕ) (mode : ℕ) (pool : List ℕ) (n k : ℕ) where
       }
 
       pub cite-over : {r : Numbering} → r ≡ state false (s .sources) (s .«label_bytes») → roomOf labels - s .«label_bytes» < len
-          → Advances 1 (λ t. citeIn text mode pool n t k) s r items groups labels items groups (back labels (s .«label_bytes») p)
+          → Advances 1 (λ t. citeIn text mode pool n t k) s r items groups labels items groups labels′
       cite-over v l = rw v (over l)
 
       pub cite-done : {r : Numbering} {items′ : List ℕ} → r ≡ state true (c .sources) (s .«label_bytes» + len)
           → len ≤ roomOf labels - s .«label_bytes» → items′ ≡ setLast items k (c .number) (c .use_index) (s .«label_bytes») len
-          → Advances 1 (λ t. citeIn text mode pool n t k) s r items groups labels items′ groups (back labels (s .«label_bytes») p)
+          → Advances 1 (λ t. citeIn text mode pool n t k) s r items groups labels items′ groups labels′
       cite-done v l i = rw v (done l i)

@@ -1,15 +1,17 @@
 -- What the code holds on the way through the records.
-use Prim.Native.Nat.{ℕ, zero, suc, _+_, _≤_, min}
+use Prim.Native.Nat.{ℕ, zero, suc, _+_, _*_, _<_, _≤_, min}
 use mathlib.Core.Path.{_≡_}
 use mathlib.Core.List.{List}
 use mathlib.Core.Bool.{Bool, true, _&&_}
-use lib.ListN.{length}
+use lib.ListN.{length, take, drop}
 use lib.Dec.{leb}
 use Rattle.base.specs.Lists.{written}
 use Rattle.definition.specs.Defs.{isDefined}
 use Rattle.numbering.specs.declared.Numbering.{Numbering}
 use Rattle.defined.specs.Definitions.{definitionIn}
-use Rattle.records.specs.Records.{keyIn}
+use Rattle.rows.specs.Rows.{itemWidth}
+use Rattle.records.specs.Records.{itemField, keyIn, suppressedIn}
+use Rattle.label.specs.Labels.{labelText}
 use Rattle.numbering.specs.Numbers.{Numbered}
 
 -- the key of item record `k` is defined
@@ -21,6 +23,18 @@ unfoldable pub keysDefined : List ℕ → List ℕ → List ℕ → List ℕ →
 keysDefined text pool groups items n zero k = true
 keysDefined text pool groups items n (suc m) k =
     keyDefined text pool groups items n k && keysDefined text pool groups items n m (k + 1)
+
+-- the label of item record `k` with this number
+abbrev pub labelOf : List ℕ → ℕ → List ℕ → List ℕ → List ℕ → ℕ → ℕ → ℕ → List ℕ
+labelOf text mode pool groups items n k number =
+    labelText mode (suppressedIn items k) number (definitionIn text groups items n pool (keyIn text items k))
+
+-- item record `j` has this number, which is not 0, and the mark of suppression and the key of record `k`
+pub record Alike (text items : List ℕ) (k number j : ℕ) : Type 0 where
+  pub some : 0 < number
+  pub numbered : itemField items j 12 ≡ number
+  pub mark : suppressedIn items j ≡ suppressedIn items k
+  pub key : keyIn text items j ≡ keyIn text items k
 
 -- the most label bytes that fit: "answer longer than its area, or labels above 65,535 bytes"
 abbrev pub roomOf : List ℕ → ℕ
@@ -51,3 +65,21 @@ pub record Advances (more : ℕ) (step : Numbered → Numbered) (s r : Numbering
   pub few : r .sources ≤ s .sources + more
   pub room : r .«label_bytes» ≤ roomOf labels
   pub long : length labels′ ≡ length labels
+
+-- the `len` bytes at place `at` are this label, and lie among the first `bytes`
+pub record LabelStands (label : List ℕ) (at len bytes : ℕ) (labels : List ℕ) : Type 0 where
+  pub inside : at + len ≤ bytes
+  pub is : take len (drop at labels) ≡ label
+
+-- While the labels fit, each of the first `m` item records that has a number has its label among the label bytes so far, where its pair
+-- says: a later record that is alike gets a copy.
+pub record Labelled (text : List ℕ) (mode : ℕ) (pool : List ℕ) (n m : ℕ) (s : Numbering) (items groups labels : List ℕ) : Type 0 where
+  pub room : itemWidth * m ≤ length items
+  pub stands : s .fits ≡ true → (j : ℕ) → j < m → 0 < itemField items j 12
+      → LabelStands (labelOf text mode pool groups items n j (itemField items j 12)) (itemField items j 14) (itemField items j 15)
+      (s .«label_bytes») labels
+
+-- none of the first `m` item records, for which there is room, has a number
+pub record Unnumbered (m : ℕ) (items : List ℕ) : Type 0 where
+  pub room : itemWidth * m ≤ length items
+  pub none : (j : ℕ) → j < m → itemField items j 12 ≡ 0

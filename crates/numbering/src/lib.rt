@@ -6,7 +6,7 @@ ghost use mathlib.Core.Bool.{true};
 ghost use Prim.Native.Nat.{_<_, _≤_};
 ghost use Rattle.pool.specs.Layout.{wellFormed};
 ghost use Rattle.numbering.specs.Numbers.{numberAll};
-ghost use Rattle.numbering.specs.Progress.{roomOf, Holds};
+ghost use Rattle.numbering.specs.Progress.{roomOf, Holds, Unnumbered};
 
 // What became of numbering all groups: whether the labels fit, and the counts of sources and of label bytes.
 pub struct Numbering {
@@ -15,18 +15,19 @@ pub struct Numbering {
     pub label_bytes: usize,
 }
 
-// Numbers, uses and labels of all `n` groups, into their records and into `labels`. Where the labels do not fit, nothing is said of the areas:
-// the caller is to fill them with zeros.
+// Numbers, uses and labels of all `n` groups, with `m` item records, into their records and into `labels`. Where the labels do not fit,
+// nothing is said of the areas: the caller is to fill them with zeros.
 pub fn number_groups<'a>(
     text: &'a [u8],
     mode: u8,
     pool: &'a [u8],
     n: usize,
+    m: usize,
     items: &mut [u16],
     groups: &mut [u16],
     labels: &mut [u8],
 ) -> Numbering
-    requires { ⌜ (n ≤ 65535) × (wellFormed (now pool) ≡ true) ⌝ }
+    requires { ⌜ (n ≤ 65535) × (wellFormed (now pool) ≡ true) × Unnumbered m (now items) ⌝ }
     ensures { λ r. ⌜ Holds (numberAll (now (text .entry)) mode (now (pool .entry)) n (now (items .entry)) (now (groups .entry))) (roomOf (now (labels .entry))) (now (labels .entry)) r (now (items .exit)) (now (groups .exit)) (now (labels .exit)) ⌝ }
 {
     let mut s = Numbering {
@@ -37,7 +38,7 @@ pub fn number_groups<'a>(
     let lines = defined::define::lines_end(text, groups, items, n);
     let mut g: usize = 0;
     while g < n {
-        s = numbers::number_group(text, mode, pool, n, lines, g, s, items, groups, labels);
+        s = numbers::number_group(text, mode, pool, n, lines, m, g, s, items, groups, labels);
         g += 1;
     }
     s

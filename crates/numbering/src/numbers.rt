@@ -8,12 +8,11 @@ ghost use mathlib.Core.Bool.{true};
 ghost use Prim.Native.Nat.{_+_, _<_, _≤_, min};
 ghost use lib.ListN.{length};
 ghost use Rattle.pool.specs.Layout.{wellFormed};
-ghost use Rattle.label.specs.Labels.{labelText};
-ghost use Rattle.label.specs.Areas.{fitted};
-ghost use Rattle.defined.specs.Definitions.{definitionIn, LinesBelow};
-ghost use Rattle.records.specs.Records.{keyIn, suppressedIn};
+ghost use Rattle.label.specs.Areas.{fitted, fittedAt};
+ghost use Rattle.defined.specs.Definitions.{LinesBelow};
 ghost use Rattle.numbering.specs.Numbers.{citeIn, citeFrom, numberGroup};
-ghost use Rattle.numbering.specs.Progress.{keyDefined, keysDefined, roomOf, state, Advances};
+ghost use Rattle.numbering.specs.Progress.{keyDefined, keysDefined, labelOf, roomOf, state};
+ghost use Rattle.numbering.specs.Progress.{Advances, Alike, Labelled};
 
 // Whether the key of item record `k` is defined.
 fn is_defined(
@@ -76,7 +75,7 @@ fn label_in<'a>(
     out: &mut [u8],
 ) -> usize
     requires { ⌜ (n < 4294967296) × (wellFormed (now pool) ≡ true) × (k < 4294967296) × LinesBelow (now text) (now groups) (now items) n lines ⌝ }
-    ensures { λ r. ⌜ (r ≡ length (labelText mode (suppressedIn (now (items .entry)) k) number (definitionIn (now (text .entry)) (now (groups .entry)) (now (items .entry)) n (now (pool .entry)) (keyIn (now (text .entry)) (now (items .entry)) k)))) × (now (out .exit) ≡ fitted (labelText mode (suppressedIn (now (items .entry)) k) number (definitionIn (now (text .entry)) (now (groups .entry)) (now (items .entry)) n (now (pool .entry)) (keyIn (now (text .entry)) (now (items .entry)) k))) (now (out .entry))) ⌝ }
+    ensures { λ r. ⌜ (r ≡ length (labelOf (now (text .entry)) mode (now (pool .entry)) (now (groups .entry)) (now (items .entry)) n k number)) × (now (out .exit) ≡ fitted (labelOf (now (text .entry)) mode (now (pool .entry)) (now (groups .entry)) (now (items .entry)) n k number) (now (out .entry))) ⌝ }
 {
     if mode == 0 {
         return label::write_label(
@@ -96,6 +95,56 @@ fn label_in<'a>(
     let year = defined::year_in(text, pool, groups, n, d);
     let suppressed = records::suppressed_in(items, k);
     label::write_label(text, pool, mode, suppressed, number, author, year, out)
+}
+
+// An item record before `k` that has the label of record `k` with the number `number`; `k` where none is known, or none is looked for: in
+// mode 0, and for the first use of a source.
+fn labelled_before(
+    text: &[u8],
+    mode: u8,
+    items: &[u16],
+    sources: usize,
+    k: usize,
+    number: usize,
+) -> usize
+    requires { ⌜ k < 4294967296 ⌝ }
+    ensures { λ r. ⌜ ((r < k) → Alike (now (text .entry)) (now (items .entry)) k number r) ⌝ }
+{
+    if (mode == 0) | (number == 0) | (sources < number) {
+        return k;
+    }
+    uses::last_alike(text, items, k, number)
+}
+
+// The label of item record `k` with the number `number`, after the label bytes so far, where it fits: that of an earlier record, copied, or
+// one that is written anew. Its length.
+fn label_at<'a>(
+    text: &'a [u8],
+    mode: u8,
+    pool: &'a [u8],
+    n: usize,
+    lines: usize,
+    m: usize,
+    k: usize,
+    number: u16,
+    s: Numbering,
+    items: &[u16],
+    groups: &[u16],
+    labels: &mut [u8],
+) -> usize
+    requires { ⌜ (n < 4294967296) × (wellFormed (now pool) ≡ true) × (k < 4294967296) × LinesBelow (now text) (now groups) (now items) n lines × (s .fits ≡ true) × (s .«label_bytes» ≤ length (now labels)) × Labelled (now text) mode (now pool) n m s (now items) (now groups) (now labels) ⌝ }
+    ensures { λ r. ⌜ (r ≡ length (labelOf (now (text .entry)) mode (now (pool .entry)) (now (groups .entry)) (now (items .entry)) n k number)) × (now (labels .exit) ≡ fittedAt (labelOf (now (text .entry)) mode (now (pool .entry)) (now (groups .entry)) (now (items .entry)) n k number) (s .«label_bytes») (now (labels .entry))) ⌝ }
+{
+    let at = s.label_bytes;
+    let j = labelled_before(text, mode, items, s.sources, k, number as usize);
+    if (j < k) & (j < m) {
+        let from = records::item_field(items, j, 14);
+        let len = records::item_field(items, j, 15);
+        label::copy_label(from, len, at, labels);
+        return len;
+    }
+    let out = &mut labels[at..];
+    label_in(text, mode, pool, n, lines, k, number, items, groups, out)
 }
 
 // The lesser of two numbers.
@@ -123,15 +172,17 @@ fn cite<'a>(
     pool: &'a [u8],
     n: usize,
     lines: usize,
+    m: usize,
     k: usize,
     s: Numbering,
     items: &mut [u16],
     groups: &[u16],
     labels: &mut [u8],
 ) -> Numbering
-    requires { ⌜ (n < 4294967296) × (wellFormed (now pool) ≡ true) × (k < 4294967296) × (s .sources < 1099511627776) × (s .«label_bytes» ≤ roomOf (now labels)) × LinesBelow (now text) (now groups) (now items) n lines ⌝ }
+    requires { ⌜ (n < 4294967296) × (wellFormed (now pool) ≡ true) × (k < 4294967296) × (s .sources < 1099511627776) × (s .«label_bytes» ≤ roomOf (now labels)) × LinesBelow (now text) (now groups) (now items) n lines × Labelled (now text) mode (now pool) n m s (now items) (now groups) (now labels) ⌝ }
     ensures { λ r. ⌜ Advances 1 (λ t. citeIn (now (text .entry)) mode (now (pool .entry)) n t k) s r (now (items .entry)) (now (groups .entry)) (now (labels .entry)) (now (items .exit)) (now (groups .entry)) (now (labels .exit)) ⌝ }
     ensures lines { λ _. ⌜ LinesBelow (now (text .entry)) (now (groups .entry)) (now (items .exit)) n lines ⌝ }
+    ensures labelled { λ r. ⌜ Labelled (now (text .entry)) mode (now (pool .entry)) n m r (now (items .exit)) (now (groups .entry)) (now (labels .exit)) ⌝ }
 {
     let fits = s.fits;
     if !fits {
@@ -141,8 +192,20 @@ fn cite<'a>(
     let left = least(65535, labels.len()) - at;
     let c = uses::count_in(text, items, 0 < pool.len(), s.sources, k);
     let number = c.number;
-    let out = &mut labels[at..];
-    let len = label_in(text, mode, pool, n, lines, k, number, items, groups, out);
+    let len = label_at(
+        text,
+        mode,
+        pool,
+        n,
+        lines,
+        m,
+        k,
+        number,
+        s,
+        items,
+        groups,
+        labels,
+    );
     if left < len {
         return reached(false, s.sources, at);
     }
@@ -157,6 +220,7 @@ fn cite_from<'a>(
     pool: &'a [u8],
     n: usize,
     lines: usize,
+    m: usize,
     first: usize,
     count: usize,
     s: Numbering,
@@ -164,9 +228,10 @@ fn cite_from<'a>(
     groups: &[u16],
     labels: &mut [u8],
 ) -> Numbering
-    requires { ⌜ (n < 4294967296) × (wellFormed (now pool) ≡ true) × (first < 65536) × (count < 65536) × (s .sources < 549755813888) × (s .«label_bytes» ≤ roomOf (now labels)) × LinesBelow (now text) (now groups) (now items) n lines ⌝ }
+    requires { ⌜ (n < 4294967296) × (wellFormed (now pool) ≡ true) × (first < 65536) × (count < 65536) × (s .sources < 549755813888) × (s .«label_bytes» ≤ roomOf (now labels)) × LinesBelow (now text) (now groups) (now items) n lines × Labelled (now text) mode (now pool) n m s (now items) (now groups) (now labels) ⌝ }
     ensures { λ r. ⌜ Advances count (λ t. citeFrom (now (text .entry)) mode (now (pool .entry)) n count t first) s r (now (items .entry)) (now (groups .entry)) (now (labels .entry)) (now (items .exit)) (now (groups .entry)) (now (labels .exit)) ⌝ }
     ensures lines { λ _. ⌜ LinesBelow (now (text .entry)) (now (groups .entry)) (now (items .exit)) n lines ⌝ }
+    ensures labelled { λ r. ⌜ Labelled (now (text .entry)) mode (now (pool .entry)) n m r (now (items .exit)) (now (groups .entry)) (now (labels .exit)) ⌝ }
 {
     let mut so_far = s;
     let mut i: usize = 0;
@@ -177,6 +242,7 @@ fn cite_from<'a>(
             pool,
             n,
             lines,
+            m,
             first + i,
             so_far,
             items,
@@ -195,15 +261,17 @@ pub fn number_group<'a>(
     pool: &'a [u8],
     n: usize,
     lines: usize,
+    m: usize,
     g: usize,
     s: Numbering,
     items: &mut [u16],
     groups: &mut [u16],
     labels: &mut [u8],
 ) -> Numbering
-    requires { ⌜ (n < 4294967296) × (wellFormed (now pool) ≡ true) × (g < 4294967296) × (s .sources < 549755813888) × (s .«label_bytes» ≤ roomOf (now labels)) × LinesBelow (now text) (now groups) (now items) n lines ⌝ }
+    requires { ⌜ (n < 4294967296) × (wellFormed (now pool) ≡ true) × (g < 4294967296) × (s .sources < 549755813888) × (s .«label_bytes» ≤ roomOf (now labels)) × LinesBelow (now text) (now groups) (now items) n lines × Labelled (now text) mode (now pool) n m s (now items) (now groups) (now labels) ⌝ }
     ensures { λ r. ⌜ Advances 65535 (λ t. numberGroup (now (text .entry)) mode (now (pool .entry)) n t g) s r (now (items .entry)) (now (groups .entry)) (now (labels .entry)) (now (items .exit)) (now (groups .exit)) (now (labels .exit)) ⌝ }
     ensures lines { λ _. ⌜ LinesBelow (now (text .entry)) (now (groups .exit)) (now (items .exit)) n lines ⌝ }
+    ensures labelled { λ r. ⌜ Labelled (now (text .entry)) mode (now (pool .entry)) n m r (now (items .exit)) (now (groups .exit)) (now (labels .exit)) ⌝ }
 {
     let fits = s.fits;
     if !fits {
@@ -214,10 +282,23 @@ pub fn number_group<'a>(
         return s;
     }
     let k = records::group_field(groups, g, 2);
-    let m = records::group_field(groups, g, 3);
-    if all_defined(text, pool, groups, items, n, lines, k, m) {
+    let count = records::group_field(groups, g, 3);
+    if all_defined(text, pool, groups, items, n, lines, k, count) {
         records::put(groups, 5 * g + 4, 2);
-        cite_from(text, mode, pool, n, lines, k, m, s, items, groups, labels)
+        cite_from(
+            text,
+            mode,
+            pool,
+            n,
+            lines,
+            m,
+            k,
+            count,
+            s,
+            items,
+            groups,
+            labels,
+        )
     } else {
         s
     }

@@ -4,8 +4,8 @@ use native.Mathlib.Omega.{arith}
 use mathlib.Core.Path.{_≡_, _∙_, ap}
 use mathlib.Core.List.{List, [], _∷_, _++_}
 use mathlib.Core.Bool.{Bool}
-use lib.ListN.{length, getD, set}
-use lib.Seq.{getD-append-add, getD-set-other}
+use lib.ListN.{length, getD, set, length-set}
+use lib.Seq.{getD-append-add, getD-set-same, getD-set-other}
 use Rattle.base.specs.declared.Span.{Span}
 use Rattle.base.specs.Spans.{span}
 use Rattle.item.specs.declared.Item.{Item}
@@ -20,10 +20,17 @@ set-append-add (x ∷ xs) ys n a =
     let e : suc (length xs) + n ≡ suc (length xs + n) = omega arith in
     ap (λ (k : ℕ). set (x ∷ (xs ++ ys)) k a) e ∙ ap (λ (l : List ℕ). x ∷ l) (set-append-add xs ys n a)
 
--- records after `k` others, and after `g` others
+-- a record after `k` others, and after `g` others
 pub item-field : (before here : List ℕ) (k c : ℕ) → length before ≡ itemWidth * k → itemField (before ++ here) k c ≡ getD here c 0
 unfolding itemField
 item-field before here k c h = rw (← h) (getD-append-add before here c 0)
+
+-- the records after those
+pub item-skip : (before after : List ℕ) (k j c : ℕ) → length before ≡ itemWidth * k → itemField (before ++ after) (k + j) c ≡ itemField after j c
+unfolding itemField
+item-skip before after k j c h =
+    let e : itemWidth * (k + j) + c ≡ length before + (itemWidth * j + c) = omega arith in
+    rw e (getD-append-add before after (itemWidth * j + c) 0)
 
 pub group-field : (before here : List ℕ) (g c : ℕ) → length before ≡ groupWidth * g → groupField (before ++ here) g c ≡ getD here c 0
 unfolding groupField
@@ -50,24 +57,51 @@ SameItems items others = (k c : ℕ) → c < 12 → itemField items k c ≡ item
 abbrev pub SameGroups : List ℕ → List ℕ → Type 0
 SameGroups groups others = (g c : ℕ) → c < 4 → groupField groups g c ≡ groupField others g c
 
--- a place that is none of those that are written
-set-last-away : (items : List ℕ) (k n u at len p : ℕ) → ((c : ℕ) → 12 ≤ c → c < itemWidth → p ≡ itemWidth * k + c → ⊥)
-    → getD (setLast items k n u at len) p 0 ≡ getD items p 0
-unfolding setLast
-set-last-away items k n u at len p h =
-    getD-set-other third (itemWidth * k + 15) p len 0 (h 15 (omega arith) (omega arith))
-    ∙ getD-set-other second (itemWidth * k + 14) p at 0 (h 14 (omega arith) (omega arith))
-    ∙ getD-set-other one (itemWidth * k + 13) p u 0 (h 13 (omega arith) (omega arith))
-    ∙ getD-set-other items (itemWidth * k + 12) p n 0 (h 12 (omega arith) (omega arith))
-  where
-    one : List ℕ
-    one = set items (itemWidth * k + 12) n
+module _ (items : List ℕ) (k n u at len : ℕ) where
+  -- the last four numbers of an item record, written one after the other
+  abbrev one : List ℕ
+  one = set items (itemWidth * k + 12) n
 
-    second : List ℕ
-    second = set one (itemWidth * k + 13) u
+  abbrev second : List ℕ
+  second = set one (itemWidth * k + 13) u
 
-    third : List ℕ
-    third = set second (itemWidth * k + 14) at
+  abbrev third : List ℕ
+  third = set second (itemWidth * k + 14) at
+
+  -- a place that is none of those that are written
+  set-last-away : (p : ℕ) → ((c : ℕ) → 12 ≤ c → c < itemWidth → p ≡ itemWidth * k + c → ⊥)
+      → getD (setLast items k n u at len) p 0 ≡ getD items p 0
+  unfolding setLast
+  set-last-away p h =
+      getD-set-other third (itemWidth * k + 15) p len 0 (h 15 (omega arith) (omega arith))
+      ∙ getD-set-other second (itemWidth * k + 14) p at 0 (h 14 (omega arith) (omega arith))
+      ∙ getD-set-other one (itemWidth * k + 13) p u 0 (h 13 (omega arith) (omega arith))
+      ∙ getD-set-other items (itemWidth * k + 12) p n 0 (h 12 (omega arith) (omega arith))
+
+  -- no other item record changes
+  pub set-last-other : (j c : ℕ) → (j ≡ k → ⊥) → c < itemWidth → itemField (setLast items k n u at len) j c ≡ itemField items j c
+  unfolding itemField
+  set-last-other j c h l = set-last-away (itemWidth * j + c) (λ d a b e. h (omega arith))
+
+  -- the number and the label pair of the record itself
+  module _ (h : itemWidth * k + itemWidth ≤ length items) where
+    pub set-last-number : itemField (setLast items k n u at len) k 12 ≡ n
+    unfolding itemField setLast
+    set-last-number =
+        getD-set-other third (itemWidth * k + 15) (itemWidth * k + 12) len 0 (λ e. omega arith)
+        ∙ getD-set-other second (itemWidth * k + 14) (itemWidth * k + 12) at 0 (λ e. omega arith)
+        ∙ getD-set-other one (itemWidth * k + 13) (itemWidth * k + 12) u 0 (λ e. omega arith)
+        ∙ getD-set-same items (itemWidth * k + 12) n 0 (omega arith)
+
+    pub set-last-at : itemField (setLast items k n u at len) k 14 ≡ at
+    unfolding itemField setLast
+    set-last-at =
+        getD-set-other third (itemWidth * k + 15) (itemWidth * k + 14) len 0 (λ e. omega arith)
+        ∙ getD-set-same second (itemWidth * k + 14) at 0 (simp length-set (omega arith))
+
+    pub set-last-len : itemField (setLast items k n u at len) k 15 ≡ len
+    unfolding itemField setLast
+    set-last-len = getD-set-same third (itemWidth * k + 15) len 0 (simp length-set (omega arith))
 
 pub set-last-same : (items : List ℕ) (k n u at len : ℕ) → SameItems (setLast items k n u at len) items
 unfolding itemField
@@ -76,9 +110,3 @@ set-last-same items k n u at len j c h = set-last-away items k n u at len (itemW
 pub set-standing-same : (groups : List ℕ) (g s : ℕ) → SameGroups (set groups (groupWidth * g + 4) s) groups
 unfolding groupField
 set-standing-same groups g s j c h = getD-set-other groups (groupWidth * g + 4) (groupWidth * j + c) s 0 (λ e. omega arith)
-
--- no other item record changes
-pub set-last-other : (items : List ℕ) (k n u at len j c : ℕ) → j < k → c < itemWidth
-    → itemField (setLast items k n u at len) j c ≡ itemField items j c
-unfolding itemField
-set-last-other items k n u at len j c h l = set-last-away items k n u at len (itemWidth * j + c) (λ d a b e. omega arith)

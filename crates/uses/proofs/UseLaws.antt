@@ -7,12 +7,12 @@ use mathlib.Core.List.{List}
 use mathlib.Core.Bool.{Bool, true, false, _&&_}
 use lib.ListN.{set}
 use lib.Dec.{ltb}
-use borrow.Author.Tests.{lt-ltb, le-ltb}
+use borrow.Author.Tests.{lt-ltb, le-ltb, eq-eqb, ne-eqb}
 use Rattle.base.specs.Pick.{pick}
 use Rattle.base.specs.Last.{last}
 use Rattle.base.specs.Lists.{same}
 use Rattle.records.specs.Records.{itemField, keyIn}
-use Rattle.uses.specs.Uses.{sameUse, lastUse, numberIn, useIn, sourcesIn, setLast}
+use Rattle.uses.specs.Uses.{sameUse, lastUse, alikeAt, sameLabel, lastAlike, numberIn, useIn, sourcesIn, setLast}
 use Rattle.uses.specs.Uses.{Counts}
 use Rattle.base.proofs.Lasts.{last-out, last-stop, last-more}
 
@@ -46,6 +46,42 @@ module _ (text items : List ℕ) (k i : ℕ) where
     use-before t = last-more (sameUse text items k) k i p l (sym tested ∙ t)
 
 pub ruleset use-laws = (use-none, use-same, use-start, use-end, use-here, use-before)
+
+-- a record with the same label
+module _ (text items key : List ℕ) (number mark j : ℕ) {a : ℕ} (p : a ≡ itemField items j 12) where
+  pub alike-other : (a ≡ number → ⊥) → false ≡ alikeAt text items number mark key j
+  alike-other h = rw (← p, ne-eqb a number h) refl
+
+  module _ {b : ℕ} (e : a ≡ number) (q : b ≡ itemField items j 11) where
+    pub alike-unmarked : (b % 2 ≡ mark → ⊥) → false ≡ alikeAt text items number mark key j
+    alike-unmarked h = rw (← p, ← q, eq-eqb a number e, ne-eqb (b % 2) mark h) refl
+
+    pub alike-same : {own : List ℕ} {r : Bool} → b % 2 ≡ mark → own ≡ keyIn text items j → r ≡ same own key → r ≡ alikeAt text items number mark key j
+    alike-same h o s = s ∙ rw (← p, ← q, eq-eqb a number e, eq-eqb (b % 2) mark h, o) refl
+
+-- the search for it
+module _ (text items : List ℕ) (k number i : ℕ) where
+  pub alike-start : lastAlike text items k number ≡ last (sameLabel text items k number) k k
+  unfolding lastAlike
+  alike-start = refl
+
+  pub alike-end : {w : ℕ} → w ≡ last (sameLabel text items k number) i k → i ≤ 0 → k ≡ w
+  alike-end p = last-out (sameLabel text items k number) k i p
+
+  module _ {w : ℕ} {b : Bool} {mark : ℕ} {key : List ℕ} (p : w ≡ last (sameLabel text items k number) i k) (l : 0 < i)
+      (o : mark ≡ itemField items k 11 % 2) (e : key ≡ keyIn text items k)
+      (q : b ≡ alikeAt text items number mark key (i - 1)) where
+    alike-tested : b ≡ sameLabel text items k number (i - 1)
+    unfolding sameLabel
+    alike-tested = q ∙ rw (o, e) refl
+
+    pub alike-here : b ≡ true → i - 1 ≡ w
+    alike-here t = last-stop (sameLabel text items k number) k i p l (sym alike-tested ∙ t)
+
+    pub alike-before : b ≡ false → w ≡ last (sameLabel text items k number) (i - 1) k
+    alike-before t = last-more (sameLabel text items k number) k i p l (sym alike-tested ∙ t)
+
+pub ruleset alike-laws = (alike-other, alike-unmarked, alike-same, alike-start, alike-end, alike-here, alike-before)
 
 -- a use after another
 pub next-pooled : (t : Bool) (b : ℕ) → t ≡ true → (b + 1) % 65536 ≡ pick t ((b + 1) % 65536) 0

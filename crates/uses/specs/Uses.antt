@@ -3,7 +3,7 @@ use Prim.Native.Nat.{ℕ, _+_, _*_, _%_}
 use mathlib.Core.List.{List}
 use mathlib.Core.Bool.{Bool, _&&_}
 use lib.ListN.{set}
-use lib.Dec.{ltb}
+use lib.Dec.{eqb, ltb}
 use Rattle.base.specs.Pick.{pick}
 use Rattle.base.specs.Last.{last}
 use Rattle.base.specs.Lists.{same}
@@ -25,6 +25,19 @@ sameUse text items k j = usedAt text items (keyIn text items k) j
 -- the last numbered record before `k` with its key; `k` where there is none
 unfoldable pub lastUse : List ℕ → List ℕ → ℕ → ℕ
 lastUse text items k = last (sameUse text items k) k k
+
+-- item record `j` has this number, this mark of suppression and this key
+abbrev pub alikeAt : List ℕ → List ℕ → ℕ → ℕ → List ℕ → ℕ → Bool
+alikeAt text items number mark key j =
+    eqb (itemField items j 12) number && eqb (itemField items j 11 % 2) mark && same (keyIn text items j) key
+
+-- it has this number, and the mark of suppression and the key of record `k`
+unfoldable pub sameLabel : List ℕ → List ℕ → ℕ → ℕ → ℕ → Bool
+sameLabel text items k number j = alikeAt text items number (itemField items k 11 % 2) (keyIn text items k) j
+
+-- the last such record before `k`; `k` where there is none
+unfoldable pub lastAlike : List ℕ → List ℕ → ℕ → ℕ → ℕ
+lastAlike text items k number = last (sameLabel text items k number) k k
 
 -- the number and the use of item record `k`, `sources` being those so far. (A record's number is a u16.)
 unfoldable pub numberIn : List ℕ → List ℕ → ℕ → ℕ → ℕ

@@ -2,7 +2,7 @@
 ghost use mathlib.Core.Path.{_≡_};
 ghost use Prim.Native.Nat.{_+_, _%_, _<_};
 ghost use Rattle.base.specs.Pick.{pick};
-ghost use Rattle.uses.specs.Uses.{usedAt, lastUse, setLast};
+ghost use Rattle.uses.specs.Uses.{usedAt, lastUse, alikeAt, lastAlike, setLast};
 ghost use Rattle.uses.specs.Uses.{Counts};
 
 // The number and the use of an item record, and the sources after it.
@@ -34,6 +34,38 @@ pub fn last_use(text: &[u8], items: &[u16], k: usize) -> usize
     while 0 < j {
         j -= 1;
         if is_use(text, items, j, key) {
+            return j;
+        }
+    }
+    k
+}
+
+// Whether item record `j` has the number `number`, the mark of suppression `mark` and the key `key`.
+fn is_alike(text: &[u8], items: &[u16], number: usize, mark: usize, key: &[u8], j: usize) -> bool
+    requires { ⌜ j < 4294967296 ⌝ }
+    ensures { λ r. ⌜ r ≡ alikeAt (now (text .entry)) (now (items .entry)) number mark (now (key .entry)) j ⌝ }
+{
+    if records::item_field(items, j, 12) != number {
+        return false;
+    }
+    if records::item_field(items, j, 11) % 2 != mark {
+        return false;
+    }
+    base::bytes::is_same(records::key_in(text, items, j), key)
+}
+
+// The last item record before `k` that has the number `number`, and the mark of suppression and the key of record `k`: it has the label of
+// record `k` with that number. `k` where there is none.
+pub fn last_alike(text: &[u8], items: &[u16], k: usize, number: usize) -> usize
+    requires { ⌜ k < 4294967296 ⌝ }
+    ensures { λ r. ⌜ r ≡ lastAlike (now (text .entry)) (now (items .entry)) k number ⌝ }
+{
+    let mark = records::item_field(items, k, 11) % 2;
+    let key = records::key_in(text, items, k);
+    let mut j = k;
+    while 0 < j {
+        j -= 1;
+        if is_alike(text, items, number, mark, key, j) {
             return j;
         }
     }

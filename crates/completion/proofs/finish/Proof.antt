@@ -1,6 +1,6 @@
 -- `completion::finish` meets its contract. What `number_and_order` requires follows from what the first half left, from the second sweep and
 -- from the note. Assumes nothing.
-use Rattle.completion.proofs.FinishLaws.{goes-layout, groups-short, items-short, numbers-known, finish-laws}
+use Rattle.completion.proofs.FinishLaws.{goes-layout, groups-short, items-short, numbers-none, numbers-known, finish-laws}
 use borrow.Author.Needs.{needs}
 use Rattle.completion.proofs.finish.Statement.{statement}
 use Rattle.completion.proofs.finish.Tie as tie
@@ -20,7 +20,9 @@ number-and-order-requires c κs =
     let pre = passed .before .before .before .before .before .before .before .before .pre in
     let z = passed .if1 .left in
     let t = swept .sweep .ensures in
-    (groups-short pre z t, items-short pre z t, goes-layout pre z, numbers-known pre z t (noted .note-after .ensures) (fits .if2 .taken))
+    let q = noted .note-after .ensures in
+    let f = fits .if2 .taken in
+    (groups-short pre z t, items-short pre z t, goes-layout pre z, numbers-none pre z t q f, numbers-known pre z t q f)
 
 returns-2 : tie.Need-returns-2
 returns-2 c = search (finish-laws, needs)
