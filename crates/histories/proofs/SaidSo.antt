@@ -215,7 +215,7 @@ module _ (text : List ℕ) (mode : ℕ) (all : List Group) (pool : List ℕ) whe
       }))
 
   pub says : Says text mode pool all (contentOf text mode all pool)
-  unfolding contentOf itemField
+  unfolding contentOf
   says =
       let u = all-so in
       let n = item-rows-length all in
