@@ -26,15 +26,12 @@ use Rattle.order.specs.References.{SourcesKnown}
 use Rattle.annotation_answer.specs.declared.Annotation.{Annotation}
 use Rattle.annotation_answer.specs.declared.Annotation.the-variants.{Refused}
 use Rattle.preparation.specs.declared.Begun.{Begun}
-use Rattle.annotation.specs.Content.{Areas, contentOf}
+use Rattle.annotation.specs.Content.{Areas, areas, contentOf}
 use Rattle.preparation.specs.Refusal.{annotateRefusal}
 use Rattle.annotation.specs.Call.{annotateRefused, roomFor, filled, zeroFilled, annotateGives, answerOf, AnnotateRan, annotateRan, annotateSwept, annotateRun}
-use Rattle.annotation_answer.specs.Zeros.{zeros}
+use Rattle.annotation_answer.specs.Zeros.{zeros, Zeroed}
 use Rattle.annotation_answer.specs.Values.{annotationValues}
-use Rattle.annotation.specs.Values.{annotationNumbers}
-use Rattle.annotation.specs.Content.{areas}
-use Rattle.annotation_answer.specs.Zeros.{Zeroed}
-use Rattle.annotation.specs.Values.{Done}
+use Rattle.annotation.specs.Values.{annotationNumbers, Done}
 use Rattle.annotation.specs.Steps.{sweptItems, sweptGroups, numberedFrom, referencesFrom, Fits, ContentAs}
 use Rattle.preparation.specs.FirstHalf.{BegunBy}
 use Rattle.after_sweep.specs.Ordering.{roomThen, referencesThen, Ordered}

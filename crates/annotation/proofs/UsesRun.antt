@@ -1,4 +1,4 @@
--- THEOREM `RecordsUsed`: the uses in the item records.
+-- THEOREMS `RecordsUsed` and `SourcesUsed`: the uses in the item records, of the sources, and the final ones.
 use Prim.Native.Nat.{ℕ, _+_, _*_, _<_}
 use native.Mathlib.Omega.{arith}
 use mathlib.Core.Path.{_≡_, refl, sym, _∙_, ap, subst}
@@ -12,6 +12,7 @@ use borrow.Author.Tests.{ltb-true, ltb-false}
 use Rattle.base.specs.Pick.{pick}
 use Rattle.base.specs.Fold.{fold}
 use Rattle.base.specs.Lists.{same}
+use Rattle.base.specs.Sorted.{Each, Sorted}
 use Rattle.base.specs.Spans.{span}
 use Rattle.item.specs.declared.Item.{Item}
 use Rattle.item.specs.Group.{Group}
@@ -19,11 +20,13 @@ use Rattle.rows.specs.Rows.{itemWidth, recordOf, rowOf}
 use Rattle.pool.specs.Layout.{hasPool}
 use Rattle.definition_line.specs.Lines.{inLine, groupEnd, keyOf}
 use Rattle.standing.specs.Rows.{Placed, placed, itemCount}
-use Rattle.annotation.specs.Sources.{numberOf, usesOf, useOf, used}
+use Rattle.records.specs.Records.{itemField}
+use Rattle.annotation.specs.Sources.{Source, numberOf, usesOf, useOf, used}
 use Rattle.annotation.specs.Content.{Tally, tally, allDefined, standingOf, placedFrom, labelFor, cited, numbered, unnumbered, addItem, addGroup, tallyOf, placedOf}
-use Rattle.annotation.specs.Facts.{itemKeys, usesIn, useAfter, RecordsUsed}
-use Rattle.base.proofs.Sames.{same-true}
+use Rattle.annotation.specs.Facts.{KeysDiffer, itemKeys, usesIn, useAfter, RecordsUsed, SourcesUsed, finalUse}
+use Rattle.base.proofs.Sames.{same-refl, same-true}
 use Rattle.annotation.proofs.Places.{uses-used, uses-other}
+use Rattle.annotation.proofs.Numbers.{sources-differ}
 
 -- one more item
 uses-none-more : (x : List ℕ) (is : List (Option (List ℕ))) → usesIn x (is ++ (none ∷ [])) ≡ usesIn x is
@@ -131,9 +134,76 @@ keys-length text all pool before from (g ∷ gs) =
     let more = itemKeys text (placedFrom text all pool inside (groupEnd g) gs) in
     omega (arith, length-append (map one (g .items)) more, length-map (g .items) one, keys-length text all pool inside (groupEnd g) gs)
 
-pub records-used : RecordsUsed
-unfolding tallyOf placedOf usesOf usesIn
-records-used text mode all pool k h =
+all-used : (text : List ℕ) (mode : ℕ) (all : List Group) (pool : List ℕ)
+    → UsedSo (hasPool pool) (tallyOf text mode all pool) (itemKeys text (placedOf text all pool))
+unfolding tallyOf usesOf usesIn
+all-used text mode all pool =
     groups-used text mode all pool (placedOf text all pool) (tally [] [] []) []
-    (record { count = refl; cells = λ j l. absurd (omega arith); uses = λ x. refl }) .cells k
-    (omega (arith, keys-length text all pool false 0 all))
+    (record { count = refl; cells = λ j l. absurd (omega arith); uses = λ x. refl })
+
+pub records-used : RecordsUsed
+unfolding placedOf itemField
+records-used text mode all pool k h =
+    all-used text mode all pool .cells k (omega (arith, keys-length text all pool false 0 all))
+
+-- of the sources -----------------------------------------------------------------------------------------------------------------------
+
+-- a source behind one with another key
+uses-behind : (f : List ℕ → ℕ) (s : Source) (ss xs : List Source) → Each (KeysDiffer s) xs → Each (λ (x : Source). usesOf (x .key) (s ∷ ss) ≡ f (x .key)) xs
+    → Each (λ (x : Source). usesOf (x .key) ss ≡ f (x .key)) xs
+unfolding usesOf
+uses-behind f s ss [] d h = tt
+uses-behind f s ss (x ∷ xs) d h = (go (same (s .key) (x .key)) refl (h .0), uses-behind f s ss xs (d .1) (h .1))
+  where
+    go : (b : Bool) → same (s .key) (x .key) ≡ b → pick b (s .uses) (usesOf (x .key) ss) ≡ f (x .key) → usesOf (x .key) ss ≡ f (x .key)
+    go true q e = absurd (d .0 (same-true (s .key) (x .key) q))
+    go false q e = e
+
+uses-each : (f : List ℕ → ℕ) (ss : List Source) → Sorted KeysDiffer ss → Each (λ (s : Source). usesOf (s .key) ss ≡ f (s .key)) ss
+    → Each (λ (s : Source). s .uses ≡ f (s .key)) ss
+unfolding usesOf
+uses-each f [] d h = tt
+uses-each f (s ∷ ss) d h = (rw (same-refl (s .key)) at (h .0), uses-each f ss (d .1) (uses-behind f s ss ss (d .0) (h .1)))
+
+each-of : (P : Source → Type 0) (ss : List Source) → ((s : Source) → P s) → Each P ss
+each-of P [] h = tt
+each-of P (s ∷ ss) h = (h s, each-of P ss h)
+
+pub sources-used : SourcesUsed
+sources-used text mode all pool =
+    let keys = itemKeys text (placedOf text all pool) in
+    let sources = tallyOf text mode all pool .sources in
+    uses-each (λ x. usesIn x keys) sources (sources-differ text mode all pool)
+    (each-of (λ s. usesOf (s .key) sources ≡ usesIn (s .key) keys) sources (λ s. all-used text mode all pool .uses (s .key)))
+
+-- the final ones -----------------------------------------------------------------------------------------------------------------------
+
+-- with a pool the final use of a key is the count of its uses
+module _ (rows key : List ℕ) (all : List (Option (List ℕ)))
+    (h : (k : ℕ) → k < length all → itemField rows k 13 ≡ useAfter true (take k all) (getD all k none)) where
+  final-uses : (is before : List (Option (List ℕ))) → before ++ is ≡ all
+      → finalUse rows key (length before) (usesIn key before) is ≡ usesIn key all
+  unfolding finalUse useAfter
+  final-uses [] before e = ap (usesIn key) (sym (append-nil before) ∙ e)
+  final-uses (none ∷ is) before e =
+      let l : length before + 1 ≡ length (before ++ (none ∷ [])) = omega (arith, length-append before (none ∷ [])) in
+      rw (l, ← uses-none-more key before) (final-uses is (before ++ (none ∷ [])) (append-assoc before (none ∷ []) is ∙ e))
+  final-uses (some x ∷ is) before e =
+      let l : length before + 1 ≡ length (before ++ (some x ∷ [])) = omega (arith, length-append before (some x ∷ [])) in
+      rw (l, go (same x key) refl ∙ sym (uses-some-more key x before))
+      (final-uses is (before ++ (some x ∷ [])) (append-assoc before (some x ∷ []) is ∙ e))
+    where
+      go : (b : Bool) → same x key ≡ b → pick b (itemField rows (length before) 13) (usesIn key before) ≡ usesIn key before + pick b 1 0
+      go true q =
+          h (length before) (omega (arith, length-append before (some x ∷ is), ap length e))
+          ∙ rw (← e, take-at before (some x ∷ is) (length before) refl, getD-at before (some x) is none (length before) refl, same-true x key q)
+      go false q = omega arith
+
+pub final-use : (text : List ℕ) (mode : ℕ) (all : List Group) (pool : List ℕ) → hasPool pool ≡ true → (key : List ℕ)
+    → finalUse (tallyOf text mode all pool .rows) key 0 0 (itemKeys text (placedOf text all pool)) ≡ usesIn key (itemKeys text (placedOf text all pool))
+unfolding usesIn itemField
+final-use text mode all pool pooled key =
+    let keys = itemKeys text (placedOf text all pool) in
+    final-uses (tallyOf text mode all pool .rows) key keys
+    (λ k l. all-used text mode all pool .cells k l ∙ ap (λ (b : Bool). useAfter b (take k keys) (getD keys k none)) pooled)
+    keys [] refl

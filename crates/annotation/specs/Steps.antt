@@ -37,11 +37,11 @@ abbrev pub numberedFrom : List ℕ → ℕ → List Group → List ℕ → List 
 numberedFrom text mode all pool restItems restGroups =
     numberAll text mode pool (length all) (sweptItems all restItems) (sweptGroups text all restGroups)
 
--- what any sweep finds is so
+-- THEOREM: the groups of a sweep fit so, whatever index and note it is lent
 abbrev pub SweptFits : Type 0
 SweptFits = (text : List ℕ) (l : Lent) → length text ≤ 65535 → Fits text (sweepRun text l .groups)
 
--- the definition of a key
+-- THEOREM: the definition of a key by the records is the paper's
 abbrev pub DefinitionsAgree : Type 0
 DefinitionsAgree =
     (text : List ℕ) (all : List Group) (pool restItems restGroups key : List ℕ) → Fits text all

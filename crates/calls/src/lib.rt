@@ -20,7 +20,7 @@ ghost use Rattle.histories.specs.Promises.{LookUpPromise, AnnotatePromise};
 ghost use Rattle.lookup.specs.Others.{locatorCall, sizeCall};
 ghost use Rattle.lookup.specs.Values.{locatorValues, locatorNumbers, sizeValues, sizeNumbers};
 ghost use Rattle.source_text.specs.Call.{sourceTextCall};
-ghost use Rattle.source_text.specs.Values.{sourceTextValues, sourceTextNumbers};
+ghost use Rattle.source_text.specs.Values.{sourceTextValues, sourceTextNumbers, sourceTextAnswer};
 
 // The group at the bracket at `at`: the place of its close, the count of its items and the note, and the item records at the front of `items`.
 // Refusals: 1, 2, 3, 4, 9, 5, 10.
@@ -97,7 +97,7 @@ pub fn locator(text: &[u8]) -> LocatorAnswer
 // The text of the pool's entry number `entry`, at the front of `area`: the bytes written. Refusals: 7, 8, 10.
 pub fn source_text(pool: &[u8], entry: usize, area: &mut [u8]) -> SourceText
     ensures { λ r. let ran = sourceTextCall (now (pool .entry)) entry (now (area .entry)) in
-        ⌜ (sourceTextValues r ≡ sourceTextNumbers ran) × (now (area .exit) ≡ ran .area) ⌝ }
+        ⌜ (r ≡ sourceTextAnswer ran) × (sourceTextValues r ≡ sourceTextNumbers ran) × (now (area .exit) ≡ ran .area) ⌝ }
 {
     source_text::source_text(pool, entry, area)
 }

@@ -1,16 +1,16 @@
 -- The content of an annotation, record by record.
-use Prim.Native.Nat.{ℕ, _+_, _-_, _*_, _≤_, _<_}
+use Prim.Native.Nat.{ℕ, _+_, _*_, _<_}
 use native.Mathlib.Omega.{arith}
 use mathlib.Core.Path.{_≡_, refl, sym, _∙_, ap, subst}
 use mathlib.Core.List.{List, [], _∷_, _++_, map, append-nil, append-assoc}
 use mathlib.Core.Bool.{Bool, true, false}
-use lib.ListN.{length, getD, take, drop, length-append, length-drop, List·getD-append}
-use lib.Seq.{getD-append-add, getD-at, getD-take, take-all, take-append-le, drop-append-le, drop-append-seam}
+use mathlib.Core.Option.{Option, none, some}
+use lib.ListN.{length, getD, take, length-append, List·getD-append}
+use lib.Seq.{getD-append-add, getD-at, getD-take, take-at, take-append-le}
 use lib.Dec.{eqb, ltb}
 use borrow.Author.Tests.{ltb-true, ltb-false, eqb-true}
 use Rattle.base.specs.Pick.{pick}
 use Rattle.base.specs.Fold.{fold}
-use Rattle.base.specs.Lists.{part}
 use Rattle.base.specs.Spans.{span}
 use Rattle.item.specs.declared.Item.{Item}
 use Rattle.item.specs.Group.{Group}
@@ -18,31 +18,19 @@ use Rattle.rows.specs.Rows.{itemWidth, recordOf, rowOf, rowsIn, rowsOf}
 use Rattle.pool.specs.Layout.{hasPool}
 use Rattle.definition_line.specs.Lines.{inLine, groupEnd, keyOf}
 use Rattle.definition.specs.Defs.{defOf}
-use Rattle.base.proofs.Parts.{part-is}
 use Rattle.label.specs.Labels.{labelText}
 use Rattle.standing.specs.Rows.{Placed, itemRows}
+use Rattle.records.specs.Records.{itemField}
 use Rattle.sweep.proofs.Laws.{item-rows-length}
 use Rattle.annotation.specs.Sources.{Source, numberOf, useOf, used}
 use Rattle.annotation.specs.Content.{Tally, tally, placedFrom, placedOf, labelFor, cited, numbered, unnumbered, addItem, addGroup, tallyOf, contentOf}
+use Rattle.annotation.specs.Facts.{itemKeys}
 use Rattle.annotation.proofs.Numbers.{sources-in-order, numbers-stay}
 use Rattle.annotation.proofs.Records.{records-numbered}
 use Rattle.annotation.proofs.UsesRun.{records-used}
-use Rattle.histories.specs.Said.{cell, itemLabels, joined, Says}
+use Rattle.histories.specs.Said.{itemLabels, joined, labelAfter, Says}
 
 -- lists ----------------------------------------------------------------------------------------------------------------------------
-
-part-front : (s x : List ℕ) (a e : ℕ) → a ≤ e → e ≤ length s → part (s ++ x) a e ≡ part s a e
-part-front s x a e l h =
-    part-is (s ++ x) a e l (omega (arith, length-append s x))
-    ∙ ap (take (e - a)) (drop-append-le a s x (omega arith))
-    ∙ take-append-le (e - a) (drop a s) x (omega (arith, length-drop a s))
-    ∙ sym (part-is s a e l h)
-
-part-back : (s x : List ℕ) → part (s ++ x) (length s) (length s + length x) ≡ x
-part-back s x =
-    part-is (s ++ x) (length s) (length s + length x) (omega arith) (omega (arith, length-append s x))
-    ∙ ap (take (length s + length x - length s)) (drop-append-seam s x)
-    ∙ take-all (length s + length x - length s) x (omega arith)
 
 joined-more : (ls : List (List ℕ)) (x : List ℕ) → joined (ls ++ (x ∷ [])) ≡ joined ls ++ x
 unfolding joined
@@ -50,23 +38,26 @@ joined-more [] x = append-nil x
 joined-more (l ∷ ls) x = ap (λ (r : List ℕ). l ++ r) (joined-more ls x) ∙ sym (append-assoc l (joined ls) x)
 
 -- the records before, and the one after them
-cell-front : (rows row : List ℕ) (n k c : ℕ) → length rows ≡ itemWidth * n → k < n → c < itemWidth → cell (rows ++ row) k c ≡ cell rows k c
+cell-front : (rows row : List ℕ) (n k c : ℕ) → length rows ≡ itemWidth * n → k < n → c < itemWidth → itemField (rows ++ row) k c ≡ itemField rows k c
+unfolding itemField
 cell-front rows row n k c e h g = List·getD-append rows row 0 (itemWidth * k + c) (omega (arith, e, h, g))
 
-cell-back : (rows row : List ℕ) (n c : ℕ) → length rows ≡ itemWidth * n → cell (rows ++ row) n c ≡ getD row c 0
+cell-back : (rows row : List ℕ) (n c : ℕ) → length rows ≡ itemWidth * n → itemField (rows ++ row) n c ≡ getD row c 0
+unfolding itemField
 cell-back rows row n c e =
     let b : itemWidth * n + c ≡ length rows + c = omega (arith, e) in
     ap (λ (m : ℕ). getD (rows ++ row) m 0) b ∙ getD-append-add rows row c 0
 
 -- one item more ---------------------------------------------------------------------------------------------------------------------
 
--- the items so far: their records as they are when looked up, and their labels
-record So (t : Tally) (rows : List ℕ) (ls : List (List ℕ)) : Type 0 where
+-- the items so far: their records as they are when looked up, their labels, and their keys where they are numbered
+record So (t : Tally) (rows : List ℕ) (ls : List (List ℕ)) (is : List (Option (List ℕ))) : Type 0 where
   count : length (t .rows) ≡ itemWidth * length ls
   alike : length rows ≡ itemWidth * length ls
-  found : (k c : ℕ) → k < length ls → c < 12 → cell (t .rows) k c ≡ cell rows k c
-  inside : (k : ℕ) → k < length ls → cell (t .rows) k 14 + cell (t .rows) k 15 ≤ length (t .labels)
-  label : (k : ℕ) → k < length ls → part (t .labels) (cell (t .rows) k 14) (cell (t .rows) k 14 + cell (t .rows) k 15) ≡ getD ls k []
+  keyed : length is ≡ length ls
+  found : (k c : ℕ) → k < length ls → c < 12 → itemField (t .rows) k c ≡ itemField rows k c
+  offsets : (k : ℕ) → k < length ls → itemField (t .rows) k 14 ≡ labelAfter (take k ls) (getD is k none)
+  lengths : (k : ℕ) → k < length ls → itemField (t .rows) k 15 ≡ length (getD ls k [])
   joins : t .labels ≡ joined ls
 
 by-place : (P : ℕ → Type 0) (ls : List (List ℕ)) (x : List ℕ) → ((k : ℕ) → k < length ls → P k) → P (length ls)
@@ -79,37 +70,36 @@ by-place P ls x front back k h = go (ltb k (length ls)) refl
         let e : length ls ≡ k = omega (arith, h, length-append ls (x ∷ []), ltb-false k (length ls) q) in
         subst P e back
 
--- its record `row`, its record `flat` when looked up, and its label, which the record has at `a`
-module _ (t : Tally) (rows : List ℕ) (ls : List (List ℕ)) (u : So t rows ls) (sources : List Source) (row flat label : List ℕ) (a : ℕ)
-    (wide : length row ≡ itemWidth) (as-wide : length flat ≡ itemWidth) (same : take 12 row ≡ take 12 flat) (at : getD row 14 0 ≡ a)
-    (long : getD row 15 0 ≡ length label) (fits : a ≤ length (t .labels))
-    (reads : part (t .labels ++ label) a (a + length label) ≡ label) where
-  front : (k c : ℕ) → k < length ls → c < itemWidth → cell (t .rows ++ row) k c ≡ cell (t .rows) k c
+-- its record `row`, its record `flat` when looked up, its label and its key
+module _ (t : Tally) (rows : List ℕ) (ls : List (List ℕ)) (is : List (Option (List ℕ))) (u : So t rows ls is) (sources : List Source)
+    (row flat label : List ℕ) (key : Option (List ℕ)) (wide : length row ≡ itemWidth) (as-wide : length flat ≡ itemWidth)
+    (same : take 12 row ≡ take 12 flat) (at : getD row 14 0 ≡ labelAfter ls key) (long : getD row 15 0 ≡ length label) where
+  front : (k c : ℕ) → k < length ls → c < itemWidth → itemField (t .rows ++ row) k c ≡ itemField (t .rows) k c
   front k c h g = cell-front (t .rows) row (length ls) k c (u .count) h g
 
-  back : (c : ℕ) → cell (t .rows ++ row) (length ls) c ≡ getD row c 0
+  back : (c : ℕ) → itemField (t .rows ++ row) (length ls) c ≡ getD row c 0
   back c = cell-back (t .rows) row (length ls) c (u .count)
 
-  more : So (tally sources (t .rows ++ row) (t .labels ++ label)) (rows ++ flat) (ls ++ (label ∷ []))
+  more : So (tally sources (t .rows ++ row) (t .labels ++ label)) (rows ++ flat) (ls ++ (label ∷ [])) (is ++ (key ∷ []))
   more = record {
     count = omega (arith, length-append (t .rows) row, length-append ls (label ∷ []), u .count, wide);
     alike = omega (arith, length-append rows flat, length-append ls (label ∷ []), u .alike, as-wide);
+    keyed = omega (arith, length-append is (key ∷ []), length-append ls (label ∷ []), u .keyed);
     found = λ k c h g.
-        by-place (λ k. cell (t .rows ++ row) k c ≡ cell (rows ++ flat) k c) ls label
+        by-place (λ k. itemField (t .rows ++ row) k c ≡ itemField (rows ++ flat) k c) ls label
         (λ k l. front k c l (omega (arith, g)) ∙ u .found k c l g ∙ sym (cell-front rows flat (length ls) k c (u .alike) l (omega (arith, g))))
         (back c ∙ sym (getD-take 12 row c 0 g) ∙ ap (λ (r : List ℕ). getD r c 0) same ∙ getD-take 12 flat c 0 g
         ∙ sym (cell-back rows flat (length ls) c (u .alike)))
         k h;
-    inside = by-place (λ k. cell (t .rows ++ row) k 14 + cell (t .rows ++ row) k 15 ≤ length (t .labels ++ label)) ls label
-        (λ k l. omega (arith, front k 14 l (omega arith), front k 15 l (omega arith), u .inside k l, length-append (t .labels) label))
-        (omega (arith, back 14, back 15, at, long, fits, length-append (t .labels) label));
-    label = by-place
-        (λ k. part (t .labels ++ label) (cell (t .rows ++ row) k 14) (cell (t .rows ++ row) k 14 + cell (t .rows ++ row) k 15)
-        ≡ getD (ls ++ (label ∷ [])) k [])
+    offsets = by-place
+        (λ k. itemField (t .rows ++ row) k 14 ≡ labelAfter (take k (ls ++ (label ∷ []))) (getD (is ++ (key ∷ [])) k none))
         ls label
-        (λ k l. rw (front k 14 l (omega arith), front k 15 l (omega arith))
-        (part-front (t .labels) label _ _ (omega arith) (u .inside k l) ∙ u .label k l ∙ sym (List·getD-append ls (label ∷ []) [] k l)))
-        (rw (back 14 ∙ at, back 15 ∙ long) (reads ∙ sym (getD-at ls label [] [] (length ls) refl)));
+        (λ k l. rw (take-append-le k ls (label ∷ []) (omega arith), List·getD-append is (key ∷ []) none k (omega (arith, u .keyed)))
+        (front k 14 l (omega arith) ∙ u .offsets k l))
+        (rw (take-at ls (label ∷ []) (length ls) refl, getD-at is key [] none (length ls) (u .keyed)) (back 14 ∙ at));
+    lengths = by-place (λ k. itemField (t .rows ++ row) k 15 ≡ length (getD (ls ++ (label ∷ [])) k [])) ls label
+        (λ k l. rw (List·getD-append ls (label ∷ []) [] k l) (front k 15 l (omega arith) ∙ u .lengths k l))
+        (rw (getD-at ls label [] [] (length ls) refl) (back 15 ∙ long));
     joins = ap (λ (r : List ℕ). r ++ label) (u .joins) ∙ sym (joined-more ls label);
   }
 
@@ -120,10 +110,14 @@ module _ (text : List ℕ) (mode : ℕ) (all : List Group) (pool : List ℕ) whe
   abbrev its : Placed → List Source → Item → List ℕ
   its p sources i = pick (eqb (p .standing) 2) (labelFor text mode all pool sources i) []
 
-  item-so : (p : Placed) (t : Tally) (i : Item) (rows : List ℕ) (ls : List (List ℕ)) → So t rows ls
-      → So (addItem text mode all pool p t i) (rows ++ rowOf (p .group .integral) i) (ls ++ (its p (t .sources) i ∷ []))
-  unfolding addItem numbered unnumbered cited rowOf recordOf
-  item-so p t i rows ls u = go (eqb (p .standing) 2)
+  -- its key, where it is numbered
+  abbrev key-of : Placed → Item → Option (List ℕ)
+  key-of p i = pick (eqb (p .standing) 2) (some (keyOf text i)) none
+
+  item-so : (p : Placed) (t : Tally) (i : Item) (rows : List ℕ) (ls : List (List ℕ)) (is : List (Option (List ℕ))) → So t rows ls is
+      → So (addItem text mode all pool p t i) (rows ++ rowOf (p .group .integral) i) (ls ++ (its p (t .sources) i ∷ [])) (is ++ (key-of p i ∷ []))
+  unfolding addItem numbered unnumbered cited rowOf recordOf labelAfter
+  item-so p t i rows ls is u = go (eqb (p .standing) 2)
     where
       label : List ℕ
       label = labelFor text mode all pool (t .sources) i
@@ -136,15 +130,14 @@ module _ (text : List ℕ) (mode : ℕ) (all : List Group) (pool : List ℕ) whe
 
       go : (b : Bool)
           → So (pick b (numbered text mode all pool (p .group .integral) t i) (unnumbered (p .group .integral) t i)) (rows ++ flat)
-          (ls ++ (pick b label [] ∷ []))
+          (ls ++ (pick b label [] ∷ [])) (is ++ (pick b (some key) none ∷ []))
       go true =
-          more t rows ls u (used key (t .sources))
+          more t rows ls is u (used key (t .sources))
           (recordOf (p .group .integral) i (numberOf key (t .sources)) (useOf (hasPool pool) key (t .sources)) (span (length (t .labels)) (length label)))
-          flat label (length (t .labels)) refl refl refl refl refl (omega arith) (part-back (t .labels) label)
+          flat label (some key) refl refl refl (ap length (u .joins)) refl
       go false =
-          subst (λ (l : List ℕ). So (tally (t .sources) (t .rows ++ flat) l) (rows ++ flat) (ls ++ ([] ∷ []))) (append-nil (t .labels))
-          (more t rows ls u (t .sources) flat flat [] 0 refl refl refl refl refl (omega arith)
-          (part-is (t .labels ++ []) 0 0 (omega arith) (omega arith)))
+          subst (λ (l : List ℕ). So (tally (t .sources) (t .rows ++ flat) l) (rows ++ flat) (ls ++ ([] ∷ [])) (is ++ (none ∷ []))) (append-nil (t .labels))
+          (more t rows ls is u (t .sources) flat flat [] none refl refl refl refl refl)
 
   -- it is the same by the sources at the end, whatever items and groups come after
   its-stays : (p : Placed) (t : Tally) (i : Item) (is : List Item) (ps : List Placed)
@@ -163,45 +156,40 @@ module _ (text : List ℕ) (mode : ℕ) (all : List Group) (pool : List ℕ) whe
           (sym (numbers-stay text mode all pool p t i is ps (eqb-true (p .standing) 2 q)))
       go false q = refl
 
-  items-so : (p : Placed) (is : List Item) (t : Tally) (rows : List ℕ) (ls : List (List ℕ)) (ps : List Placed) (last : List Source)
-      → fold (addGroup text mode all pool) (fold (addItem text mode all pool p) t is) ps .sources ≡ last → So t rows ls
-      → So (fold (addItem text mode all pool p) t is) (rows ++ rowsIn (p .group .integral) is) (ls ++ map (its p last) is)
+  items-so : (p : Placed) (more : List Item) (t : Tally) (rows : List ℕ) (ls : List (List ℕ)) (is : List (Option (List ℕ))) (ps : List Placed)
+      (last : List Source)
+      → fold (addGroup text mode all pool) (fold (addItem text mode all pool p) t more) ps .sources ≡ last → So t rows ls is
+      → So (fold (addItem text mode all pool p) t more) (rows ++ rowsIn (p .group .integral) more) (ls ++ map (its p last) more)
+      (is ++ map (key-of p) more)
   unfolding fold rowsIn
-  items-so p [] t rows ls ps last e u =
-      subst (λ (r : List ℕ). So t r (ls ++ [])) (sym (append-nil rows))
-      (subst (λ (l : List (List ℕ)). So t rows l) (sym (append-nil ls)) u)
-  items-so p (i ∷ is) t rows ls ps last e u =
-      subst (λ (r : List ℕ). So after r (ls ++ map (its p last) (i ∷ is)))
-      (append-assoc rows (rowOf (p .group .integral) i) (rowsIn (p .group .integral) is))
-      (subst (λ (l : List (List ℕ)). So after ((rows ++ rowOf (p .group .integral) i) ++ rowsIn (p .group .integral) is) l)
-      (append-assoc ls (its p (t .sources) i ∷ []) (map (its p last) is)
-      ∙ ap (λ (x : List ℕ). ls ++ (x ∷ map (its p last) is)) (its-stays p t i is ps ∙ ap (λ (ss : List Source). its p ss i) e))
-      (items-so p is (addItem text mode all pool p t i) (rows ++ rowOf (p .group .integral) i) (ls ++ (its p (t .sources) i ∷ [])) ps last e
-      (item-so p t i rows ls u)))
-    where
-      after : Tally
-      after = fold (addItem text mode all pool p) (addItem text mode all pool p t i) is
+  items-so p [] t rows ls is ps last e u = rw (append-nil rows, append-nil ls, append-nil is) u
+  items-so p (i ∷ more) t rows ls is ps last e u =
+      rw (
+        ← append-assoc rows (rowOf (p .group .integral) i) (rowsIn (p .group .integral) more),
+        ← append-assoc ls (its p last i ∷ []) (map (its p last) more),
+        ← append-assoc is (key-of p i ∷ []) (map (key-of p) more),
+        ← its-stays p t i more ps ∙ ap (λ (ss : List Source). its p ss i) e,
+      )
+      (items-so p more (addItem text mode all pool p t i) (rows ++ rowOf (p .group .integral) i) (ls ++ (its p (t .sources) i ∷ []))
+      (is ++ (key-of p i ∷ [])) ps last e (item-so p t i rows ls is u))
 
-  groups-so : (ps : List Placed) (t : Tally) (rows : List ℕ) (ls : List (List ℕ)) (last : List Source)
-      → fold (addGroup text mode all pool) t ps .sources ≡ last → So t rows ls
+  groups-so : (ps : List Placed) (t : Tally) (rows : List ℕ) (ls : List (List ℕ)) (is : List (Option (List ℕ))) (last : List Source)
+      → fold (addGroup text mode all pool) t ps .sources ≡ last → So t rows ls is
       → So (fold (addGroup text mode all pool) t ps) (rows ++ itemRows (map (λ (p : Placed). p .group) ps))
-      (ls ++ itemLabels text mode all pool last ps)
-  unfolding fold addGroup itemRows itemLabels rowsOf
-  groups-so [] t rows ls last e u =
-      subst (λ (r : List ℕ). So t r (ls ++ [])) (sym (append-nil rows))
-      (subst (λ (l : List (List ℕ)). So t rows l) (sym (append-nil ls)) u)
-  groups-so (p ∷ ps) t rows ls last e u =
-      subst (λ (r : List ℕ). So after r (ls ++ (map (its p last) (p .group .items) ++ itemLabels text mode all pool last ps)))
-      (append-assoc rows (rowsIn (p .group .integral) (p .group .items)) (itemRows (map (λ (p : Placed). p .group) ps)))
-      (subst
-      (λ (l : List (List ℕ)). So after ((rows ++ rowsIn (p .group .integral) (p .group .items)) ++ itemRows (map (λ (p : Placed). p .group) ps)) l)
-      (append-assoc ls (map (its p last) (p .group .items)) (itemLabels text mode all pool last ps))
+      (ls ++ itemLabels text mode all pool last ps) (is ++ itemKeys text ps)
+  unfolding fold addGroup itemRows itemLabels itemKeys rowsOf
+  groups-so [] t rows ls is last e u = rw (append-nil rows, append-nil ls, append-nil is) u
+  groups-so (p ∷ ps) t rows ls is last e u =
+      let labels : ls ++ itemLabels text mode all pool last (p ∷ ps) ≡ (ls ++ map (its p last) (p .group .items)) ++ itemLabels text mode all pool last ps
+      = sym (append-assoc ls (map (its p last) (p .group .items)) (itemLabels text mode all pool last ps)) in
+      rw (
+        ← append-assoc rows (rowsIn (p .group .integral) (p .group .items)) (itemRows (map (λ (p : Placed). p .group) ps)),
+        labels,
+        ← append-assoc is (map (key-of p) (p .group .items)) (itemKeys text ps),
+      )
       (groups-so ps (fold (addItem text mode all pool p) t (p .group .items)) (rows ++ rowsIn (p .group .integral) (p .group .items))
-      (ls ++ map (its p last) (p .group .items)) last e
-      (items-so p (p .group .items) t rows ls ps last e u)))
-    where
-      after : Tally
-      after = fold (addGroup text mode all pool) (fold (addItem text mode all pool p) t (p .group .items)) ps
+      (ls ++ map (its p last) (p .group .items)) (is ++ map (key-of p) (p .group .items)) last e
+      (items-so p (p .group .items) t rows ls is ps last e u))
 
   -- the groups with their standings are the groups
   placed-all : (before : Bool) (from : ℕ) (gs : List Group) → map (λ (p : Placed). p .group) (placedFrom text all pool before from gs) ≡ gs
@@ -210,17 +198,19 @@ module _ (text : List ℕ) (mode : ℕ) (all : List Group) (pool : List ℕ) whe
   placed-all before from (g ∷ gs) = ap (λ (l : List Group). g ∷ l) (placed-all (inLine text before from g) (groupEnd g) gs)
 
   all-so : So (tallyOf text mode all pool) (itemRows all) (itemLabels text mode all pool (tallyOf text mode all pool .sources) (placedOf text all pool))
+      (itemKeys text (placedOf text all pool))
   unfolding tallyOf placedOf joined
   all-so =
-      subst (λ (gs : List Group). So (tallyOf text mode all pool) (itemRows gs) (itemLabels text mode all pool (tallyOf text mode all pool .sources) (placedOf text all pool)))
+      subst (λ (gs : List Group). So (tallyOf text mode all pool) (itemRows gs) (itemLabels text mode all pool (tallyOf text mode all pool .sources) (placedOf text all pool)) (itemKeys text (placedOf text all pool)))
       (placed-all false 0 all)
-      (groups-so (placedOf text all pool) (tally [] [] []) [] [] (tallyOf text mode all pool .sources) refl
+      (groups-so (placedOf text all pool) (tally [] [] []) [] [] [] (tallyOf text mode all pool .sources) refl
       (record {
         count = refl;
         alike = refl;
+        keyed = refl;
         found = λ k c h. absurd (omega arith);
-        inside = λ k h. absurd (omega arith);
-        label = λ k h. absurd (omega arith);
+        offsets = λ k h. absurd (omega arith);
+        lengths = λ k h. absurd (omega arith);
         joins = refl;
       }))
 
@@ -237,6 +227,7 @@ module _ (text : List ℕ) (mode : ℕ) (all : List Group) (pool : List ℕ) whe
         in-order = sources-in-order text mode all pool;
         numbers = λ k h. c .cells k (omega (arith, c .count, u .count, u .alike, n, h));
         uses = λ k h. records-used text mode all pool k h;
-        label = λ k h. u .label k (omega (arith, u .alike, n, h));
         labels = u .joins;
+        label-offsets = λ k h. u .offsets k (omega (arith, u .alike, n, h));
+        label-lengths = λ k h. u .lengths k (omega (arith, u .alike, n, h));
       }

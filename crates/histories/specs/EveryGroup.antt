@@ -1,5 +1,5 @@
--- Demand 2: "with no index or the one that earlier calls left, every group the rules admit is found with those items, locators, numbers,
--- uses and labels, and nothing else is".
+-- Demand 2, in the words of the project's brief: with no index or the one that earlier calls left, every group the rules admit is found with
+-- those items, locators, numbers, uses and labels, and nothing else is.
 use Prim.Native.Nat.{ℕ, _≤_, _<_}
 use mathlib.Core.Path.{_≡_}
 use mathlib.Core.Bool.{true, false}
@@ -70,7 +70,7 @@ pub record CallsFind (text index : List ℕ) (note : ℕ) (records : List Bracke
       → AnnotationFinds text mode pool (length index) (length records) areas (annotateRun text mode pool note index records areas .answer)
 
 -- THEOREM `EveryGroup`, proved in proofs/Demand2: demand 2. The groups of the sweep are all that the rules admit; what is said of them is
--- what the rules say of each item; and "with no index or the one that earlier calls left" the calls find them, say this, and nothing else.
+-- what the rules say of each item; and with no index or the one that earlier calls left the calls find them, say this, and nothing else.
 abbrev pub EveryGroup : Type 0
 EveryGroup =
     (text : List ℕ)

@@ -68,7 +68,7 @@ abbrev pub shown : Done → Answer
 shown (LookedUpOnce k at records items r index' records' items') = OfLookUp (lookUpShows r items')
 shown (AnnotatedOnce k mode pool records areas r index' records' areas') = OfAnnotation (annotationShows r areas')
 
--- the note that it returned, and the state after it
+-- the note that a look-up returned
 abbrev pub lookUpNote : LookUp → ℕ
 lookUpNote (FoundOne close count note) = note
 lookUpNote (FoundNone number note) = note

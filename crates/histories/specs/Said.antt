@@ -1,24 +1,20 @@
 -- What an annotation says of each item of a text's groups, record by record.
-use Prim.Native.Nat.{ℕ, _+_, _*_, _<_}
+use Prim.Native.Nat.{ℕ, _*_, _<_}
 use mathlib.Core.Path.{_≡_}
 use mathlib.Core.List.{List, [], _∷_, _++_, map}
-use mathlib.Core.Option.{none}
+use mathlib.Core.Option.{Option, none, some}
 use lib.ListN.{length, getD, take}
 use lib.Dec.{eqb}
 use Rattle.base.specs.Pick.{pick}
-use Rattle.base.specs.Lists.{part}
 use Rattle.item.specs.declared.Item.{Item}
 use Rattle.item.specs.Group.{Group}
 use Rattle.rows.specs.Rows.{itemWidth}
 use Rattle.pool.specs.Layout.{hasPool}
 use Rattle.standing.specs.Rows.{Placed, itemCount, itemRows, groupRows}
+use Rattle.records.specs.Records.{itemField}
 use Rattle.annotation.specs.Sources.{Source}
 use Rattle.annotation.specs.Content.{Areas, placedOf, labelFor, tallyOf}
 use Rattle.annotation.specs.Facts.{numberedKeys, firstUses, itemNumbers, itemKeys, useAfter}
-
--- the number at place `c` of item record `k`
-abbrev pub cell : List ℕ → ℕ → ℕ → ℕ
-cell rows k c = getD rows (itemWidth * k + c) 0
 
 -- the labels of the items, in item order: in a numbered group by the number of the item's source, in another none
 unfoldable pub itemLabels : List ℕ → ℕ → List Group → List ℕ → List Source → List Placed → List (List ℕ)
@@ -27,10 +23,15 @@ itemLabels text mode all pool sources (p ∷ ps) =
     map (λ (i : Item). pick (eqb (p .standing) 2) (labelFor text mode all pool sources i) []) (p .group .items)
     ++ itemLabels text mode all pool sources ps
 
--- one after the other
+-- lists one after the other
 unfoldable pub joined : List (List ℕ) → List ℕ
 joined [] = []
 joined (l ∷ ls) = l ++ joined ls
+
+-- The offset of an item's label: in a numbered group (the item has a key in `itemKeys`) the length of the labels before it; 0 in another.
+unfoldable pub labelAfter : List (List ℕ) → Option (List ℕ) → ℕ
+labelAfter before none = 0
+labelAfter before (some key) = length (joined before)
 
 -- `content` says of the groups `all`, which have the standings in `placed`, and of their items:
 pub record SaysOf (text : List ℕ) (mode : ℕ) (pool : List ℕ) (all : List Group) (placed : List Placed) (sources : List Source) (content : Areas)
@@ -39,18 +40,23 @@ pub record SaysOf (text : List ℕ) (mode : ℕ) (pool : List ℕ) (all : List G
   pub groups : content .groups ≡ groupRows 0 placed
   -- one record for each item; its first 12 numbers, from prefix to marks, are those of its record when it is looked up
   pub count : length (content .items) ≡ itemWidth * itemCount all
-  pub items : (k c : ℕ) → k < itemCount all → c < 12 → cell (content .items) k c ≡ cell (itemRows all) k c
+  pub items : (k c : ℕ) → k < itemCount all → c < 12 → itemField (content .items) k c ≡ itemField (itemRows all) k c
   -- "A source's number is the order of its first use in numbered groups, from 1."
   pub in-order : map (λ (s : Source). s .key) sources ≡ firstUses [] (numberedKeys text placed)
-  pub numbers : (k : ℕ) → k < itemCount all → cell (content .items) k 12 ≡ getD (itemNumbers text sources placed) k 0
+  pub numbers : (k : ℕ) → k < itemCount all → itemField (content .items) k 12 ≡ getD (itemNumbers text sources placed) k 0
   -- "With a pool present, use indices of a source run 1, 2, and on."
   pub uses : (k : ℕ) → k < itemCount all
-      → cell (content .items) k 13 ≡ useAfter (hasPool pool) (take k (itemKeys text placed)) (getD (itemKeys text placed) k none)
-  -- "label pair into the label bytes". "Labels follow each other from offset 0 in item order."
-  pub label : (k : ℕ) → k < itemCount all
-      → part (content .labels) (cell (content .items) k 14) (cell (content .items) k 14 + cell (content .items) k 15)
-      ≡ getD (itemLabels text mode all pool sources placed) k []
+      → itemField (content .items) k 13 ≡ useAfter (hasPool pool) (take k (itemKeys text placed)) (getD (itemKeys text placed) k none)
+  -- "Labels follow each other from offset 0 in item order."
   pub labels : content .labels ≡ joined (itemLabels text mode all pool sources placed)
+  -- "label pair into the label bytes": its offset, also where the label is empty ("A numbered empty label is its offset with length 0"), and
+  -- 0 "where not numbered"
+  pub label-offsets : (k : ℕ) → k < itemCount all
+      → itemField (content .items) k 14
+      ≡ labelAfter (take k (itemLabels text mode all pool sources placed)) (getD (itemKeys text placed) k none)
+  -- and its length
+  pub label-lengths : (k : ℕ) → k < itemCount all
+      → itemField (content .items) k 15 ≡ length (getD (itemLabels text mode all pool sources placed) k [])
 
 -- with the standings of the groups, and the sources of the numbered ones by number
 abbrev pub Says : List ℕ → ℕ → List ℕ → List Group → Areas → Type 0

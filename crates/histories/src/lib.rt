@@ -1,4 +1,5 @@
-// Demand 2: every group that the rules admit is found, and nothing else. Demand 3: no order of look-ups changes what a reader is shown.
+// Demand 2: every group that the rules admit is found, and nothing else. Demand 3: in every list of
+// calls on one text that share an index, each call gives its plain answer.
 // The functions do nothing; their contracts state the theorems.
 ghost use Rattle.histories.specs.EveryGroup.{EveryGroup};
 ghost use Rattle.histories.specs.Histories.{Histories};

@@ -2,6 +2,8 @@
 -- then "the bytes written".
 use Prim.Native.Nat.{ℕ}
 use mathlib.Core.List.{List, [], _∷_}
+use lib.Dec.{eqb}
+use Rattle.base.specs.Pick.{pick}
 use Rattle.source_text.specs.declared.SourceText.{SourceText}
 use Rattle.source_text.specs.declared.SourceText.the-variants.{Accepted, Refused}
 use Rattle.source_text.specs.Call.{SourceAnswer}
@@ -14,3 +16,7 @@ sourceTextValues (Refused number) = number ∷ 0 ∷ []
 -- the same numbers of the call by its definition
 unfoldable pub sourceTextNumbers : SourceAnswer → List ℕ
 sourceTextNumbers a = a .number ∷ a .bytes ∷ []
+
+-- the answer of the call by its definition: accepted where the number is 0
+unfoldable pub sourceTextAnswer : SourceAnswer → SourceText
+sourceTextAnswer a = pick (eqb (a .number) 0) (Accepted (a .bytes)) (Refused (a .number))

@@ -10,7 +10,7 @@ ghost use Rattle.source_text.specs.Text.{addName, namesOf, beside, headO
 ghost use Rattle.source.specs.Entry.{yearOf};
 ghost use Rattle.source_parts.specs.Parens.{inParens};
 ghost use Rattle.source_text.specs.Call.{sourceTextCall};
-ghost use Rattle.source_text.specs.Values.{sourceTextValues, sourceTextNumbers};
+ghost use Rattle.source_text.specs.Values.{sourceTextValues, sourceTextNumbers, sourceTextAnswer};
 ghost use Rattle.source_text.specs.Room.{Wrote, Fit, NameFits, NextFits};
 ghost use Rattle.base.specs.Fold.{fold};
 ghost use Rattle.pool.specs.Fields.{fieldsOf};
@@ -213,6 +213,7 @@ fn text_len(pool: &[u8], at: usize, e: usize) -> usize
 
 // "source text 7, 8, 10": the text of entry `entry` at the front of `area`. A refusal touches nothing.
 pub fn source_text(pool: &[u8], entry: usize, area: &mut [u8]) -> SourceText
+    ensures { λ r. ⌜ r ≡ sourceTextAnswer (sourceTextCall (now (pool .entry)) entry (now (area .entry))) ⌝ }
     ensures { λ r. ⌜ sourceTextValues r ≡ sourceTextNumbers (sourceTextCall (now (pool .entry)) entry (now (area .entry))) ⌝ }
     ensures { λ _. ⌜ now (area .exit) ≡ sourceTextCall (now (pool .entry)) entry (now (area .entry)) .area ⌝ }
 {
