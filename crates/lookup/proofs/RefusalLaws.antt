@@ -60,7 +60,7 @@ module _ (s : List ℕ) (at n m : ℕ) {r : ℕ} (q : r ≡ textRefusal s) where
 
 pub ruleset refusal-laws = (refused-text, refused-past, refused-other, refused-escaped, refused-few, refused-not)
 
--- Where nothing refuses a look-up before the bracket is looked at: the text is short, it is an unescaped `[`, and both areas have a
+-- Where nothing refuses a look-up before its bracket is resolved: the text is short, it is an unescaped `[`, and both areas have a
 -- record for each byte.
 pub record Unrefused (s : List ℕ) (at n m : ℕ) : Type 0 where
   pub short : length s ≤ 65535
