@@ -12,7 +12,7 @@ pub fn byte_at(s: &[u8], at: usize) -> u8
     if at < s.len() { s[at] } else { 0 }
 }
 
-// The first place from `a` up to `e` that holds the byte `b`, or `e`.
+// The first place from `a` up to `e` that holds the byte `b`, or the later of `a` and `e`.
 pub fn find_byte(s: &[u8], b: u8, a: usize, e: usize) -> usize
     requires { ⌜ e ≤ length (now s) ⌝ }
     ensures { λ r. ⌜ r ≡ firstOf b (now (s .entry)) a e ⌝ }
@@ -27,7 +27,7 @@ pub fn find_byte(s: &[u8], b: u8, a: usize, e: usize) -> usize
     i
 }
 
-// The first place from `a` up to `e` that holds another byte than `b`, or `e`.
+// The first place from `a` up to `e` that holds another byte than `b`, or the later of `a` and `e`.
 pub fn skip_byte(s: &[u8], b: u8, a: usize, e: usize) -> usize
     requires { ⌜ e ≤ length (now s) ⌝ }
     ensures { λ r. ⌜ r ≡ firstOther b (now (s .entry)) a e ⌝ }

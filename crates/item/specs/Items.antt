@@ -28,7 +28,7 @@ keyServes s e k m = ltb k m && (eqb m e || ltb m e && eqb (byteAt s m) 44)
 unfoldable pub wins : List ℕ → ℕ → ℕ → Bool
 wins s e i = atSign s i && keyServes s e (i + 1) (keyEnd s (i + 1))
 
--- "The first .. wins": its place, from `a` on; `e` where there is none
+-- "The first .. wins": its place, from `a` up to `e`; the later of `a` and `e` where there is none
 unfoldable pub winner : List ℕ → ℕ → ℕ → ℕ
 winner s a e = first (wins s e) (e - a) a
 

@@ -27,6 +27,7 @@ pub struct Item {
     pub suppressed: bool,
 }
 
+// What a stretch of the text is parsed to: an item, or none.
 pub enum Parsed {
     Good(Item),
     Bad,
@@ -54,7 +55,7 @@ pub fn items_start(text: &[u8], p: usize) -> usize
     if is_integral(text, p) { p + 2 } else { p + 1 }
 }
 
-// Where the piece that begins at `from` ends: at the first `;`, escaped or nested too, or at `end`.
+// Where the piece that begins at `from` ends: at the first `;`, escaped or nested too, or at the later of `from` and `end`.
 pub fn piece_end(text: &[u8], from: usize, end: usize) -> usize
     requires { ⌜ end ≤ length (now text) ⌝ }
     ensures { λ r. ⌜ r ≡ first (partsAt (now (text .entry))) (end - from) from ⌝ }
@@ -91,7 +92,7 @@ fn wins_at(text: &[u8], e: usize, i: usize) -> bool
     }
 }
 
-// The place of the `@` of the trimmed item from `a` to `e`: the first that wins, or `e`.
+// The place of the `@` of the trimmed item from `a` to `e`: the first that wins, or the later of `a` and `e`.
 fn find_winner(text: &[u8], a: usize, e: usize) -> usize
     requires { ⌜ e ≤ length (now text) ⌝ }
     ensures { λ r. ⌜ r ≡ winner (now (text .entry)) a e ⌝ }

@@ -17,10 +17,12 @@ use Rattle.utf8.proofs.Characters.{refused-after, accepted-after}
 use Rattle.locator.specs.declared.Locator.{Locator}
 use Rattle.locator.specs.Locators.{locatorOf}
 use Rattle.index.specs.Entries.{opensAt}
+use Rattle.lookup.specs.declared.Size.{Size}
 use Rattle.lookup.specs.declared.Size.the-variants.{Accepted as Sized', Refused as Unsized}
+use Rattle.lookup.specs.declared.LocatorAnswer.{LocatorAnswer}
 use Rattle.lookup.specs.declared.LocatorAnswer.the-variants.{Accepted as Located', Refused as Unlocated}
 use Rattle.lookup.specs.Refusals.{tooFew, lookUpRefusal}
-use Rattle.lookup.specs.Others.{located, notLocated, locatorCall, sizeCall}
+use Rattle.lookup.specs.Others.{sized, located, notLocated, locatorCall, locatorAnswer, sizeCall, sizeAnswer}
 use Rattle.lookup.specs.Values.{locatorValues, locatorNumbers, sizeValues, sizeNumbers}
 
 -- `r` is what the text's own refusal gave
@@ -58,7 +60,7 @@ module _ (s : List ℕ) (at n m : ℕ) {r : ℕ} (q : r ≡ textRefusal s) where
 
 pub ruleset refusal-laws = (refused-text, refused-past, refused-other, refused-escaped, refused-few, refused-not)
 
--- Where nothing refuses a look-up before the bracket is looked at: the text is short, it is an unescaped `[`, and both areas have a
+-- Where nothing refuses a look-up before its bracket is resolved: the text is short, it is an unescaped `[`, and both areas have a
 -- record for each byte.
 pub record Unrefused (s : List ℕ) (at n m : ℕ) : Type 0 where
   pub short : length s ≤ 65535
@@ -92,24 +94,42 @@ unrefused s at n m q =
 pub at-there : (s : List ℕ) (at n m : ℕ) {r : ℕ} → r ≡ lookUpRefusal s at n m → r ≡ 0 → at < length s
 at-there s at n m q z = unrefused s at n m (sym q ∙ z) .there
 
--- the size and the locator call
+-- the size and the locator call: the answers,
 module _ (s : List ℕ) {r : ℕ} (q : r ≡ textRefusal s) where
   module _ (n : r ≡ 0 → ⊥) where
-    pub size-refused : sizeValues (Unsized r) ≡ sizeNumbers (sizeCall s)
-    unfolding sizeCall sizeValues sizeNumbers
+    pub size-refused : Unsized r ≡ sizeAnswer s
+    unfolding sizeAnswer
     size-refused = rw (← q, ne-eqb r 0 n)
 
-    pub locator-refused : locatorValues (Unlocated r) ≡ locatorNumbers (locatorCall s)
-    unfolding locatorCall locatorValues locatorNumbers notLocated
+    pub locator-refused : Unlocated r ≡ locatorAnswer s
+    unfolding locatorAnswer
     locator-refused = rw (← q, ne-eqb r 0 n)
 
   module _ (z : r ≡ 0) where
-    pub size-given : sizeValues (Sized' (length s / 3)) ≡ sizeNumbers (sizeCall s)
-    unfolding sizeCall sizeValues sizeNumbers
+    pub size-given : Sized' (length s / 3) ≡ sizeAnswer s
+    unfolding sizeAnswer
     size-given = rw (← q, eq-eqb r 0 z)
 
-    pub locator-given : {l : Locator} → l ≡ locatorOf s 0 (length s) → locatorValues (Located' l) ≡ locatorNumbers (locatorCall s)
-    unfolding locatorCall locatorValues locatorNumbers located
+    pub locator-given : {l : Locator} → l ≡ locatorOf s 0 (length s) → Located' l ≡ locatorAnswer s
+    unfolding locatorAnswer
     locator-given e = rw (← q, eq-eqb r 0 z, e)
 
-pub ruleset call-laws = (size-refused, size-given, locator-refused, locator-given)
+-- and their numbers
+pub size-values : (s : List ℕ) {a : Size} → a ≡ sizeAnswer s → sizeValues a ≡ sizeNumbers (sizeCall s)
+unfolding sizeAnswer sizeCall sizeValues sizeNumbers
+size-values s e = rw e (go (eqb (textRefusal s) 0))
+  where
+    go : (t : Bool) → sizeValues (pick t (Sized' (length s / 3)) (Unsized (textRefusal s))) ≡ sizeNumbers (pick t (sized 0 (length s / 3)) (sized (textRefusal s) 0))
+    go true = refl
+    go false = refl
+
+pub locator-values : (s : List ℕ) {a : LocatorAnswer} → a ≡ locatorAnswer s → locatorValues a ≡ locatorNumbers (locatorCall s)
+unfolding locatorAnswer locatorCall locatorValues locatorNumbers located notLocated
+locator-values s e = rw e (go (eqb (textRefusal s) 0))
+  where
+    go : (t : Bool) → locatorValues (pick t (Located' (locatorOf s 0 (length s))) (Unlocated (textRefusal s)))
+        ≡ locatorNumbers (pick t (located (locatorOf s 0 (length s))) (notLocated (textRefusal s)))
+    go true = refl
+    go false = refl
+
+pub ruleset call-laws = (size-refused, size-given, size-values, locator-refused, locator-given, locator-values)

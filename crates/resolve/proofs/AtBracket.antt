@@ -29,7 +29,7 @@ use Rattle.resolve.specs.Facts.{BracketTrue}
 unfoldable asStored : List ℕ → ℕ → ℕ → Close
 asStored s p v = pick (ltb p v && isAt s v 93) (At v) Nothing
 
--- so it is believed
+-- the close that the unlimited scan finds is believed where an index has it: it lies after its bracket, in the text, at a `]`
 believed : (s : List ℕ) (p c : ℕ) → closeOf s p ≡ At c → asStored s p c ≡ At c
 unfolding asStored
 believed s p c e = rw (lt-ltb p c (close-after s p c e), lt-ltb c (length s) (close-inside s p c e), eq-eqb (byteAt s c) 93 (close-byte s p c e))

@@ -3,7 +3,7 @@ use Prim.Native.Nat.{ℕ, _+_, _-_, _≤_, _<_}
 use native.Mathlib.Omega.{arith}
 use mathlib.Core.Path.{_≡_, refl, sym, _∙_}
 use mathlib.Core.List.{List}
-use mathlib.Core.Bool.{Bool, true, false, _&&_, _||_}
+use mathlib.Core.Bool.{Bool, true, false, _&&_, _||_, and-false}
 use lib.ListN.{length, getD, List·getD-eq-default}
 use lib.Dec.{eqb, leb, ltb}
 use borrow.Author.Tests.{lt-ltb, le-ltb, le-leb, lt-leb, eq-eqb, ne-eqb, ltb-true, eqb-true}
@@ -37,21 +37,19 @@ module _ (s : List ℕ) (p : ℕ) (index : List ℕ) where
   pub stored-past : length index ≤ p → Nothing ≡ storedClose s p index
   stored-past h = stored-before (omega (arith, List·getD-eq-default index 0 h))
 
-  module _ (g : p < getD index p 0) where
-    pub stored-outside : length s ≤ getD index p 0 → Nothing ≡ storedClose s p index
-    unfolding storedClose
-    stored-outside h = rw (lt-ltb p (getD index p 0) g, le-ltb (getD index p 0) (length s) h)
+  pub stored-outside : length s ≤ getD index p 0 → Nothing ≡ storedClose s p index
+  unfolding storedClose
+  stored-outside h = rw (le-ltb (getD index p 0) (length s) h, and-false (ltb p (getD index p 0)))
 
-    module _ (h : getD index p 0 < length s) where
-      pub stored-other : (byteAt s (getD index p 0) ≡ 93 → ⊥) → Nothing ≡ storedClose s p index
-      unfolding storedClose
-      stored-other n = rw (lt-ltb p (getD index p 0) g, lt-ltb (getD index p 0) (length s) h, ne-eqb _ _ n)
+  pub stored-other : (byteAt s (getD index p 0) ≡ 93 → ⊥) → Nothing ≡ storedClose s p index
+  unfolding storedClose
+  stored-other n = simp (ne-eqb (byteAt s (getD index p 0)) 93 n, and-false)
 
-      pub stored-there : byteAt s (getD index p 0) ≡ 93 → At (getD index p 0) ≡ storedClose s p index
-      unfolding storedClose
-      stored-there e = rw (lt-ltb p (getD index p 0) g, lt-ltb (getD index p 0) (length s) h, eq-eqb _ _ e)
+  pub stored-there : p < getD index p 0 → getD index p 0 < length s → byteAt s (getD index p 0) ≡ 93 → At (getD index p 0) ≡ storedClose s p index
+  unfolding storedClose
+  stored-there g h e = rw (lt-ltb p (getD index p 0) g, lt-ltb (getD index p 0) (length s) h, eq-eqb _ _ e)
 
-pub ruleset stored-laws = (stored-before, stored-past, stored-outside, stored-other, stored-there)
+pub ruleset stored-laws = (stored-past, stored-outside, stored-other, stored-there)
 
 -- what a bracket gives before a build, and its close after one ---------------------------------------------------------------------
 
@@ -117,9 +115,6 @@ module _ (s : List ℕ) (p : ℕ) {d : Close} where
     pub at-inside : Inside s p d → c < length s
     at-inside i = (rw e at i) .1
 
-    pub at-byte : Inside s p d → byteAt s c ≡ 93
-    at-byte i = (rw e at i) .2
-
     module _ {b : Bool} (q : b ≡ barred s c) where
       pub match-barred : b ≡ true → NotMatched ≡ matched (judge s p d)
       unfolding judge groupAccepted matched
@@ -134,7 +129,7 @@ module _ (s : List ℕ) (p : ℕ) {d : Close} where
         unfolding judge groupAccepted goodItems matched
         match-bad h = rw (e, sym q ∙ f, bad-some s p c (sym g ∙ h))
 
-pub ruleset match-laws = (barred-is, match-none, at-after, at-inside, at-byte, match-barred, match-good, match-bad)
+pub ruleset match-laws = (barred-is, match-none, at-after, at-inside, match-barred, match-good, match-bad)
 
 -- the closes that the code finds lie after their bracket, in the text, at a `]` ----------------------------------------------------
 

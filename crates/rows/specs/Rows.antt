@@ -56,7 +56,7 @@ unfoldable pub putAt : ℕ → List ℕ → List ℕ → List ℕ
 putAt k [] row = row
 putAt k (v ∷ vs) row = putAt (k + 1) vs (set row k v)
 
--- it keeps its length
+-- `after` is the row after that, which is as long as it was
 abbrev pub Put : ℕ → List ℕ → List ℕ → List ℕ → Type 0
 Put k vs row after = (after ≡ putAt k vs row) × (length after ≡ length row)
 

@@ -8,7 +8,8 @@ use Rattle.base.specs.Lists.{part}
 use Rattle.base.specs.First.{first}
 use Rattle.white.specs.White.{isWhite}
 
--- "Trims Unicode white space": the stretch from `a` to `e` begins, trimmed, at its first byte that is not white; `e` where it has none
+-- "Trims Unicode white space": the stretch from `a` to `e` begins, trimmed, at its first byte that is not white;
+-- the later of `a` and `e` where it has none
 unfoldable pub trimStart : List ℕ → ℕ → ℕ → ℕ
 trimStart s a e = first (λ i. not (isWhite s i)) (e - a) a
 

@@ -30,7 +30,7 @@ pub fn is_white<'a>(r: Reader<'a>) -> bool
     white::is_white_byte(r.text, r.at)
 }
 
-// The reader moved on to the first byte before `end` that is not white, or to `end`.
+// The reader moved on to the first byte before `end` that is not white, or to `end`; it stays where it is if that is past `end`.
 pub fn skip_white<'a>(r: Reader<'a>, end: usize) -> Reader<'a>
     requires { ⌜ end ≤ length (now (r .text)) ⌝ }
     ensures { λ q. ⌜ (q .text ≡ r .entry .text) × (q .at ≡ trimStart (now (r .entry .text)) (r .entry .at) end) ⌝ }

@@ -1,4 +1,5 @@
--- UTF-8: how wide a character is, and the check gone on by a character, in the form of the needs.
+-- UTF-8: how wide a character is, the check gone on by a character or by 64 bytes of ASCII at once, and what refuses a text; in the form of
+-- the needs, and, at the end, of the calls that ask for more.
 use Prim.Native.Nat.{ℕ, zero, suc, _+_, _-_, _%_, _≤_, _<_}
 use native.Mathlib.Omega.{arith}
 use native.Mathlib.Numerals.{add-one}

@@ -1,3 +1,4 @@
+-- `annotation::theorems` meets its contract: the theorems of the files that it names.
 use Rattle.annotation.proofs.Truth.{annotate-true, annotate-leaves, annotate-keeps}
 use Rattle.annotation.proofs.Uses.{uses-added}
 use Rattle.annotation.proofs.Numbers.{sources-in-order, sources-differ, numbers-are-places, numbers-stay}

@@ -1,4 +1,5 @@
--- The loop's invariant: what the whole scan finds is what the rest of it finds, from `i` at the depth `d`. The measure: the bytes left.
+-- `close::close_bracket` meets its contract. The loop's invariant: what the whole scan finds is what the rest of it finds, from `i` at the
+-- depth `d`. The measure: the bytes left. Assumes nothing.
 use Prim.Native.Nat.{_-_, _≤_, _<_}
 use mathlib.Core.Path.{_≡_}
 use lib.ListN.{length}

@@ -1,3 +1,4 @@
+-- `close::short_none` meets its contract: the theorem `ShortNone` of proofs/Laws.
 use Rattle.close.proofs.Laws.{none-64}
 use Rattle.close.proofs.short_none.Statement.{statement}
 use Rattle.close.proofs.short_none.Tie as tie

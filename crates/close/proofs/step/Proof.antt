@@ -1,3 +1,4 @@
+-- `close::step` meets its contract. Assumes nothing.
 use borrow.Author.Needs.{needs}
 use Rattle.close.proofs.Laws.{step-laws}
 use Rattle.close.proofs.step.Statement.{statement}

@@ -1,3 +1,4 @@
+-- `examples::examples_hold` meets its contract: the theorem of proofs/Table.
 use Rattle.examples.proofs.Table.{examples}
 use Rattle.examples.proofs.examples_hold.Statement.{statement}
 use Rattle.examples.proofs.examples_hold.Tie as tie

@@ -1,3 +1,4 @@
+-- `histories::demand_2` meets its contract: the theorem of proofs/Demand2.
 use Rattle.histories.proofs.Demand2.{demand-2}
 use Rattle.histories.proofs.demand_2.Statement.{statement}
 use Rattle.histories.proofs.demand_2.Tie as tie

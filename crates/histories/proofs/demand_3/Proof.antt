@@ -1,3 +1,4 @@
+-- `histories::demand_3` meets its contract: the theorems of proofs/Demand3 and proofs/Promised.
 use Rattle.histories.proofs.Demand3.{demand-3}
 use Rattle.histories.proofs.Promised.{promised-histories}
 use Rattle.histories.proofs.demand_3.Statement.{statement}

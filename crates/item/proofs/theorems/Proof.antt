@@ -1,3 +1,4 @@
+-- `item::theorems` meets its contract: the theorems of proofs/Parts and proofs/Groups.
 use Rattle.item.proofs.Parts.{item-in-order}
 use Rattle.item.proofs.Groups.{items-in-order}
 use Rattle.item.proofs.theorems.Statement.{statement}

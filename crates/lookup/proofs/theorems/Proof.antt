@@ -1,3 +1,4 @@
+-- `lookup::theorems` meets its contract: the theorems of proofs/LooksUp, and two of the crate `resolve`.
 use Rattle.resolve.proofs.AtBracket.{bracket-true}
 use Rattle.resolve.proofs.Parts.{group-in-order}
 use Rattle.lookup.proofs.LooksUp.{look-up-true, look-up-leaves, look-up-keeps}

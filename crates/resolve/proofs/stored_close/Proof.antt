@@ -1,7 +1,7 @@
 -- `resolve::stored_close` meets its contract. Assumes nothing.
 use native.Mathlib.Omega.{arith}
 use borrow.Author.Needs.{needs}
-use Rattle.resolve.proofs.Laws.{stored-laws}
+use Rattle.resolve.proofs.Laws.{stored-laws, stored-before}
 use Rattle.resolve.proofs.stored_close.Statement.{statement}
 use Rattle.resolve.proofs.stored_close.Tie as tie
 
@@ -13,7 +13,7 @@ stored-close-spec =
     (λ c. search (stored-laws, needs))
     (λ c. search (stored-laws, needs))
     (λ c. omega (arith, c .shared-slice-known .given (c .before .before .args .p)))
-    (λ c. search (stored-laws, needs))
+    (λ c. stored-before _ _ _ (omega arith))
     (λ c. search (stored-laws, needs))
     (λ c. search (stored-laws, needs))
     (λ c. search (stored-laws, needs))

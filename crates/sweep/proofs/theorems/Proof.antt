@@ -1,3 +1,4 @@
+-- `sweep::theorems` meets its contract: the theorems of proofs/Sizes and proofs/Stops.
 use Rattle.sweep.proofs.Sizes.{size-enough, size-enough-run}
 use Rattle.sweep.proofs.Stops.{sweep-in-two}
 use Rattle.sweep.proofs.theorems.Statement.{statement}
