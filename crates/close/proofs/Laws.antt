@@ -39,35 +39,30 @@ module _ (d : Depth) (b : ℕ) where
 
 pub ruleset step-laws = (step-pass, step-slash, step-up, step-down, step-on)
 
--- one byte goes at most one deeper
-pub step-le : (d : Depth) (b : ℕ) → stepOf d b .nest ≤ d .nest + 1
+-- what holds of each case of a step holds of the step; only a `]` takes 1 off
+step-cases : (P : Depth → Type 0) (d : Depth) (b : ℕ) → ((e : Bool) → P (depth (d .nest) e)) → P (depth (d .nest + 1) false)
+    → (b ≡ 93 → P (depth (d .nest - 1) false)) → P (stepOf d b)
 unfolding stepOf
-step-le d b = go (d .pass) (eqb b 92) (eqb b 91) (eqb b 93)
+step-cases P d b same up down = go (d .pass) (eqb b 92) (eqb b 91) (eqb b 93) refl
   where
     n : ℕ
     n = d .nest
 
-    go : (e p q r : Bool) → pick e (depth n false) (pick p (depth n true) (pick q (depth (n + 1) false) (pick r (depth (n - 1) false) (depth n false)))) .nest ≤ n + 1
-    go true p q r = omega arith
-    go false true q r = omega arith
-    go false false true r = omega arith
-    go false false false true = omega arith
-    go false false false false = omega arith
+    go : (p x y z : Bool) → eqb b 93 ≡ z
+        → P (pick p (depth n false) (pick x (depth n true) (pick y (depth (n + 1) false) (pick z (depth (n - 1) false) (depth n false)))))
+    go true x y z q = same false
+    go false true y z q = same true
+    go false false true z q = up
+    go false false false true q = down (eqb-true b 93 q)
+    go false false false false q = same false
+
+-- one byte goes at most one deeper
+pub step-le : (d : Depth) (b : ℕ) → stepOf d b .nest ≤ d .nest + 1
+step-le d b = step-cases (λ e. e .nest ≤ d .nest + 1) d b (λ e. omega arith) (omega arith) (λ q. omega arith)
 
 -- one byte that leaves depth 0 is a `]`
 pub step-ends : (d : Depth) (b : ℕ) → 0 < d .nest → stepOf d b .nest ≡ 0 → b ≡ 93
-unfolding stepOf
-step-ends d b h = go (d .pass) (eqb b 92) (eqb b 91) (eqb b 93) refl
-  where
-    go : (p x y z : Bool) → eqb b 93 ≡ z
-        → pick p (depth (d .nest) false) (pick x (depth (d .nest) true) (pick y (depth (d .nest + 1) false)
-        (pick z (depth (d .nest - 1) false) (depth (d .nest) false)))) .nest ≡ 0
-        → b ≡ 93
-    go true x y z e g = absurd (omega arith)
-    go false true y z e g = absurd (omega arith)
-    go false false true z e g = absurd (omega arith)
-    go false false false true e g = eqb-true b 93 e
-    go false false false false e g = absurd (omega arith)
+step-ends d b h = step-cases (λ e. e .nest ≡ 0 → b ≡ 93) d b (λ e z. absurd (omega arith)) (λ z. absurd (omega arith)) (λ q z. q)
 
 -- an unrolled step: `e` is the state after the byte, as a call of `step` leaves it
 close-here : (n : ℕ) (s : List ℕ) (i : ℕ) (d : Depth) {e : Depth} → 0 < n → e ≡ stepOf d (byteAt s i) → e .nest ≡ 0 → closeIn n s i d ≡ At i

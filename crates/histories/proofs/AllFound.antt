@@ -5,29 +5,21 @@ use native.Mathlib.Decide.{decLe}
 use mathlib.Core.Path.{_≡_, refl, sym, subst}
 use mathlib.Core.List.{List, [], _∷_, _++_}
 use mathlib.Core.Logic.{_⊎_, inl, inr}
-use mathlib.Core.Bool.{Bool, true, false, not}
+use mathlib.Core.Bool.{Bool, true, false}
 use lib.ListN.{length}
-use lib.Dec.{eqb, ltb}
-use borrow.Author.Tests.{ltb-true, lt-ltb}
+use lib.Dec.{ltb}
+use borrow.Author.Tests.{lt-ltb}
 use Rattle.base.specs.Pick.{pick}
-use Rattle.base.specs.Lists.{byteAt, isAt}
 use Rattle.base.specs.Sorted.{Each, Sorted}
 use Rattle.base.proofs.Alls.{each-map}
-use Rattle.text.specs.Escape.{escapedAt}
-use Rattle.base.proofs.Bools.{and-left}
 use Rattle.index.specs.Entries.{opensAt}
 use Rattle.resolve.specs.Groups.{GroupAnswer, Found, NoGroup, groupAt}
 use Rattle.item.specs.Group.{Group}
+use Rattle.resolve.proofs.AtBracket.{opens-in}
 use Rattle.resolve.proofs.Parts.{group-in-order}
 use Rattle.definition_line.specs.Lines.{groupEnd}
 use Rattle.sweep.specs.Sweep.{listed, nextAt, foundAt, sweepIn, sweepOf}
 use Rattle.histories.specs.EveryGroup.{Admits, Some, AllOf}
-
--- an unescaped `[` is in the text
-opens-in : (text : List ℕ) (p : ℕ) → opensAt text p ≡ true → p < length text
-unfolding opensAt
-opens-in text p h =
-    ltb-true p (length text) (and-left (ltb p (length text)) (eqb (byteAt text p) 91) (and-left (isAt text p 91) (not (escapedAt text p)) h))
 
 module _ (text : List ℕ) where
   -- what the sweep finds at a place is what the rules admit there

@@ -10,7 +10,7 @@ use Rattle.base.specs.First.{first}
 use Rattle.item.specs.declared.Judged.{Judged}
 use Rattle.item.specs.declared.Judged.the-variants.{Good, Bad}
 use Rattle.item.specs.Items.{itemOf, isGood}
-use Rattle.item.specs.Pieces.{Stretch, stretch, partsAt, pieces, itemsStart, piecesOf, parsed, allGood, itemsOf}
+use Rattle.item.specs.Pieces.{Stretch, stretch, semicolonAt, pieces, itemsStart, piecesOf, parsed, allGood, itemsOf}
 use Rattle.item.specs.Judge.{firstBad, judgedIn, judgedOf}
 use Rattle.item.proofs.Pieces.{pieces-more, pieces-last, items-count}
 
@@ -83,7 +83,7 @@ unfolding judgedOf piecesOf
 judge-start s p c d = rw d (past-none _)
 
 module _ (s : List ℕ) (n a e : ℕ) {w : Judged} {q : ℕ} {b : Bool}
-    (p : w ≡ past n (judgedIn s (pieces s a e))) (d : q ≡ first (partsAt s) (e - a) a) (g : b ≡ isGood (itemOf s a q)) where
+    (p : w ≡ past n (judgedIn s (pieces s a e))) (d : q ≡ first (semicolonAt s) (e - a) a) (g : b ≡ isGood (itemOf s a q)) where
   pub judge-more : q < e → b ≡ true → w ≡ past (n + 1) (judgedIn s (pieces s (q + 1) e))
   unfolding parsed
   judge-more h t = p ∙ rw (pieces-more s a e d h, in-good s (stretch a q) (pieces s (q + 1) e) (sym g ∙ t)) (past-next n _)

@@ -25,7 +25,7 @@ use Rattle.locator.specs.Locators.{locatorOf}
 use Rattle.item.specs.declared.Item.{Item}
 use Rattle.item.specs.declared.Parsed.the-variants.{Good, Bad}
 use Rattle.item.specs.Items.{atSign, keyServes, wins, winner, suppresses, prefixEnd, locatorStart, itemAt, itemIn, itemOf, isGood}
-use Rattle.item.specs.Pieces.{partsAt, integralAt, itemsStart}
+use Rattle.item.specs.Pieces.{semicolonAt, integralAt, itemsStart}
 
 abbrev item : Span → Span → Span → Locator → Bool → Item
 item prefix key whole locator suppressed =
@@ -48,8 +48,8 @@ module _ (s : List ℕ) (p : ℕ) {b : Bool} (q : b ≡ integralAt s p) where
 
 -- the end of a piece ---------------------------------------------------------------------------------------------------------------
 
-pub piece-is : (s : List ℕ) (a e : ℕ) {r : ℕ} → r ≡ firstOf 59 s a e → r ≡ first (partsAt s) (e - a) a
-unfolding partsAt
+pub piece-is : (s : List ℕ) (a e : ℕ) {r : ℕ} → r ≡ firstOf 59 s a e → r ≡ first (semicolonAt s) (e - a) a
+unfolding semicolonAt
 piece-is s a e p = p
 
 -- the `@` that wins ----------------------------------------------------------------------------------------------------------------

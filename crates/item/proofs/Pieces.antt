@@ -14,44 +14,44 @@ use Rattle.base.proofs.Searches.{first-from, first-by}
 use Rattle.item.specs.declared.Parsed.{Parsed}
 use Rattle.item.specs.declared.Parsed.the-variants.{Good, Bad}
 use Rattle.item.specs.Items.{itemOf, isGood}
-use Rattle.item.specs.Pieces.{Stretch, stretch, partsAt, endsPiece, piecesIn, pieces, integralAt, itemsStart, parsed, allGood, kept, itemsIn}
+use Rattle.item.specs.Pieces.{Stretch, stretch, semicolonAt, endsPiece, piecesIn, pieces, integralAt, itemsStart, parsed, allGood, kept, itemsIn}
 
 -- a piece that began at `a` and goes on at `i`, with a `;` among the `n` bytes left
-in-more : (n : ℕ) (s : List ℕ) (a i q : ℕ) → q ≡ first (partsAt s) n i → q < i + n
+in-more : (n : ℕ) (s : List ℕ) (a i q : ℕ) → q ≡ first (semicolonAt s) n i → q < i + n
     → piecesIn n s a i ≡ stretch a q ∷ piecesIn (i + n - (q + 1)) s (q + 1) (q + 1)
 unfolding piecesIn first
 in-more zero s a i q p h = absurd (omega arith)
-in-more (suc n) s a i q p h = go (partsAt s i) p (λ d. in-more n s a (i + 1) q d (omega arith))
+in-more (suc n) s a i q p h = go (semicolonAt s i) p (λ d. in-more n s a (i + 1) q d (omega arith))
   where
-    go : (t : Bool) → q ≡ pick t i (first (partsAt s) n (i + 1))
-        → (q ≡ first (partsAt s) n (i + 1) → piecesIn n s a (i + 1) ≡ stretch a q ∷ piecesIn (i + 1 + n - (q + 1)) s (q + 1) (q + 1))
+    go : (t : Bool) → q ≡ pick t i (first (semicolonAt s) n (i + 1))
+        → (q ≡ first (semicolonAt s) n (i + 1) → piecesIn n s a (i + 1) ≡ stretch a q ∷ piecesIn (i + 1 + n - (q + 1)) s (q + 1) (q + 1))
         → endsPiece t (stretch a i) (piecesIn n s (pick t (i + 1) a) (i + 1))
         ≡ stretch a q ∷ piecesIn (i + suc n - (q + 1)) s (q + 1) (q + 1)
     go true d rest = let e : i + suc n - (i + 1) ≡ n = omega arith in rw (d, e)
     go false d rest = let e : i + suc n - (q + 1) ≡ i + 1 + n - (q + 1) = omega arith in rw e (rest d)
 
 -- and with none
-in-last : (n : ℕ) (s : List ℕ) (a i q : ℕ) → q ≡ first (partsAt s) n i → i + n ≤ q → piecesIn n s a i ≡ stretch a q ∷ []
+in-last : (n : ℕ) (s : List ℕ) (a i q : ℕ) → q ≡ first (semicolonAt s) n i → i + n ≤ q → piecesIn n s a i ≡ stretch a q ∷ []
 unfolding piecesIn first
 in-last zero s a i q p h = rw p
-in-last (suc n) s a i q p h = go (partsAt s i) p (λ d. in-last n s a (i + 1) q d (omega arith))
+in-last (suc n) s a i q p h = go (semicolonAt s i) p (λ d. in-last n s a (i + 1) q d (omega arith))
   where
-    go : (t : Bool) → q ≡ pick t i (first (partsAt s) n (i + 1))
-        → (q ≡ first (partsAt s) n (i + 1) → piecesIn n s a (i + 1) ≡ stretch a q ∷ [])
+    go : (t : Bool) → q ≡ pick t i (first (semicolonAt s) n (i + 1))
+        → (q ≡ first (semicolonAt s) n (i + 1) → piecesIn n s a (i + 1) ≡ stretch a q ∷ [])
         → endsPiece t (stretch a i) (piecesIn n s (pick t (i + 1) a) (i + 1)) ≡ stretch a q ∷ []
     go true d rest = absurd (omega arith)
     go false d rest = rest d
 
 -- the stretch from `a` to `e`, its first piece ending at `q`
-module _ (s : List ℕ) (a e : ℕ) {q : ℕ} (p : q ≡ first (partsAt s) (e - a) a) where
+module _ (s : List ℕ) (a e : ℕ) {q : ℕ} (p : q ≡ first (semicolonAt s) (e - a) a) where
   pub piece-from : a ≤ q
-  piece-from = omega (arith, first-from (partsAt s) (e - a) a)
+  piece-from = omega (arith, first-from (semicolonAt s) (e - a) a)
 
   pub piece-by : a ≤ e → q ≤ e
-  piece-by h = omega (arith, first-by (partsAt s) (e - a) a)
+  piece-by h = omega (arith, first-by (semicolonAt s) (e - a) a)
 
   pub piece-fits : a ≤ length s → e ≤ length s → q ≤ length s
-  piece-fits h g = omega (arith, first-by (partsAt s) (e - a) a)
+  piece-fits h g = omega (arith, first-by (semicolonAt s) (e - a) a)
 
   pub pieces-more : q < e → pieces s a e ≡ stretch a q ∷ pieces s (q + 1) e
   unfolding pieces
@@ -93,7 +93,7 @@ module _ (s : List ℕ) (a e : ℕ) {q : ℕ} (p : q ≡ first (partsAt s) (e - 
 
 -- the items of the bracket at `p` begin right after it or one byte on
 module _ (s : List ℕ) (p : ℕ) {a : ℕ} (d : a ≡ itemsStart s p) where
-  pub starts-after : p < a
+  starts-after : p < a
   unfolding itemsStart
   starts-after = rw d (go (integralAt s p))
     where
@@ -113,14 +113,14 @@ module _ (s : List ℕ) (p : ℕ) {a : ℕ} (d : a ≡ itemsStart s p) where
   starts-past = omega (arith, starts-after)
 
   -- the first piece before a close at `c` ends in the text
-  pub first-fits : (c : ℕ) {q : ℕ} → q ≡ first (partsAt s) (c - a) a → p < c → c < length s → q ≤ length s
+  pub first-fits : (c : ℕ) {q : ℕ} → q ≡ first (semicolonAt s) (c - a) a → p < c → c < length s → q ≤ length s
   first-fits c e h g = piece-fits s a c e (omega (arith, starts-by)) (omega arith)
 
 -- the piece after a `;` at `i` ends in the text
-pub next-fits : (s : List ℕ) (i e : ℕ) {q : ℕ} → q ≡ first (partsAt s) (e - (i + 1)) (i + 1) → i < e → e < length s → q ≤ length s
+pub next-fits : (s : List ℕ) (i e : ℕ) {q : ℕ} → q ≡ first (semicolonAt s) (e - (i + 1)) (i + 1) → i < e → e < length s → q ≤ length s
 next-fits s i e p h g = piece-fits s (i + 1) e p (omega arith) (omega arith)
 
-pub ruleset piece-laws = (piece-from, piece-by, next-fits, first-fits, starts-after, starts-past)
+pub ruleset piece-laws = (piece-from, first-fits, starts-past)
 
 -- where all pieces are good there are as many items as pieces
 pub items-count : (s : List ℕ) (qs : List Stretch) → allGood s qs ≡ true → length (itemsIn s qs) ≡ length qs

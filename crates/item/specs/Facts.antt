@@ -1,13 +1,12 @@
 -- What the paper claims of an item's parts, as types: THEOREMS, proved in proofs/.
-use Prim.Native.Nat.{ℕ, _+_, _≤_, _<_}
+use Prim.Native.Nat.{ℕ, _+_, _<_}
 use mathlib.Core.Path.{_≡_}
 use mathlib.Core.List.{List, [], _∷_}
 use Rattle.base.specs.Lists.{byteAt}
 use Rattle.base.specs.Sorted.{Each}
 use Rattle.base.specs.declared.Span.{Span}
 use Rattle.base.specs.Spans.{presentOf, InOrder}
-use Rattle.locator.specs.declared.Locator.{Locator}
-use Rattle.locator.specs.Answers.{codeOf, valueOf, suffixOf}
+use Rattle.locator.specs.Answers.{valueOf, suffixOf}
 use Rattle.item.specs.declared.Item.{Item}
 use Rattle.item.specs.declared.Parsed.the-variants.{Good}
 use Rattle.item.specs.Items.{itemOf}
@@ -26,16 +25,3 @@ ItemInOrder = (s : List ℕ) (a e : ℕ) (it : Item) → itemOf s a e ≡ Good i
 abbrev pub ItemsInOrder : Type 0
 ItemsInOrder =
     (s : List ℕ) (p c : ℕ) → p < c → byteAt s c ≡ 93 → Each (λ (it : Item). InOrder (p + 1) c (presentOf (partsOf it))) (itemsOf s p c)
-
--- each part ends by `n`, so that its offset and its length are at most `n` too; a code is at most 16
-pub record LocatorWithin (n : ℕ) (l : Locator) : Type 0 where
-  pub value : valueOf l .at + valueOf l .len ≤ n
-  pub suffix : suffixOf l .at + suffixOf l .len ≤ n
-  pub code : codeOf l ≤ 16
-
--- the same of an item's parts
-pub record ItemWithin (n : ℕ) (it : Item) : Type 0 where
-  pub prefix : it .prefix .at + it .prefix .len ≤ n
-  pub key : it .key .at + it .key .len ≤ n
-  pub whole : it .whole .at + it .whole .len ≤ n
-  pub locator : LocatorWithin n (it .locator)

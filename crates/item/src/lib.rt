@@ -15,7 +15,7 @@ ghost use Rattle.base.specs.First.{first};
 ghost use Rattle.item.specs.Facts.{ItemInOrder, ItemsInOrder};
 ghost use Rattle.key.specs.Keys.{keyEnd};
 ghost use Rattle.item.specs.Items.{keyServes, wins, winner, suppresses, prefixEnd, itemAt, itemOf, isGood};
-ghost use Rattle.item.specs.Pieces.{partsAt, integralAt, itemsStart};
+ghost use Rattle.item.specs.Pieces.{semicolonAt, integralAt, itemsStart};
 ghost use Rattle.item.specs.Judge.{judgedOf};
 
 // The parts of an item; `whole` is the whole locator.
@@ -58,7 +58,7 @@ pub fn items_start(text: &[u8], p: usize) -> usize
 // Where the piece that begins at `from` ends: at the first `;`, escaped or nested too, or at the later of `from` and `end`.
 pub fn piece_end(text: &[u8], from: usize, end: usize) -> usize
     requires { ⌜ end ≤ length (now text) ⌝ }
-    ensures { λ r. ⌜ r ≡ first (partsAt (now (text .entry))) (end - from) from ⌝ }
+    ensures { λ r. ⌜ r ≡ first (semicolonAt (now (text .entry))) (end - from) from ⌝ }
 {
     base::bytes::find_byte(text, b';', from, end)
 }
@@ -108,7 +108,7 @@ fn find_winner(text: &[u8], a: usize, e: usize) -> usize
 }
 
 // Whether the stretch from `start` to `end` is a good item.
-pub fn is_good_item(text: &[u8], start: usize, end: usize) -> bool
+fn is_good_item(text: &[u8], start: usize, end: usize) -> bool
     requires { ⌜ end ≤ length (now text) ⌝ }
     ensures { λ r. ⌜ r ≡ isGood (itemOf (now (text .entry)) start end) ⌝ }
 {

@@ -20,7 +20,7 @@ use Rattle.close.specs.Scan.{closeOf}
 use Rattle.item.specs.declared.Item.{Item}
 use Rattle.item.specs.declared.Parsed.the-variants.{Good, Bad}
 use Rattle.item.specs.Items.{atSign, keyServes, wins, winner, itemAt, itemIn, itemOf}
-use Rattle.item.specs.Pieces.{stretch, partsAt, endsPiece, piecesIn, pieces, integralAt, itemsStart, piecesOf, parsed, kept, itemsIn, itemsOf}
+use Rattle.item.specs.Pieces.{stretch, semicolonAt, endsPiece, piecesIn, pieces, integralAt, itemsStart, piecesOf, parsed, kept, itemsIn, itemsOf}
 use Rattle.index.specs.Entries.{opensAt}
 use Rattle.base.proofs.Bools.{and-left, and-right}
 use Rattle.base.proofs.Searches.{first-from, first-holds}
@@ -101,7 +101,7 @@ item-keys s a e rest =
 pieces-keys : (s : List ℕ) (n a i : ℕ) → a ≤ i → keysIn (itemsIn s (piecesIn n s a i)) ≤ i - a + n + 1
 unfolding itemsIn piecesIn parsed keysIn
 pieces-keys s zero a i h = let k = item-keys s a i [] in omega arith
-pieces-keys s (suc n) a i h = go (partsAt s i) (pieces-keys s n (i + 1) (i + 1) (omega arith)) (pieces-keys s n a (i + 1) (omega arith))
+pieces-keys s (suc n) a i h = go (semicolonAt s i) (pieces-keys s n (i + 1) (i + 1) (omega arith)) (pieces-keys s n a (i + 1) (omega arith))
   where
     go : (t : Bool) → keysIn (itemsIn s (piecesIn n s (i + 1) (i + 1))) ≤ i + 1 - (i + 1) + n + 1
         → keysIn (itemsIn s (piecesIn n s a (i + 1))) ≤ i + 1 - a + n + 1

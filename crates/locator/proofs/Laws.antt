@@ -1,19 +1,21 @@
 -- What callers cite of a locator: its code, and where its parts lie. `l` is what `parse_locator` gave.
-use Prim.Native.Nat.{ℕ, _+_, _-_, _≤_}
+use Prim.Native.Nat.{ℕ, _+_, _≤_}
 use native.Mathlib.Omega.{arith}
 use mathlib.Core.Path.{_≡_, refl}
 use mathlib.Core.List.{List, [], _∷_}
 use mathlib.Core.Bool.{Bool, true, false, _&&_}
 use lib.ListN.{length}
 use lib.Dec.{eqb, leb}
-use borrow.Author.Tests.{leb-true, eqb-true, eqb-false, ne-eqb}
+use borrow.Author.Tests.{leb-true}
 use Rattle.base.specs.Pick.{pick}
 use Rattle.base.specs.Ascii.{ascii}
 use Rattle.base.specs.Lists.{byteAt}
 use Rattle.base.specs.declared.Span.{Span}
-use Rattle.base.specs.Spans.{missing, spanOf, presentOf, InOrder}
+use Rattle.base.specs.Sorted.{Each}
+use Rattle.base.specs.Spans.{missing, spanOf}
 use Rattle.base.proofs.Bools.{and-left, and-right}
 use Rattle.base.proofs.Spans.{span-there}
+use Rattle.base.proofs.Orders.{all-by}
 use Rattle.locator.specs.declared.Locator.{Locator}
 use Rattle.locator.specs.declared.Locator.the-variants.{Nothing, Plain, Labelled}
 use Rattle.locator.specs.Matchers.{Matcher, matchers, no-code, code-page}
@@ -81,35 +83,13 @@ module _ (s : List ℕ) (a e : ℕ) where
       rw q
       (by-cases (λ l. suffixOf l .len ≡ 0 → suffixOf l ≡ missing) s a e (λ h. refl) (λ i. span-there i e) (λ i x y z. span-there z e))
 
--- of two spans in order, each that is there ends by `hi`
-first-in : (p r : Span) (lo hi : ℕ) → InOrder lo hi (presentOf (p ∷ r ∷ [])) → (p .len ≡ 0 → ⊥) → p .at + p .len ≤ hi
-unfolding presentOf
-first-in p r lo hi o n = let w = rw (ne-eqb (p .len) 0 n) at o in w .1
-
-last-in : (p r : Span) (lo hi : ℕ) → InOrder lo hi (presentOf (p ∷ r ∷ [])) → (r .len ≡ 0 → ⊥) → r .at + r .len ≤ hi
-unfolding presentOf
-last-in p r lo hi o n = go (eqb (p .len) 0) (rw (ne-eqb (r .len) 0 n) at o)
-  where
-    go : (t : Bool) → InOrder lo hi (pick t (r ∷ []) (p ∷ r ∷ [])) → r .at + r .len ≤ hi
-    go true w = w .1
-    go false w = w .2 .1
-
--- a span that is there ends by `e`, and one that is missing is 0 0
-ends-by : (p : Span) (e : ℕ) → (p .len ≡ 0 → p ≡ missing) → ((p .len ≡ 0 → ⊥) → p .at + p .len ≤ e) → p .at + p .len ≤ e
-ends-by p e m h = go (eqb (p .len) 0) refl
-  where
-    go : (t : Bool) → eqb (p .len) 0 ≡ t → p .at + p .len ≤ e
-    go true q = rw (m (eqb-true (p .len) 0 q)) (omega arith)
-    go false q = h (eqb-false (p .len) 0 q)
-
 -- where value and suffix end, present or missing
 module _ (s : List ℕ) (a e : ℕ) where
+  ends : Each (λ (p : Span). p .at + p .len ≤ e) (valueOf (locatorOf s a e) ∷ suffixOf (locatorOf s a e) ∷ [])
+  ends = all-by _ a e (value-missing s a e refl, (suffix-missing s a e refl, tt)) (locator-in-order s a e)
+
   pub value-ends : valueOf (locatorOf s a e) .at + valueOf (locatorOf s a e) .len ≤ e
-  value-ends =
-      let v = valueOf (locatorOf s a e) in
-      ends-by v e (value-missing s a e refl) (λ n. first-in v (suffixOf (locatorOf s a e)) a e (locator-in-order s a e) n)
+  value-ends = ends .0
 
   pub suffix-ends : suffixOf (locatorOf s a e) .at + suffixOf (locatorOf s a e) .len ≤ e
-  suffix-ends =
-      let w = suffixOf (locatorOf s a e) in
-      ends-by w e (suffix-missing s a e refl) (λ n. last-in (valueOf (locatorOf s a e)) w a e (locator-in-order s a e) n)
+  suffix-ends = ends .1 .0

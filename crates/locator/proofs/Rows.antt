@@ -109,4 +109,4 @@ module _ (words : List ℕ) (rows : List (List ℕ)) (k : ℕ) where
         let z : drop k matchers ≡ [] = drop-of-length-le matchers {i = k} (omega (arith, as-many words rows matchers t)) in
         sym (l ∙ rw z refl)
 
-pub ruleset rows = (row-order, row-room, match-next, match-here, match-none)
+pub ruleset rows = (row-order, row-room, match-none)

@@ -110,8 +110,6 @@ pub ruleset words = (
   fits-all,
   fits-end,
   fits-not,
-  fits-more,
-  stands-first,
   stands-by,
   stands-not,
 )

@@ -48,10 +48,10 @@ module _ (s : List ℕ) (p : ℕ) (d : Close) where
         go NoGroup h = refl
 
     module _ {c n : ℕ} (e : m ≡ MatchedGroup c n) where
-      pub matched-at : d ≡ At c
+      matched-at : d ≡ At c
       matched-at = matched-is (sym q ∙ e) .0
 
-      pub matched-accepted : groupAccepted s p c ≡ true
+      matched-accepted : groupAccepted s p c ≡ true
       matched-accepted = matched-is (sym q ∙ e) .1
 
       pub matched-count : n ≡ length (itemsOf s p c)
@@ -61,7 +61,7 @@ module _ (s : List ℕ) (p : ℕ) (d : Close) where
       unfolding judge
       matched-found = rw (matched-at, matched-accepted)
 
-      pub matched-good : goodItems s p c ≡ true
+      matched-good : goodItems s p c ≡ true
       unfolding groupAccepted
       matched-good = and-right (not (barred s c)) (goodItems s p c) matched-accepted
 
@@ -74,5 +74,3 @@ module _ (s : List ℕ) (p : ℕ) (d : Close) where
         good = matched-good;
         room = rw matched-count at r;
       }
-
-pub ruleset matched-laws = (matched-none, matched-at, matched-accepted, matched-count, matched-found, matched-good, matched-writable)

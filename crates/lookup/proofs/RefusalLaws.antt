@@ -6,10 +6,9 @@ use mathlib.Core.List.{List}
 use mathlib.Core.Bool.{Bool, true, false, _&&_, _||_, not}
 use lib.ListN.{length}
 use lib.Dec.{eqb, ltb}
-use borrow.Author.Tests.{lt-ltb, le-ltb, eq-eqb, ne-eqb, ltb-true, ltb-false}
+use borrow.Author.Tests.{lt-ltb, le-ltb, eq-eqb, ne-eqb, ltb-false}
 use Rattle.base.specs.Pick.{pick}
 use Rattle.base.specs.Lists.{byteAt, isAt}
-use Rattle.base.proofs.Bools.{and-left}
 use Rattle.utf8.specs.Utf8.{tooLong, utf8}
 use Rattle.text.specs.Escape.{escapedAt}
 use Rattle.utf8.specs.Refusal.{afterText, textRefusal}
@@ -17,6 +16,7 @@ use Rattle.utf8.proofs.Characters.{refused-after, accepted-after}
 use Rattle.locator.specs.declared.Locator.{Locator}
 use Rattle.locator.specs.Locators.{locatorOf}
 use Rattle.index.specs.Entries.{opensAt}
+use Rattle.resolve.proofs.AtBracket.{opens-in}
 use Rattle.lookup.specs.declared.Size.{Size}
 use Rattle.lookup.specs.declared.Size.the-variants.{Accepted as Sized', Refused as Unsized}
 use Rattle.lookup.specs.declared.LocatorAnswer.{LocatorAnswer}
@@ -75,7 +75,7 @@ unrefused s at n m q =
     let r = go (tooLong s) (utf8 s) (isAt s at 91) (escapedAt s at) (ltb n (length s)) (ltb m (length s)) q in
     record {
       short = ltb-false 65535 (length s) (r .0);
-      there = ltb-true at (length s) (and-left (ltb at (length s)) (eqb (byteAt s at) 91) (and-left (isAt s at 91) (not (escapedAt s at)) (r .1)));
+      there = opens-in s at (r .1);
       opens = r .1;
       wide = ltb-false n (length s) (r .2);
       long = ltb-false m (length s) (r .3);

@@ -28,7 +28,7 @@ use Rattle.resolve.specs.Looks.{lookOf, isBuild, closeAfter, matched, Inside}
 use Rattle.lookup.specs.Refusals.{lookUpRefusal}
 use Rattle.lookup.specs.LookUps.{lookUpRefused, lookUpGives, lookUpAnswers, lookedUp, lookUpBuilds, ranWith, lookUpRun}
 use Rattle.lookup.specs.Values.{lookUpValues, lookUpNumbers}
-use Rattle.lookup.specs.Steps.{preparedOf, buildWanted, Fine, answered, finishedOf, finishedItems}
+use Rattle.lookup.specs.Steps.{preparedOf, preparedWants, CanFinish, answered, finishedOf, finishedItems}
 use Rattle.lookup.proofs.Laws.{matched-none, matched-found, matched-count}
 use Rattle.resolve.proofs.Laws.{look-inside, after-inside}
 use Rattle.resolve.proofs.Runs.{look-wants, look-close}
@@ -46,12 +46,12 @@ module _ (s : List ℕ) (at note : ℕ) (index : List ℕ) (m : ℕ) {r : ℕ} (
   prepare-ready z e = rw (← q, eq-eqb r 0 z, e)
 
 module _ {p : Prepared} where
-  pub wants-none : {number : ℕ} → p ≡ NotReady number → false ≡ buildWanted p
-  unfolding buildWanted
+  pub wants-none : {number : ℕ} → p ≡ NotReady number → false ≡ preparedWants p
+  unfolding preparedWants
   wants-none e = rw e
 
-  pub wants-look : {l : Look} {b : Bool} → p ≡ Ready l → b ≡ isBuild l → b ≡ buildWanted p
-  unfolding buildWanted
+  pub wants-look : {l : Look} {b : Bool} → p ≡ Ready l → b ≡ isBuild l → b ≡ preparedWants p
+  unfolding preparedWants
   wants-look e h = h ∙ rw e
 
 module _ {b : Bool} (note : ℕ) where
@@ -120,13 +120,13 @@ module _ (s : List ℕ) (at note : ℕ) (index items : List ℕ) {p : Prepared} 
     finish-kept = rw e
 
   module _ {l : Look} (e : p ≡ Ready l) where
-    pub ready-short : Fine s at p → length s ≤ 65535
+    pub ready-short : CanFinish s at p → length s ≤ 65535
     ready-short f = (rw e at f) .0
 
-    pub ready-there : Fine s at p → at < length s
+    pub ready-there : CanFinish s at p → at < length s
     ready-there f = (rw e at f) .1
 
-    pub ready-inside : {d : Close} → Fine s at p → d ≡ closeAfter s at index l → Inside s at d
+    pub ready-inside : {d : Close} → CanFinish s at p → d ≡ closeAfter s at index l → Inside s at d
     ready-inside f g = rw g (after-inside s at index l ((rw e at f) .2))
 
     module _ {d : Close} (g : d ≡ closeAfter s at index l) where
@@ -144,26 +144,26 @@ pub ruleset finish-laws = (finish-refused, finish-kept, ready-short, ready-there
 -- the call as run ------------------------------------------------------------------------------------------------------------------
 
 -- the first half gives what the second asks for
-pub prepared-fine : (s : List ℕ) (at note : ℕ) (index : List ℕ) (m : ℕ) → Fine s at (preparedOf s at note index m)
+pub can-finish : (s : List ℕ) (at note : ℕ) (index : List ℕ) (m : ℕ) → CanFinish s at (preparedOf s at note index m)
 unfolding preparedOf
-prepared-fine s at note index m = go (eqb (lookUpRefusal s at (length index) m) 0) refl
+can-finish s at note index m = go (eqb (lookUpRefusal s at (length index) m) 0) refl
   where
     go : (t : Bool) → eqb (lookUpRefusal s at (length index) m) 0 ≡ t
-        → Fine s at (pick t (Ready (lookOf s at note index)) (NotReady (lookUpRefusal s at (length index) m)))
+        → CanFinish s at (pick t (Ready (lookOf s at note index)) (NotReady (lookUpRefusal s at (length index) m)))
     go true q = let u = unrefused s at (length index) m (eqb-true _ 0 q) in (u .short, u .there, look-inside s at note index)
     go false q = tt
 
 module _ (s : List ℕ) (at note : ℕ) (index : List ℕ) (m : ℕ) where
-  pub prepared-builds : buildWanted (preparedOf s at note index m) ≡ lookUpBuilds s at note (length index) m
-  unfolding preparedOf buildWanted lookUpBuilds
+  pub prepared-builds : preparedWants (preparedOf s at note index m) ≡ lookUpBuilds s at note (length index) m
+  unfolding preparedOf preparedWants lookUpBuilds
   prepared-builds = go (eqb (lookUpRefusal s at (length index) m) 0)
     where
-      go : (t : Bool) → buildWanted (pick t (Ready (lookOf s at note index)) (NotReady (lookUpRefusal s at (length index) m))) ≡ t && wantsBuild s at note
+      go : (t : Bool) → preparedWants (pick t (Ready (lookOf s at note index)) (NotReady (lookUpRefusal s at (length index) m))) ≡ t && wantsBuild s at note
       go true = look-wants s at note index
       go false = refl
 
   -- what the build asks for
-  module _ (w : buildWanted (preparedOf s at note index m) ≡ true) where
+  module _ (w : preparedWants (preparedOf s at note index m) ≡ true) where
     wanted : Unrefused s at (length index) m
     unfolding lookUpBuilds
     wanted = unrefused s at (length index) m (eqb-true _ 0 (and-left (eqb (lookUpRefusal s at (length index) m) 0) _ (sym prepared-builds ∙ w)))
@@ -193,7 +193,7 @@ answered-values NoGroup note items = refl
 
 -- `w` is whether the index was built, and `after` what it is then
 module _ (s : List ℕ) (at note : ℕ) (index : List ℕ) (records : List Bracket) (items : List ℕ) {w : Bool} {after : List ℕ}
-    (q : w ≡ buildWanted (preparedOf s at note index (length records))) (e : after ≡ pick w (builtIndex s index) index) where
+    (q : w ≡ preparedWants (preparedOf s at note index (length records))) (e : after ≡ pick w (builtIndex s index) index) where
   abbrev r : ℕ
   r = lookUpRefusal s at (length index) (length records)
 
@@ -203,10 +203,10 @@ module _ (s : List ℕ) (at note : ℕ) (index : List ℕ) (records : List Brack
   pub finished-values
       : lookUpValues (finishedOf s at note (preparedOf s at note index (length records)) after items)
       ≡ lookUpNumbers (lookUpRun s at note index records items)
-  unfolding preparedOf buildWanted finishedOf lookUpRun ranWith lookedUp lookUpNumbers lookUpValues groupAsRun lookUpBuilds lookUpRefused noteAfter
+  unfolding preparedOf preparedWants finishedOf lookUpRun ranWith lookedUp lookUpNumbers lookUpValues groupAsRun lookUpBuilds lookUpRefused noteAfter
   finished-values = rw (e, q) (go (eqb (lookUpRefusal s at (length index) (length records)) 0))
     where
-      go : (t : Bool) → lookUpValues (finishedOf s at note (P t) (pick (buildWanted (P t)) (builtIndex s index) index) items)
+      go : (t : Bool) → lookUpValues (finishedOf s at note (P t) (pick (preparedWants (P t)) (builtIndex s index) index) items)
           ≡ pick t (lookUpAnswers (groupAsRun s at note index) items) (lookUpRefused r items) .number
           ∷ pick t (lookUpAnswers (groupAsRun s at note index) items) (lookUpRefused r items) .close
           ∷ pick t (lookUpAnswers (groupAsRun s at note index) items) (lookUpRefused r items) .count
@@ -216,10 +216,10 @@ module _ (s : List ℕ) (at note : ℕ) (index : List ℕ) (records : List Brack
 
   pub finished-items
       : finishedItems s at (preparedOf s at note index (length records)) after items ≡ lookUpRun s at note index records items .answer .items
-  unfolding preparedOf buildWanted finishedItems lookUpRun ranWith lookedUp groupAsRun lookUpRefused
+  unfolding preparedOf preparedWants finishedItems lookUpRun ranWith lookedUp groupAsRun lookUpRefused
   finished-items = rw (e, q) (go (eqb (lookUpRefusal s at (length index) (length records)) 0))
     where
-      go : (t : Bool) → finishedItems s at (P t) (pick (buildWanted (P t)) (builtIndex s index) index) items
+      go : (t : Bool) → finishedItems s at (P t) (pick (preparedWants (P t)) (builtIndex s index) index) items
           ≡ pick t (lookUpAnswers (groupAsRun s at note index) items) (lookUpRefused r items) .items
       go true = ap (λ (c : Close). lookUpAnswers (judge s at c) items .items) (look-close s at note index)
       go false = refl

@@ -21,15 +21,15 @@ unfoldable pub preparedOf : List ℕ → ℕ → ℕ → List ℕ → ℕ → Pr
 preparedOf s at note index m =
     pick (eqb (lookUpRefusal s at (length index) m) 0) (Ready (lookOf s at note index)) (NotReady (lookUpRefusal s at (length index) m))
 
--- the look-up asks for a build
-unfoldable pub buildWanted : Prepared → Bool
-buildWanted (NotReady number) = false
-buildWanted (Ready l) = isBuild l
+-- the prepared look-up asks for a build (`wantsBuild` of the crate `resolve` says the same of a bracket)
+unfoldable pub preparedWants : Prepared → Bool
+preparedWants (NotReady number) = false
+preparedWants (Ready l) = isBuild l
 
 -- what the second half asks for of the first
-abbrev pub Fine : List ℕ → ℕ → Prepared → Type 0
-Fine s at (NotReady number) = Unit {0}
-Fine s at (Ready l) = (length s ≤ 65535) × (at < length s) × LookInside s at l
+abbrev pub CanFinish : List ℕ → ℕ → Prepared → Type 0
+CanFinish s at (NotReady number) = Unit {0}
+CanFinish s at (Ready l) = (length s ≤ 65535) × (at < length s) × LookInside s at l
 
 -- the answer from what the bracket gives: "5 no group at this bracket", "10 answer longer than its area"
 unfoldable pub answered : GroupAnswer → ℕ → List ℕ → LookUp

@@ -21,22 +21,23 @@ use Rattle.index.specs.Entries.{opensAt, entryFor, indexAt, indexOf}
 use Rattle.item.specs.Group.{goodItems, groupOf}
 use Rattle.index.specs.Built.{builtIndex}
 use Rattle.resolve.specs.Groups.{Found, NoGroup, groupAccepted, barred, judge, groupAt}
-use Rattle.resolve.specs.Resolve.{storedClose, shortLook, orElse, closeAsRun, groupAsRun}
+use Rattle.resolve.specs.Resolve.{asClose, storedClose, shortLook, orElse, closeAsRun, groupAsRun}
 use Rattle.index.proofs.Built.{take-built}
 use Rattle.resolve.specs.Facts.{BracketTrue}
 
--- what an index has for a bracket, as a close
-unfoldable asStored : List ℕ → ℕ → ℕ → Close
-asStored s p v = pick (ltb p v && isAt s v 93) (At v) Nothing
+-- an unescaped `[` is in the text
+pub opens-in : (s : List ℕ) (p : ℕ) → opensAt s p ≡ true → p < length s
+unfolding opensAt
+opens-in s p o = ltb-true p (length s) (and-left (ltb p (length s)) (eqb (byteAt s p) 91) (and-left (isAt s p 91) (not (escapedAt s p)) o))
 
 -- the close that the unlimited scan finds is believed where an index has it: it lies after its bracket, in the text, at a `]`
-believed : (s : List ℕ) (p c : ℕ) → closeOf s p ≡ At c → asStored s p c ≡ At c
-unfolding asStored
+believed : (s : List ℕ) (p c : ℕ) → closeOf s p ≡ At c → asClose s p c ≡ At c
+unfolding asClose
 believed s p c e = rw (lt-ltb p c (close-after s p c e), lt-ltb c (length s) (close-inside s p c e), eq-eqb (byteAt s c) 93 (close-byte s p c e))
 
 -- 0 is no place after a bracket
-zero-none : (s : List ℕ) (p : ℕ) → judge s p (asStored s p 0) ≡ NoGroup
-unfolding asStored judge
+zero-none : (s : List ℕ) (p : ℕ) → judge s p (asClose s p 0) ≡ NoGroup
+unfolding asClose judge
 zero-none s p = rw (leb·suc-zero p) refl
 
 judge-nothing : (s : List ℕ) (p : ℕ) → NoGroup ≡ judge s p Nothing
@@ -54,11 +55,11 @@ not-good s p c e = go (barred s c) (goodItems s p c) e
     go false false q = refl
 
 -- what the index of the text has for a bracket gives what the unlimited scan gives
-by-entry : (s : List ℕ) (p : ℕ) (c : Close) → closeOf s p ≡ c → judge s p (asStored s p (entryFor s p c)) ≡ judge s p c
+by-entry : (s : List ℕ) (p : ℕ) (c : Close) → closeOf s p ≡ c → judge s p (asClose s p (entryFor s p c)) ≡ judge s p c
 unfolding entryFor
 by-entry s p (At c) e = go (goodItems s p c) refl
   where
-    go : (g : Bool) → goodItems s p c ≡ g → judge s p (asStored s p (pick g c 0)) ≡ judge s p (At c)
+    go : (g : Bool) → goodItems s p c ≡ g → judge s p (asClose s p (pick g c 0)) ≡ judge s p (At c)
     go true q = ap (judge s p) (believed s p c e)
     go false q = zero-none s p ∙ sym (not-good s p c q)
 by-entry s p Nothing e = go
@@ -66,14 +67,14 @@ by-entry s p Nothing e = go
     nothing : NoGroup ≡ judge s p Nothing
     nothing = judge-nothing s p
 
-    go : judge s p (asStored s p 0) ≡ judge s p Nothing
+    go : judge s p (asClose s p 0) ≡ judge s p Nothing
     go = zero-none s p ∙ nothing
 
-by-index : (s : List ℕ) (p : ℕ) → opensAt s p ≡ true → judge s p (asStored s p (indexAt s p)) ≡ judge s p (closeOf s p)
+by-index : (s : List ℕ) (p : ℕ) → opensAt s p ≡ true → judge s p (asClose s p (indexAt s p)) ≡ judge s p (closeOf s p)
 unfolding indexAt
 by-index s p o = go (opensAt s p) o
   where
-    go : (b : Bool) → b ≡ true → judge s p (asStored s p (pick b (entryFor s p (closeOf s p)) 0)) ≡ judge s p (closeOf s p)
+    go : (b : Bool) → b ≡ true → judge s p (asClose s p (pick b (entryFor s p (closeOf s p)) 0)) ≡ judge s p (closeOf s p)
     go true q = by-entry s p (closeOf s p) refl
     go false q = absurd (true≢false (sym q))
 
@@ -86,12 +87,8 @@ entry-of s index p e h =
 -- with the index of the text, whatever comes after it
 by-stored : (s index : List ℕ) (p : ℕ) → opensAt s p ≡ true → p < length s → take (length s) index ≡ indexOf s
     → judge s p (storedClose s p index) ≡ judge s p (closeOf s p)
-unfolding storedClose asStored
-by-stored s index p o h e = ap (λ (v : ℕ). judge s p (asStored s p v)) (entry-of s index p e h) ∙ by-index s p o
-
-opens-in : (s : List ℕ) (p : ℕ) → opensAt s p ≡ true → p < length s
-unfolding opensAt
-opens-in s p o = ltb-true p (length s) (and-left (ltb p (length s)) (eqb (byteAt s p) 91) (and-left (isAt s p 91) (not (escapedAt s p)) o))
+unfolding storedClose
+by-stored s index p o h e = ap (λ (v : ℕ). judge s p (asClose s p v)) (entry-of s index p e h) ∙ by-index s p o
 
 -- the short look sees what the unlimited scan sees, as far as it goes
 look-true : (s : List ℕ) (p c : ℕ) → shortLook s p ≡ At c → closeOf s p ≡ At c

@@ -23,14 +23,14 @@ use Rattle.resolve.specs.declared.Look.{Look}
 use Rattle.resolve.specs.declared.Look.the-variants.{At as LookAt, Nothing as LookNothing, Build}
 use Rattle.resolve.specs.declared.Matched.the-variants.{Group as MatchedGroup, Nothing as NotMatched}
 use Rattle.resolve.specs.Groups.{barred, groupAccepted, judge}
-use Rattle.resolve.specs.Resolve.{isBuilt, storedClose, shortLook}
+use Rattle.resolve.specs.Resolve.{isBuilt, asClose, storedClose, shortLook}
 use Rattle.resolve.specs.Looks.{settled, shortened, lookOf, closeAfter, matched, Inside, LookInside}
 
 -- what an index has for a bracket --------------------------------------------------------------------------------------------------
 
 module _ (s : List ℕ) (p : ℕ) (index : List ℕ) where
   pub stored-before : getD index p 0 ≤ p → Nothing ≡ storedClose s p index
-  unfolding storedClose
+  unfolding storedClose asClose
   stored-before h = rw (le-ltb p (getD index p 0) h)
 
   -- the index ends before the bracket
@@ -38,15 +38,15 @@ module _ (s : List ℕ) (p : ℕ) (index : List ℕ) where
   stored-past h = stored-before (omega (arith, List·getD-eq-default index 0 h))
 
   pub stored-outside : length s ≤ getD index p 0 → Nothing ≡ storedClose s p index
-  unfolding storedClose
+  unfolding storedClose asClose
   stored-outside h = rw (le-ltb (getD index p 0) (length s) h, and-false (ltb p (getD index p 0)))
 
   pub stored-other : (byteAt s (getD index p 0) ≡ 93 → ⊥) → Nothing ≡ storedClose s p index
-  unfolding storedClose
+  unfolding storedClose asClose
   stored-other n = simp (ne-eqb (byteAt s (getD index p 0)) 93 n, and-false)
 
   pub stored-there : p < getD index p 0 → getD index p 0 < length s → byteAt s (getD index p 0) ≡ 93 → At (getD index p 0) ≡ storedClose s p index
-  unfolding storedClose
+  unfolding storedClose asClose
   stored-there g h e = rw (lt-ltb p (getD index p 0) g, lt-ltb (getD index p 0) (length s) h, eq-eqb _ _ e)
 
 pub ruleset stored-laws = (stored-past, stored-outside, stored-other, stored-there)
@@ -135,7 +135,7 @@ pub ruleset match-laws = (barred-is, match-none, at-after, at-inside, match-barr
 
 -- whatever an index holds
 pub stored-inside : (s : List ℕ) (p : ℕ) (index : List ℕ) → Inside s p (storedClose s p index)
-unfolding storedClose
+unfolding storedClose asClose
 stored-inside s p index = go (getD index p 0) _ refl
   where
     go : (v : ℕ) (t : Bool) → ltb p v && isAt s v 93 ≡ t → Inside s p (pick t (At v) Nothing)

@@ -17,9 +17,14 @@ use Rattle.resolve.specs.Groups.{GroupAnswer, judge}
 abbrev pub isBuilt : ℕ → Bool
 isBuilt note = eqb note 1
 
--- "A stored place not after its bracket, outside the text or not at `]` counts as 0; otherwise the items between are judged."
+-- "A stored place not after its bracket, outside the text or not at `]` counts as 0; otherwise the items between are judged.": the place `v`
+-- that an index has for the bracket at `p`, as a close
+unfoldable pub asClose : List ℕ → ℕ → ℕ → Close
+asClose s p v = pick (ltb p v && isAt s v 93) (At v) Nothing
+
+-- the close that an index has for the bracket at `p`
 unfoldable pub storedClose : List ℕ → ℕ → List ℕ → Close
-storedClose s p index = pick (ltb p (getD index p 0) && isAt s (getD index p 0) 93) (At (getD index p 0)) Nothing
+storedClose s p index = asClose s p (getD index p 0)
 
 -- "a look at 64 bytes from the bracket"
 unfoldable pub shortLook : List ℕ → ℕ → Close

@@ -17,8 +17,9 @@ use Rattle.item.specs.declared.Item.{Item}
 use Rattle.item.specs.declared.Parsed.{Parsed}
 use Rattle.item.specs.declared.Parsed.the-variants.{Good, Bad}
 use Rattle.item.specs.Items.{itemOf, isGood}
-use Rattle.item.specs.Pieces.{partsAt, pieces, integralAt, itemsStart, piecesOf, allGood, kept, itemsIn, itemsOf}
-use Rattle.item.proofs.Bounds.{parsed-within}
+use Rattle.item.specs.Pieces.{semicolonAt, pieces, integralAt, itemsStart, piecesOf, allGood, kept, itemsIn, itemsOf}
+use Rattle.item.specs.Facts.{partsOf}
+use Rattle.item.proofs.Bounds.{item-within}
 use Rattle.item.proofs.Pieces.{items-more, items-last, first-good, rest-good}
 use Rattle.item.specs.Group.{goodItems, Group, groupOf}
 use Rattle.rows.specs.Rows.{marksOf, recordOf, rowOf, rowsIn, rowsOf, rowsLength, pieceRow, putAt, Narrow, NarrowItem, Writable}
@@ -84,22 +85,23 @@ module _ (row : List ℕ) {r₁ r₂ : List ℕ} where
 pub narrow-by : {p : Span} (r : Span) → r ≡ p → Narrow p → Narrow r
 narrow-by r e n = rw e n
 
-pub ruleset row-laws = (pair-put, marks-put, parts-are, locator-is, row-is, narrow-by, marks-both, marks-first, marks-second, marks-none)
+pub ruleset row-laws = (pair-put, marks-both, marks-first, marks-second, marks-none)
 
 -- an item's places fit a record ----------------------------------------------------------------------------------------------------
 
-narrow-within : {p : Span} → p .at + p .len ≤ 65535 → Narrow p
-narrow-within h = (omega arith, omega arith)
+narrow-within : {p : Span} {e : ℕ} → e ≤ 65535 → p .at + p .len ≤ e → Narrow p
+narrow-within h k = (omega arith, omega arith)
 
 pub item-narrow : (s : List ℕ) (a e : ℕ) {r : Parsed} {it : Item} → r ≡ itemOf s a e → r ≡ Good it → e ≤ length s → length s ≤ 65535 → NarrowItem it
-item-narrow s a e q g h k =
-    let w = parsed-within s a e 65535 q g h k in
-    let l = w .locator in
+unfolding partsOf
+item-narrow s a e {it = it} q g h k =
+    let l : e ≤ 65535 = omega arith in
+    let w = item-within s a e it (sym q ∙ g) in
     record {
-      prefix = narrow-within (w .prefix);
-      key = narrow-within (w .key);
-      whole = narrow-within (w .whole);
-      locator = record { value = narrow-within (l .value); suffix = narrow-within (l .suffix) };
+      prefix = narrow-within l (w .0);
+      key = narrow-within l (w .1 .0);
+      whole = narrow-within l (w .1 .1 .0);
+      locator = record { value = narrow-within l (w .1 .1 .1 .0); suffix = narrow-within l (w .1 .1 .1 .1 .0) };
     }
 
 module _ (s : List ℕ) (a e : ℕ) (b : Bool) (row : List ℕ) {r : Parsed} (q : r ≡ itemOf s a e) where
@@ -148,7 +150,7 @@ writing-start s p c items w e f = record {
 }
 
 module _ {s : List ℕ} {p c : ℕ} {items₀ : List ℕ} {b : Bool} {items : List ℕ} {from n : ℕ} (w : Writing s p c items₀ b items from n)
-    {q : ℕ} (d : q ≡ first (partsAt s) (c - from) from) where
+    {q : ℕ} (d : q ≡ first (semicolonAt s) (c - from) from) where
   piece-good-is : isGood (itemOf s from q) ≡ true
   piece-good-is = first-good s from c d (w .good)
 

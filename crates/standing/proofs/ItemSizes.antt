@@ -16,7 +16,7 @@ use Rattle.item.specs.declared.Item.{Item}
 use Rattle.item.specs.declared.Parsed.the-variants.{Good, Bad}
 use Rattle.item.specs.Items.{wins, winner, itemAt, itemIn, itemOf}
 use Rattle.item.proofs.Parts.{wins-by}
-use Rattle.item.specs.Pieces.{stretch, partsAt, endsPiece, piecesIn, pieces, integralAt, itemsStart, piecesOf, parsed, kept, itemsIn, itemsOf}
+use Rattle.item.specs.Pieces.{stretch, semicolonAt, endsPiece, piecesIn, pieces, integralAt, itemsStart, piecesOf, parsed, kept, itemsIn, itemsOf}
 
 -- one item -----------------------------------------------------------------------------------------------------------------------
 
@@ -52,7 +52,7 @@ item-size s a e rest =
 pieces-size : (s : List ℕ) (n a i : ℕ) → a ≤ i → length (itemsIn s (piecesIn n s a i)) * 3 ≤ i - a + n + 1
 unfolding itemsIn piecesIn parsed
 pieces-size s zero a i h = let k = item-size s a i [] in omega arith
-pieces-size s (suc n) a i h = go (partsAt s i) (pieces-size s n (i + 1) (i + 1) (omega arith)) (pieces-size s n a (i + 1) (omega arith))
+pieces-size s (suc n) a i h = go (semicolonAt s i) (pieces-size s n (i + 1) (i + 1) (omega arith)) (pieces-size s n a (i + 1) (omega arith))
   where
     go : (t : Bool) → length (itemsIn s (piecesIn n s (i + 1) (i + 1))) * 3 ≤ i + 1 - (i + 1) + n + 1
         → length (itemsIn s (piecesIn n s a (i + 1))) * 3 ≤ i + 1 - a + n + 1

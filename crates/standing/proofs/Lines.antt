@@ -14,7 +14,7 @@ use Rattle.item.specs.declared.Item.{Item}
 use Rattle.item.specs.declared.Parsed.{Parsed}
 use Rattle.item.specs.declared.Parsed.the-variants.{Good, Bad}
 use Rattle.item.specs.Items.{itemOf, isGood}
-use Rattle.item.specs.Pieces.{partsAt, pieces, itemsStart, piecesOf, allGood, kept, itemsIn, itemsOf}
+use Rattle.item.specs.Pieces.{semicolonAt, pieces, itemsStart, piecesOf, allGood, kept, itemsIn, itemsOf}
 use Rattle.item.proofs.Pieces.{piece-by, pieces-more, pieces-last, items-more, items-last, first-good, rest-good, items-count}
 use Rattle.item.specs.Group.{goodItems, groupOf}
 use Rattle.resolve.specs.Groups.{barred, groupAccepted}
@@ -27,7 +27,7 @@ some-piece : (s : List ℕ) (a e : ℕ) → 1 ≤ length (pieces s a e)
 some-piece s a e = go (ltb q e) refl
   where
     q : ℕ
-    q = first (partsAt s) (e - a) a
+    q = first (semicolonAt s) (e - a) a
 
     go : (t : Bool) → ltb q e ≡ t → 1 ≤ length (pieces s a e)
     go true h = rw (pieces-more s a e refl (ltb-true q e h)) (omega arith)
@@ -39,7 +39,7 @@ module _ (s : List ℕ) (a e : ℕ) (g : allGood s (pieces s a e) ≡ true) (one
   one-item = go (ltb q e) refl
     where
       q : ℕ
-      q = first (partsAt s) (e - a) a
+      q = first (semicolonAt s) (e - a) a
 
       two : (r : Parsed) (n : ℕ) (rest : List Item) → isGood r ≡ true → n ≡ length rest → 1 ≤ n → length (kept r rest) ≡ 1 → ⊥
       two (Good it) n rest h m k l = omega arith
@@ -58,7 +58,7 @@ module _ (s : List ℕ) (a e : ℕ) (g : allGood s (pieces s a e) ≡ true) (one
       last h true k = ends h k
       last h false k =
           let l = leb-false a e k in
-          let m = first-by (partsAt s) (e - a) a in
+          let m = first-by (semicolonAt s) (e - a) a in
           absurd
           (few (length (kept (itemOf s a q) []))
           (let z = item-size s a q [] in omega arith)

@@ -55,8 +55,8 @@ use Rattle.lookup.proofs.LookUp.Laws as R′
 use Rattle.lookup.specs.declared.Prepared.{Prepared}
 use Rattle.lookup.proofs.Prepared as P
 use Rattle.lookup.proofs.Prepared.Laws as P′
-use Rattle.lookup.specs.Steps.{preparedOf, buildWanted, Fine, finishedOf, finishedItems}
-use Rattle.lookup.proofs.Steps.{prepared-fine, builds-short, builds-wide, builds-long, finished-values, finished-items, ran-index, ran-records}
+use Rattle.lookup.specs.Steps.{preparedOf, preparedWants, CanFinish, finishedOf, finishedItems}
+use Rattle.lookup.proofs.Steps.{can-finish, builds-short, builds-wide, builds-long, finished-values, finished-items, ran-index, ran-records}
 use Rattle.lookup.proofs.prepare as prepare
 use Rattle.lookup.proofs.prepare.Symbol as prepare-def
 use Rattle.lookup.proofs.prepare.Symbol.{name as #lookup·prepare}
@@ -75,7 +75,7 @@ use Rattle.calls.proofs.look_up.Statement as stated
 use Rattle.calls.proofs.look_up.Code as code
 
 -- what a build asks for, where one is wanted
-enough : (s : List ℕ) (at note : ℕ) (index : List ℕ) (records : List Bracket) → buildWanted (preparedOf s at note index (length records)) ≡ true → Enough s index records
+enough : (s : List ℕ) (at note : ℕ) (index : List ℕ) (records : List Bracket) → preparedWants (preparedOf s at note index (length records)) ≡ true → Enough s index records
 enough s at note index records w = record { short = builds-short s at note index (length records) w; wide = builds-wide s at note index (length records) w; long = builds-long s at note index (length records) w }
 
 abbrev stayed : Stays (f.ended .signature .params) (f.ended .kept)
@@ -119,7 +119,7 @@ module _ {M : Type 1} (𝓤 : URA M) (H : Heap 𝓤) (A : Atoms 𝓤) (W : Given
   p = preparedOf ts at note is (length ys)
 
   abbrev w : Bool
-  w = buildWanted p
+  w = preparedWants p
 
   -- the index, the records and the items at exit
   abbrev is′ : List ℕ
@@ -194,7 +194,7 @@ module _ {M : Type 1} (𝓤 : URA M) (H : Heap 𝓤) (A : Atoms 𝓤) (W : Given
         (λ r zs. (r ≡ answer) × (zs .1 .1 .1 .1 .1 .0 ≡ js′) × (zs .1 .1 .1 .1 .0 ≡ is′))
         (‵ (flft κ₀ q₀) ∷ ‵ (flft κ₁ q₁) ∷ ‵ (flft κ₃ q₃) ∷ ‵ ftrue ∷ [])
         (‵ (ShrSlice (named 0) κ₀ u8 .own text (sv₀ ∷ [])) ∷ ‵ (usize .own at (vint w64 at ∷ [])) ∷ ‵ (u8 .own note (vint w8 note ∷ [])) ∷ ‵ (P.the-row .own p (v ∷ [])) ∷ ‵ (MutSlice (named 1) κ₁ u16 .own (at-list b₁ o₁ γ₁ is′) (sv₁ ∷ [])) ∷ ‵ (MutSlice (named 2) κ₃ u16 .own (at-list b₃ o₃ γ₃ js) (sv₃ ∷ [])) ∷ ‵ ftrue ∷ [])
-        (record { tokens = refl; owned = refl; required = factI 𝓤 (Fine ts at p) (emp 𝓤) (prepared-fine ts at note is (length ys)); ensured = λ r zs. id⊢ 𝓤 _ }) fm (known .4) (and-then ! (load ! (from ! {i = 1} (stop !)) (look ! 45 refl)) (and-then ! (load ! (from ! {i = 2} (stop !)) (look ! 43 refl)) (and-then ! (load ! (from ! {i = 3} (stop !)) (look ! 41 refl)) (and-then ! (load ! (from ! {i = 8} (stop !)) (look ! 31 refl)) (and-then ! (load ! (from ! {i = 20} (stop !)) (look ! 7 refl)) (and-then ! (load ! (from ! {i = 22} (stop !)) (look ! 3 refl)) (no-more !))))))) (λ u r zs e. rewrite ! 0 (λ (b : LookUp). ‵ (R.the-row .own b (u ∷ []))) (e .0) refl $ move ! (5 ∷ []) $ no-last ! $ no-last ! $ no-last ! $ no-last ! $ last-list ! u16 γ₁ (zs .1 .1 .1 .1 .0) is′ (e .2) (λ _. last-list ! u16 γ₃ (zs .1 .1 .1 .1 .1 .0) js′ (e .1) (λ e₃. drop ! $ move ! (6 ∷ []) $ drop ! $ move ! (2 ∷ []) $ peeks ! R.the-row (Is R.the-row) (shows 𝓤 H A R.the-row) answer (u ∷ []) (λ r-is.
+        (record { tokens = refl; owned = refl; required = factI 𝓤 (CanFinish ts at p) (emp 𝓤) (can-finish ts at note is (length ys)); ensured = λ r zs. id⊢ 𝓤 _ }) fm (known .4) (and-then ! (load ! (from ! {i = 1} (stop !)) (look ! 45 refl)) (and-then ! (load ! (from ! {i = 2} (stop !)) (look ! 43 refl)) (and-then ! (load ! (from ! {i = 3} (stop !)) (look ! 41 refl)) (and-then ! (load ! (from ! {i = 8} (stop !)) (look ! 31 refl)) (and-then ! (load ! (from ! {i = 20} (stop !)) (look ! 7 refl)) (and-then ! (load ! (from ! {i = 22} (stop !)) (look ! 3 refl)) (no-more !))))))) (λ u r zs e. rewrite ! 0 (λ (b : LookUp). ‵ (R.the-row .own b (u ∷ []))) (e .0) refl $ move ! (5 ∷ []) $ no-last ! $ no-last ! $ no-last ! $ no-last ! $ last-list ! u16 γ₁ (zs .1 .1 .1 .1 .0) is′ (e .2) (λ _. last-list ! u16 γ₃ (zs .1 .1 .1 .1 .1 .0) js′ (e .1) (λ e₃. drop ! $ move ! (6 ∷ []) $ drop ! $ move ! (2 ∷ []) $ peeks ! R.the-row (Is R.the-row) (shows 𝓤 H A R.the-row) answer (u ∷ []) (λ r-is.
         -- [answer; items last; index last; κ₀; κ₁; κ₃; text; κ₂; records; _22; …]
         land ! (from ! {i = 0} (stop !)) (init ! 53 refl (EL.lawful R.the-type R′.the-laws 𝓤 H A W tt .typed answer _ r-is .0)) $
         returns ! (look ! 53 refl) $ forget ! 9 refl $ forget ! 11 refl $ forget ! 13 refl $ forget ! 15 refl $ forget ! 17 refl $ forget ! 19 refl $ forget ! 21 refl $ forget ! 23 refl $ forget ! 25 refl $ forget ! 27 refl $ forget ! 29 refl $ forget ! 31 refl $ forget ! 33 refl $ forget ! 35 refl $ forget ! 37 refl $ forget ! 39 refl $ forget ! 41 refl $ forget ! 43 refl $ forget ! 45 refl $ forget ! 47 refl $ forget ! 49 refl $ forget ! 51 refl $ forget ! 53 refl $

@@ -4,7 +4,7 @@ use Prim.Native.Nat.{_-_, _<_, _≤_}
 use mathlib.Core.Path.{_≡_}
 use lib.ListN.{length}
 use Rattle.base.specs.First.{first}
-use Rattle.item.specs.Pieces.{partsAt, pieces}
+use Rattle.item.specs.Pieces.{semicolonAt, pieces}
 use Rattle.item.specs.Judge.{judgedIn, judgedOf}
 use borrow.Author.Needs.{needs}
 use Rattle.item.proofs.Judge.{past, judge-laws}
@@ -14,7 +14,7 @@ use Rattle.item.proofs.judge_items.Tie as tie
 
 abbrev Inv-loop : tie.InvT-loop
 Inv-loop text p c from₀ to₀ n₀ from to n =
-    (from ≤ to) × (to ≤ length text) × (n < from) × (to ≡ first (partsAt text) (c - from) from) ×
+    (from ≤ to) × (to ≤ length text) × (n < from) × (to ≡ first (semicolonAt text) (c - from) from) ×
     (judgedOf text p c ≡ past n (judgedIn text (pieces text from c)))
 
 abbrev μ-loop : tie.MeasureT-loop

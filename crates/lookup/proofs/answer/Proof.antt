@@ -1,6 +1,6 @@
 -- `lookup::answer` meets its contract. Assumes nothing.
 use Rattle.lookup.proofs.Steps.{answer-laws}
-use Rattle.lookup.proofs.Laws.{matched-laws}
+use Rattle.lookup.proofs.Laws.{matched-writable}
 use borrow.Author.Needs.{needs}
 use Rattle.lookup.proofs.answer.Statement.{statement}
 use Rattle.lookup.proofs.answer.Tie as tie
@@ -9,11 +9,11 @@ pub answer-spec : {M : Type 1} → statement M
 answer-spec =
     tie.close
     (tie.spec
-    (λ c κs. search (answer-laws, matched-laws, needs))
-    (λ c. search (answer-laws, matched-laws, needs))
-    (λ c. search (answer-laws, matched-laws, needs))
-    (λ c. search (answer-laws, matched-laws, needs))
-    (λ c. search (answer-laws, matched-laws, needs))
-    (λ c κs. search (answer-laws, matched-laws, needs))
-    (λ c. search (answer-laws, matched-laws, needs))
-    (λ c. search (answer-laws, matched-laws, needs)))
+    (λ c κs. search (answer-laws, matched-writable, needs))
+    (λ c. search (answer-laws, matched-writable, needs))
+    (λ c. search (answer-laws, matched-writable, needs))
+    (λ c. search (answer-laws, matched-writable, needs))
+    (λ c. search (answer-laws, matched-writable, needs))
+    (λ c κs. search (answer-laws, matched-writable, needs))
+    (λ c. search (answer-laws, matched-writable, needs))
+    (λ c. search (answer-laws, matched-writable, needs)))

@@ -5,7 +5,7 @@ use mathlib.Core.Path.{_≡_}
 use lib.ListN.{length}
 use borrow.Author.Needs.{needs}
 use Rattle.base.specs.First.{first}
-use Rattle.item.specs.Pieces.{partsAt}
+use Rattle.item.specs.Pieces.{semicolonAt}
 use Rattle.item.proofs.Pieces.{piece-laws, next-fits}
 use Rattle.rows.proofs.RowLaws.{Writing, writing-laws}
 use Rattle.rows.proofs.write_rows.Statement.{statement}
@@ -13,7 +13,7 @@ use Rattle.rows.proofs.write_rows.Tie as tie
 
 abbrev Inv-loop : tie.InvT-loop
 Inv-loop text p c items₀ integral from₀ to₀ n₀ items from to n =
-    (from ≤ to) × (to ≤ length text) × (to ≡ first (partsAt text) (c - from) from) × Writing text p c items₀ integral items from n
+    (from ≤ to) × (to ≤ length text) × (to ≡ first (semicolonAt text) (c - from) from) × Writing text p c items₀ integral items from n
 
 abbrev μ-loop : tie.MeasureT-loop
 μ-loop text p c items₀ integral from₀ to₀ n₀ items from to n = c - from
