@@ -1,5 +1,5 @@
 -- The answer of the annotation, and the listing by it, in the form of the needs.
-use Prim.Native.Nat.{ℕ, suc, _-_, _*_, _≤_}
+use Prim.Native.Nat.{ℕ, suc, _*_, _≤_}
 use native.Mathlib.Omega.{arith}
 use mathlib.Core.Path.{_≡_, refl, _∙_, ap}
 use mathlib.Core.List.{List, [], _∷_}
@@ -77,7 +77,7 @@ unfolding placedFrom
 placed-length text all pool before from [] = refl
 placed-length text all pool before from (g ∷ gs) = ap suc (placed-length text all pool (inLine text before from g) (groupEnd g) gs)
 
-content-groups : (text : List ℕ) (mode : ℕ) (all : List Group) (pool : List ℕ) → length (contentOf text mode all pool .groups) ≡ 5 * length all
+pub content-groups : (text : List ℕ) (mode : ℕ) (all : List Group) (pool : List ℕ) → length (contentOf text mode all pool .groups) ≡ 5 * length all
 unfolding contentOf placedOf
 content-groups text mode all pool =
     group-rows-length 0 (placedFrom text all pool false 0 all) ∙ ap (λ (n : ℕ). 5 * n) (placed-length text all pool false 0 all)

@@ -2,3 +2,4 @@ pub mod Answers
 pub mod KeyBytes
 pub mod Bound
 pub mod Whole
+pub mod Enough

@@ -2,15 +2,12 @@
 // the crate line_writers writes the lines.
 use annotation_answer::Annotation;
 use line_writers::Told;
-use records::group_field;
-use records::item_field;
-use records::key_in;
 ghost use mathlib.Core.Path.{_≡_};
 ghost use mathlib.Core.List.{[], _∷_};
 ghost use lib.ListN.{length, take};
 ghost use Rattle.base.specs.Lists.{written};
 ghost use Rattle.annotation_answer.specs.Values.{annotationValues};
-ghost use Rattle.listing_lines.specs.Listing.{listingOf};
+ghost use Rattle.listing_lines.specs.Listing.{listingOf, TextRefusalsOnly};
 ghost use Rattle.listing_lines.specs.Ready.{zeroes, Ready, Listed, Counts};
 
 // The numbers of an answer.
@@ -124,3 +121,8 @@ pub fn list(text: &[u8], out: &mut [u8; ROOM]) -> usize
         out,
     )
 }
+
+// The theorem of specs/Listing. The function does nothing; its contract states it.
+pub fn theorems()
+    ensures text_refusals_only { λ _. ⌜ TextRefusalsOnly ⌝ }
+{}

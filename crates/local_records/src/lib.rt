@@ -1,24 +1,21 @@
 // The two public calls that are lent bracket records, with the records in a local array, as many as any text needs: whoever calls these needs
-// no walk of its MIR. What they promise is what `calls` promises, but for the records, which end with the call.
+// no walk of its MIR. What they promise is what `calls` promises; the records end with the call, as the run leaves them.
 use annotation_answer::Annotation;
 use index::Bracket;
 use lookup::LookUp;
-ghost use mathlib.Core.Path.{_≡_};
 ghost use lib.ListN.{replicate};
 ghost use Rattle.annotation.specs.Call.{annotateRun};
 ghost use Rattle.annotation.specs.Content.{areas};
-ghost use Rattle.annotation_answer.specs.Values.{annotationValues};
-ghost use Rattle.annotation.specs.Values.{annotationNumbers};
+ghost use Rattle.histories.specs.Promises.{LookUpPromise, AnnotatePromise};
 ghost use Rattle.index.specs.Built.{blank};
 ghost use Rattle.lookup.specs.LookUps.{lookUpRun};
-ghost use Rattle.lookup.specs.Values.{lookUpValues, lookUpNumbers};
 
 // `calls::look_up`.
 pub fn look_up(text: &[u8], at: usize, note: u8, index: &mut [u16], items: &mut [u16]) -> LookUp
-    ensures { λ r. let ran = lookUpRun (now (text .entry)) at note (now (index .entry)) (replicate 65535 blank) (now (items .entry)) in
-        ⌜ (lookUpValues r ≡ lookUpNumbers ran)
-        × (now (index .exit) ≡ ran .index)
-        × (now (items .exit) ≡ ran .answer .items) ⌝ }
+    ensures { λ r. let records = replicate 65535 blank in
+        let ran = lookUpRun (now (text .entry)) at note (now (index .entry)) records (now (items .entry)) in
+        ⌜ LookUpPromise (now (text .entry)) at note (now (index .entry)) records (now (items .entry))
+        r (now (index .exit)) (ran .records) (now (items .exit)) ⌝ }
 {
     let b = Bracket {
         place: 0,
@@ -43,13 +40,11 @@ pub fn annotate<'a>(
     labels: &mut [u8],
 ) -> Annotation
     ensures { λ r. let given = areas (now (items .entry)) (now (groups .entry)) (now (references .entry)) (now (labels .entry)) in
-        let annotated = annotateRun (now (text .entry)) mode (now (pool .entry)) note (now (index .entry)) (replicate 65535 blank) given in
-        ⌜ (annotationValues r ≡ annotationNumbers annotated)
-        × (now (index .exit) ≡ annotated .index)
-        × (now (items .exit) ≡ annotated .answer .areas .items)
-        × (now (groups .exit) ≡ annotated .answer .areas .groups)
-        × (now (references .exit) ≡ annotated .answer .areas .references)
-        × (now (labels .exit) ≡ annotated .answer .areas .labels) ⌝ }
+        let left = areas (now (items .exit)) (now (groups .exit)) (now (references .exit)) (now (labels .exit)) in
+        let records = replicate 65535 blank in
+        let ran = annotateRun (now (text .entry)) mode (now (pool .entry)) note (now (index .entry)) records given in
+        ⌜ AnnotatePromise (now (text .entry)) mode (now (pool .entry)) note (now (index .entry)) records given
+        r (now (index .exit)) (ran .records) left ⌝ }
 {
     let b = Bracket {
         place: 0,

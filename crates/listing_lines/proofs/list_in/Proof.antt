@@ -14,7 +14,7 @@ list-in-spec =
     (λ c κs.
     -- the place after the call of `annotate`
     let a = c .before .before .before .before .before .before .before .before .before .before .before .before .before .before in
-    (search (in-laws, needs), in-room _ _ _ _ _ _ _ (a .before .before .before .before .before .before .before .before .before .before .before .before .before .before .pre) _ _ _ _ (a .annotate .ensures .0) (a .annotate .ensures .2) (a .annotate .ensures .3) (c .before .before .before .told-by .ensures)))
+    (search (in-laws, needs), in-room _ _ _ _ _ _ _ (a .before .before .before .before .before .before .before .before .before .before .before .before .before .before .pre) _ _ _ _ (a .annotate .ensures .0) (a .annotate .ensures .3) (a .annotate .ensures .4) (c .before .before .before .told-by .ensures)))
     (λ c. search (in-laws, needs))
     (λ c. search (in-laws, needs))
     (λ c. search (in-laws, needs))

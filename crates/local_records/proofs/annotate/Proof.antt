@@ -47,8 +47,7 @@ use Rattle.base.proofs.Calling.{calls-fn, copied, last-list, no-last}
 use Rattle.annotation_answer.specs.declared.Annotation.{Annotation}
 use Rattle.annotation.specs.Call.{AnnotateRan, annotateRun}
 use Rattle.annotation.specs.Content.{areas}
-use Rattle.annotation_answer.specs.Values.{annotationValues}
-use Rattle.annotation.specs.Values.{annotationNumbers}
+use Rattle.histories.specs.Promises.{AnnotatePromise}
 use Rattle.annotation_answer.proofs.Annotation as R
 use Rattle.annotation_answer.proofs.Annotation.Laws as R′
 use Rattle.calls.proofs.annotate as called
@@ -109,7 +108,7 @@ module _ {M : Type 1} (𝓤 : URA M) (H : Heap 𝓤) (A : Atoms 𝓤) (W : Given
   abbrev Post : Val → SProp 𝓤
   Post = walkOf 𝓤 H A f.ended stayed (f.clauses 𝓤 H A mem run) .post (((κ₀, (κ₁, (κ₂, (κ₃, (κ₄, (κ₅, tt)))))), (q₀, (q₁, (q₂, (q₃, (q₄, (q₅, tt)))))), tt, a, vals), tt)
 
-  exits : (v : Val) (r : Annotation) (is′ js′ gs′ rs′ ls′ : List ℕ) → mode < 2 ^ 8 → note < 2 ^ 8 → (annotationValues r ≡ annotationNumbers ran) × (is′ ≡ ran .index) × (js′ ≡ ran .answer .areas .items) × (gs′ ≡ ran .answer .areas .groups) × (rs′ ≡ ran .answer .areas .references) × (ls′ ≡ ran .answer .areas .labels) → length is′ ≡ length is → length js′ ≡ length js → length gs′ ≡ length gs → length rs′ ≡ length rs → length ls′ ≡ length ls
+  exits : (v : Val) (r : Annotation) (is′ js′ gs′ rs′ ls′ : List ℕ) → mode < 2 ^ 8 → note < 2 ^ 8 → AnnotatePromise ts mode ps note is rows (areas js gs rs ls) r is′ (ran .records) (areas js′ gs′ rs′ ls′) → length is′ ≡ length is → length js′ ≡ length js → length gs′ ≡ length gs → length rs′ ≡ length rs → length ls′ ≡ length ls
       → ent 𝓤 (⋆ 𝓤 H A (‵ (R.the-row .own r (v ∷ [])) ∷ ‵ (flft κ₀ q₀) ∷ ‵ (ShrSlice (named 0) κ₀ u8 .own text (sv₀ ∷ [])) ∷ ‵ (ShrSlice (named 0) κ₀ u8 .own pool (sv₁ ∷ [])) ∷ ‵ (flft κ₁ q₁) ∷ ‵ (finally u16 γ₂ is′) ∷ ‵ (flft κ₂ q₂) ∷ ‵ (finally u16 γ₃ js′) ∷ ‵ (flft κ₃ q₃) ∷ ‵ (finally u16 γ₄ gs′) ∷ ‵ (flft κ₄ q₄) ∷ ‵ (finally u16 γ₅ rs′) ∷ ‵ (flft κ₅ q₅) ∷ ‵ (finally u8 γ₆ ls′) ∷ [])) (Post v)
   exits v r is′ js′ gs′ rs′ ls′ mode-fits note-fits told e₁ e₂ e₃ e₄ e₅ =
       qed W (‵ (R.the-row .own r (v ∷ [])) ∷ ‵ (flft κ₀ q₀) ∷ ‵ (ShrSlice (named 0) κ₀ u8 .own text (sv₀ ∷ [])) ∷ ‵ (ShrSlice (named 0) κ₀ u8 .own pool (sv₁ ∷ [])) ∷ ‵ (flft κ₁ q₁) ∷ ‵ (finally u16 γ₂ is′) ∷ ‵ (flft κ₂ q₂) ∷ ‵ (finally u16 γ₃ js′) ∷ ‵ (flft κ₃ q₃) ∷ ‵ (finally u16 γ₄ gs′) ∷ ‵ (flft κ₄ q₄) ∷ ‵ (finally u16 γ₅ rs′) ∷ ‵ (flft κ₅ q₅) ∷ ‵ (finally u8 γ₆ ls′) ∷ []) ∵
@@ -151,7 +150,7 @@ module _ {M : Type 1} (𝓤 : URA M) (H : Heap 𝓤) (A : Atoms 𝓤) (W : Given
         move ! (4 ∷ []) $ copied ! u8 (named 0) κ₀ text $ move ! (6 ∷ []) $ copied ! u8 (named 0) κ₀ pool $ owned ! u8 (Is u8) (uint-makes 𝓤 H A W w8) mode (vint w8 mode ∷ []) (refl, mode-fits) $ owned ! u8 (Is u8) (uint-makes 𝓤 H A W w8) note (vint w8 note ∷ []) (refl, note-fits) $ nothing ! $ nothing ! $
         move ! (11 ∷ 12 ∷ 8 ∷ 14 ∷ 16 ∷ 18 ∷ 20 ∷ 0 ∷ 6 ∷ 3 ∷ 4 ∷ 2 ∷ 13 ∷ 9 ∷ 15 ∷ 17 ∷ 19 ∷ 21 ∷ 1 ∷ []) $
         calls-fn W ! called.ended (called.clauses 𝓤 H A mem run) ((κ₀, (κ₁, (ν ∷ [], (κ₂, (κ₃, (κ₄, (κ₅, tt))))))), (q₀, (q₁, (fullShare, (q₂, (q₃, (q₄, (q₅, tt))))))), tt, (text, (mode, (pool, (note, (at-list b₂ o₂ γ₂ is, (at-list l₁₁ 0 δ rows, (at-list b₃ o₃ γ₃ js, (at-list b₄ o₄ γ₄ gs, (at-list b₅ o₅ γ₅ rs, (at-list b₆ o₆ γ₆ ls, tt)))))))))), (sv₀ ∷ [], (vint w8 mode ∷ [], (sv₁ ∷ [], (vint w8 note ∷ [], (sv₂ ∷ [], (sliceVal (l₁₁, 0) 65535 ∷ [], (sv₃ ∷ [], (sv₄ ∷ [], (sv₅ ∷ [], (sv₆ ∷ [], tt))))))))))) tt
-        (λ r zs. (annotationValues r ≡ annotationNumbers ran) × (zs .1 .1 .1 .1 .0 ≡ ran .index) × (zs .1 .1 .1 .1 .1 .0 ≡ ran .records) × (zs .1 .1 .1 .1 .1 .1 .0 ≡ ran .answer .areas .items) × (zs .1 .1 .1 .1 .1 .1 .1 .0 ≡ ran .answer .areas .groups) × (zs .1 .1 .1 .1 .1 .1 .1 .1 .0 ≡ ran .answer .areas .references) × (zs .1 .1 .1 .1 .1 .1 .1 .1 .1 .0 ≡ ran .answer .areas .labels))
+        (λ r zs. AnnotatePromise ts mode ps note is rows (areas js gs rs ls) r (zs .1 .1 .1 .1 .0) (zs .1 .1 .1 .1 .1 .0) (areas (zs .1 .1 .1 .1 .1 .1 .0) (zs .1 .1 .1 .1 .1 .1 .1 .0) (zs .1 .1 .1 .1 .1 .1 .1 .1 .0) (zs .1 .1 .1 .1 .1 .1 .1 .1 .1 .0)))
         (‵ (flft κ₀ q₀) ∷ ‵ (flft κ₁ q₁) ∷ ‵ (flft (ν ∷ []) fullShare) ∷ ‵ (flft κ₂ q₂) ∷ ‵ (flft κ₃ q₃) ∷ ‵ (flft κ₄ q₄) ∷ ‵ (flft κ₅ q₅) ∷ ‵ ftrue ∷ [])
         (‵ (ShrSlice (named 0) κ₀ u8 .own text (sv₀ ∷ [])) ∷ ‵ (u8 .own mode (vint w8 mode ∷ [])) ∷ ‵ (ShrSlice (named 0) κ₀ u8 .own pool (sv₁ ∷ [])) ∷ ‵ (u8 .own note (vint w8 note ∷ [])) ∷ ‵ (MutSlice (named 1) κ₁ u16 .own (at-list b₂ o₂ γ₂ is) (sv₂ ∷ [])) ∷ ‵ (MutSlice (named 2) (ν ∷ []) T.the-row .own (at-list l₁₁ 0 δ rows) (sliceVal (l₁₁, 0) 65535 ∷ [])) ∷ ‵ (MutSlice (named 3) κ₂ u16 .own (at-list b₃ o₃ γ₃ js) (sv₃ ∷ [])) ∷ ‵ (MutSlice (named 4) κ₃ u16 .own (at-list b₄ o₄ γ₄ gs) (sv₄ ∷ [])) ∷ ‵ (MutSlice (named 5) κ₄ u16 .own (at-list b₅ o₅ γ₅ rs) (sv₅ ∷ [])) ∷ ‵ (MutSlice (named 6) κ₅ u8 .own (at-list b₆ o₆ γ₆ ls) (sv₆ ∷ [])) ∷ ‵ ftrue ∷ [])
         (record { tokens = refl; owned = refl; required = id⊢ 𝓤 _; ensured = λ r zs. id⊢ 𝓤 _ }) fm known
@@ -165,7 +164,7 @@ module _ {M : Type 1} (𝓤 : URA M) (H : Heap 𝓤) (A : Atoms 𝓤) (W : Given
         returns ! (look ! 60 refl) $
         forget ! 15 refl $ forget ! 17 refl $ forget ! 19 refl $ forget ! 21 refl $ forget ! 23 refl $ forget ! 25 refl $ forget ! 27 refl $ forget ! 29 refl $ forget ! 31 refl $ forget ! 33 refl $ forget ! 35 refl $ forget ! 37 refl $ forget ! 40 refl $ forget ! 42 refl $ forget ! 44 refl $ forget ! 46 refl $ forget ! 48 refl $ forget ! 50 refl $ forget ! 52 refl $ forget ! 54 refl $ forget ! 56 refl $ forget ! 58 refl $ forget ! 60 refl $
         move ! (60 ∷ 61 ∷ []) $ free1 ! $ move ! (58 ∷ 59 ∷ []) $ free1 ! $ move ! (56 ∷ 57 ∷ []) $ free1 ! $ move ! (54 ∷ 55 ∷ []) $ free1 ! $ move ! (52 ∷ 53 ∷ []) $ free1 ! $ move ! (50 ∷ 51 ∷ []) $ free1 ! $ move ! (48 ∷ 49 ∷ []) $ free1 ! $ move ! (46 ∷ 47 ∷ []) $ free1 ! $ move ! (44 ∷ 45 ∷ []) $ free1 ! $ move ! (42 ∷ 43 ∷ []) $ free1 ! $ move ! (40 ∷ 41 ∷ []) $ free1 ! $ move ! (0 ∷ 39 ∷ []) $ free1 ! $ move ! (36 ∷ 37 ∷ []) $ free1 ! $ move ! (34 ∷ 35 ∷ []) $ free1 ! $ move ! (32 ∷ 33 ∷ []) $ free1 ! $ move ! (30 ∷ 31 ∷ []) $ free1 ! $ move ! (28 ∷ 29 ∷ []) $ free1 ! $ move ! (26 ∷ 27 ∷ []) $ free1 ! $ move ! (24 ∷ 25 ∷ []) $ free1 ! $ move ! (22 ∷ 23 ∷ []) $ free1 ! $ move ! (20 ∷ 21 ∷ []) $ free1 ! $ move ! (18 ∷ 19 ∷ []) $ free1 ! $ move ! (16 ∷ 17 ∷ []) $ free1 ! $ move ! (14 ∷ 15 ∷ []) $ free1 ! $ free0 ! $
-        move ! (0 ∷ 6 ∷ 13 ∷ 12 ∷ 7 ∷ 5 ∷ 8 ∷ 4 ∷ 9 ∷ 3 ∷ 10 ∷ 2 ∷ 11 ∷ 1 ∷ []) $ keep ! (0 ∷ 1 ∷ 2 ∷ 3 ∷ 4 ∷ 5 ∷ 6 ∷ 7 ∷ 8 ∷ 9 ∷ 10 ∷ 11 ∷ 12 ∷ 13 ∷ []) $ by ! (exits u r (zs .1 .1 .1 .1 .0) (zs .1 .1 .1 .1 .1 .1 .0) (zs .1 .1 .1 .1 .1 .1 .1 .0) (zs .1 .1 .1 .1 .1 .1 .1 .1 .0) (zs .1 .1 .1 .1 .1 .1 .1 .1 .1 .0) mode-fits note-fits (e .0, e .1, e .3, e .4, e .5, e .6) e₁ e₂ e₃ e₄ e₅)))))))))))))))))))))))))))))))))))
+        move ! (0 ∷ 6 ∷ 13 ∷ 12 ∷ 7 ∷ 5 ∷ 8 ∷ 4 ∷ 9 ∷ 3 ∷ 10 ∷ 2 ∷ 11 ∷ 1 ∷ []) $ keep ! (0 ∷ 1 ∷ 2 ∷ 3 ∷ 4 ∷ 5 ∷ 6 ∷ 7 ∷ 8 ∷ 9 ∷ 10 ∷ 11 ∷ 12 ∷ 13 ∷ []) $ by ! (exits u r (zs .1 .1 .1 .1 .0) (zs .1 .1 .1 .1 .1 .1 .0) (zs .1 .1 .1 .1 .1 .1 .1 .0) (zs .1 .1 .1 .1 .1 .1 .1 .1 .0) (zs .1 .1 .1 .1 .1 .1 .1 .1 .1 .0) mode-fits note-fits (e .0, e .1, refl, e .3, e .4, e .5, e .6) e₁ e₂ e₃ e₄ e₅)))))))))))))))))))))))))))))))))))
 
 module _ {M : Type 1} (𝓤 : URA M) (H : Heap 𝓤) (A : Atoms 𝓤) (W : Given 𝓤 H A) (mem : Memory → SProp 𝓤) (run : Routine → Fun 𝓤) where
   annotate-walks : (C : Calls 𝓤 H) (Λ : Loops 𝓤 H) → FmC 𝓤 H (W .laws) C → Triple 𝓤 (C #calls·annotate) (tripleOf 𝓤 H A called.signature (called.spec 𝓤 H A mem run)) → Walks 𝓤 H A f.ended stayed (WpFn 𝓤 H C Λ code.function) (f.clauses 𝓤 H A mem run)

@@ -46,7 +46,7 @@ use Rattle.local_records.proofs.Local.{local-back}
 use Rattle.base.proofs.Calling.{calls-fn, copied, last-list, no-last}
 use Rattle.lookup.specs.declared.LookUp.{LookUp}
 use Rattle.lookup.specs.LookUps.{LookUpRan, lookUpRun}
-use Rattle.lookup.specs.Values.{lookUpValues, lookUpNumbers}
+use Rattle.histories.specs.Promises.{LookUpPromise}
 use Rattle.lookup.proofs.LookUp as R
 use Rattle.lookup.proofs.LookUp.Laws as R′
 use Rattle.calls.proofs.look_up as called
@@ -92,7 +92,7 @@ module _ {M : Type 1} (𝓤 : URA M) (H : Heap 𝓤) (A : Atoms 𝓤) (W : Given
   abbrev Post : Val → SProp 𝓤
   Post = walkOf 𝓤 H A f.ended stayed (f.clauses 𝓤 H A mem run) .post (((κ₀, (κ₁, (κ₂, tt))), (q₀, (q₁, (q₂, tt))), tt, a, vals), tt)
 
-  exits : (v : Val) (r : LookUp) (is′ js′ : List ℕ) → at < 2 ^ 64 → note < 2 ^ 8 → (lookUpValues r ≡ lookUpNumbers ran) × (is′ ≡ ran .index) × (js′ ≡ ran .answer .items) → length is′ ≡ length is → length js′ ≡ length js
+  exits : (v : Val) (r : LookUp) (is′ js′ : List ℕ) → at < 2 ^ 64 → note < 2 ^ 8 → LookUpPromise ts at note is rows js r is′ (ran .records) js′ → length is′ ≡ length is → length js′ ≡ length js
       → ent 𝓤 (⋆ 𝓤 H A (‵ (R.the-row .own r (v ∷ [])) ∷ ‵ (flft κ₀ q₀) ∷ ‵ (ShrSlice (named 0) κ₀ u8 .own text (sv₀ ∷ [])) ∷ ‵ (flft κ₁ q₁) ∷ ‵ (finally u16 γ₁ is′) ∷ ‵ (flft κ₂ q₂) ∷ ‵ (finally u16 γ₂ js′) ∷ [])) (Post v)
   exits v r is′ js′ at-fits note-fits told e₁ e₂ =
       qed W (‵ (R.the-row .own r (v ∷ [])) ∷ ‵ (flft κ₀ q₀) ∷ ‵ (ShrSlice (named 0) κ₀ u8 .own text (sv₀ ∷ [])) ∷ ‵ (flft κ₁ q₁) ∷ ‵ (finally u16 γ₁ is′) ∷ ‵ (flft κ₂ q₂) ∷ ‵ (finally u16 γ₂ js′) ∷ []) ∵
@@ -129,7 +129,7 @@ module _ {M : Type 1} (𝓤 : URA M) (H : Heap 𝓤) (A : Atoms 𝓤) (W : Given
         move ! (4 ∷ []) $ copied ! u8 (named 0) κ₀ text $ owned ! usize (Is usize) (uint-makes 𝓤 H A W w64) at (vint w64 at ∷ []) (refl, at-fits) $ owned ! u8 (Is u8) (uint-makes 𝓤 H A W w8) note (vint w8 note ∷ []) (refl, note-fits) $ nothing ! $ nothing ! $
         move ! (9 ∷ 10 ∷ 6 ∷ 12 ∷ 0 ∷ 4 ∷ 3 ∷ 2 ∷ 11 ∷ 7 ∷ 13 ∷ 1 ∷ []) $
         calls-fn W ! called.ended (called.clauses 𝓤 H A mem run) ((κ₀, (κ₁, (ν ∷ [], (κ₂, tt)))), (q₀, (q₁, (fullShare, (q₂, tt)))), tt, (text, (at, (note, (at-list b₁ o₁ γ₁ is, (at-list l₇ 0 δ rows, (at-list b₂ o₂ γ₂ js, tt)))))), (sv₀ ∷ [], (vint w64 at ∷ [], (vint w8 note ∷ [], (sv₁ ∷ [], (sliceVal (l₇, 0) 65535 ∷ [], (sv₂ ∷ [], tt))))))) tt
-        (λ r zs. (lookUpValues r ≡ lookUpNumbers ran) × (zs .1 .1 .1 .0 ≡ ran .index) × (zs .1 .1 .1 .1 .0 ≡ ran .records) × (zs .1 .1 .1 .1 .1 .0 ≡ ran .answer .items))
+        (λ r zs. LookUpPromise ts at note is rows js r (zs .1 .1 .1 .0) (zs .1 .1 .1 .1 .0) (zs .1 .1 .1 .1 .1 .0))
         (‵ (flft κ₀ q₀) ∷ ‵ (flft κ₁ q₁) ∷ ‵ (flft (ν ∷ []) fullShare) ∷ ‵ (flft κ₂ q₂) ∷ ‵ ftrue ∷ [])
         (‵ (ShrSlice (named 0) κ₀ u8 .own text (sv₀ ∷ [])) ∷ ‵ (usize .own at (vint w64 at ∷ [])) ∷ ‵ (u8 .own note (vint w8 note ∷ [])) ∷ ‵ (MutSlice (named 1) κ₁ u16 .own (at-list b₁ o₁ γ₁ is) (sv₁ ∷ [])) ∷ ‵ (MutSlice (named 2) (ν ∷ []) T.the-row .own (at-list l₇ 0 δ rows) (sliceVal (l₇, 0) 65535 ∷ [])) ∷ ‵ (MutSlice (named 3) κ₂ u16 .own (at-list b₂ o₂ γ₂ js) (sv₂ ∷ [])) ∷ ‵ ftrue ∷ [])
         (record { tokens = refl; owned = refl; required = id⊢ 𝓤 _; ensured = λ r zs. id⊢ 𝓤 _ }) fm known
@@ -146,7 +146,7 @@ module _ {M : Type 1} (𝓤 : URA M) (H : Heap 𝓤) (A : Atoms 𝓤) (W : Given
         move ! (33 ∷ 34 ∷ []) $ free1 ! $ move ! (31 ∷ 32 ∷ []) $ free1 ! $ move ! (29 ∷ 30 ∷ []) $ free1 ! $ move ! (27 ∷ 28 ∷ []) $ free1 ! $ move ! (25 ∷ 26 ∷ []) $ free1 ! $ move ! (23 ∷ 24 ∷ []) $ free1 ! $ move ! (21 ∷ 22 ∷ []) $ free1 ! $ move ! (0 ∷ 20 ∷ []) $ free1 ! $
         move ! (17 ∷ 18 ∷ []) $ free1 ! $ move ! (15 ∷ 16 ∷ []) $ free1 ! $ move ! (13 ∷ 14 ∷ []) $ free1 ! $ move ! (11 ∷ 12 ∷ []) $ free1 ! $ move ! (9 ∷ 10 ∷ []) $ free1 ! $ move ! (7 ∷ 8 ∷ []) $ free1 ! $ free0 ! $
         -- [answer; items last; index last; κ₀; κ₁; κ₂; text]
-        move ! (0 ∷ 3 ∷ 6 ∷ 4 ∷ 2 ∷ 5 ∷ 1 ∷ []) $ keep ! (0 ∷ 1 ∷ 2 ∷ 3 ∷ 4 ∷ 5 ∷ 6 ∷ []) $ by ! (exits u r (zs .1 .1 .1 .0) (zs .1 .1 .1 .1 .1 .0) at-fits note-fits (e .0, e .1, e .3) e₁ e₂))))))))))))))))))))))
+        move ! (0 ∷ 3 ∷ 6 ∷ 4 ∷ 2 ∷ 5 ∷ 1 ∷ []) $ keep ! (0 ∷ 1 ∷ 2 ∷ 3 ∷ 4 ∷ 5 ∷ 6 ∷ []) $ by ! (exits u r (zs .1 .1 .1 .0) (zs .1 .1 .1 .1 .1 .0) at-fits note-fits (e .0, e .1, refl, e .3) e₁ e₂))))))))))))))))))))))
 
 module _ {M : Type 1} (𝓤 : URA M) (H : Heap 𝓤) (A : Atoms 𝓤) (W : Given 𝓤 H A) (mem : Memory → SProp 𝓤) (run : Routine → Fun 𝓤) where
   look-up-walks : (C : Calls 𝓤 H) (Λ : Loops 𝓤 H) → FmC 𝓤 H (W .laws) C → Triple 𝓤 (C #calls·look-up) (tripleOf 𝓤 H A called.signature (called.spec 𝓤 H A mem run)) → Walks 𝓤 H A f.ended stayed (WpFn 𝓤 H C Λ code.function) (f.clauses 𝓤 H A mem run)
