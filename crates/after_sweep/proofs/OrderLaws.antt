@@ -14,7 +14,6 @@ use Rattle.numbering.specs.declared.Numbering.{Numbering}
 use Rattle.numbering.specs.Progress.{roomOf, Agrees, Holds}
 use Rattle.annotation_answer.specs.declared.Annotation.{Annotation}
 use Rattle.annotation_answer.specs.declared.Annotation.the-variants.{Accepted}
-use Rattle.annotation_answer.specs.Values.{annotationValues}
 use Rattle.after_sweep.specs.Ordering.{roomThen, Orderable, Ordered}
 use Rattle.annotation_answer.specs.Zeros.{Zeroed}
 
@@ -52,9 +51,8 @@ module _ (text : List ℕ) (mode : ℕ) (pool : List ℕ) (n m note : ℕ) (item
     pub ordered-room : {references' : List ℕ} → references' ≡ written (referencesIn text pool groups' items' n m mode (k .sources)) references
         → Ordered text mode pool n m note items groups references labels (Accepted n m (k .sources) (k .«label_bytes») note) items' groups' references'
         labels'
-    unfolding annotationValues
     ordered-room o = record {
-      values = rw (has-room, agreed .sources, agreed .label-bytes);
+      answer = rw (has-room, agreed .sources, agreed .label-bytes);
       item-area = agreed .item-area ∙ rw has-room;
       group-area = agreed .group-area ∙ rw has-room;
       reference-area = o ∙ rw (has-room, agreed .item-area, agreed .group-area, agreed .sources);
@@ -69,9 +67,8 @@ module _ (text : List ℕ) (mode : ℕ) (pool : List ℕ) (n m note : ℕ) (item
         → Zeroed note items' groups' references labels' r items'' groups'' references'' labels''
         → length items' ≡ length items → length groups' ≡ length groups → length labels' ≡ length labels
         → Ordered text mode pool n m note items groups references labels r items'' groups'' references'' labels''
-    unfolding annotationValues
     ordered-few o i g l = record {
-      values = rw (o .refused, no-room);
+      answer = o .refused ∙ rw no-room;
       item-area = o .item-area ∙ rw (no-room, i);
       group-area = o .group-area ∙ rw (no-room, g);
       reference-area = o .reference-area ∙ rw no-room;

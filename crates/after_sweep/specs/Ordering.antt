@@ -1,7 +1,7 @@
 -- Numbers and references after the whole sweep, over the records that it left, and the answer by the room that there is.
 use Prim.Native.Nat.{ℕ, _≤_, min}
 use mathlib.Core.Path.{_≡_}
-use mathlib.Core.List.{List, [], _∷_}
+use mathlib.Core.List.{List}
 use mathlib.Core.Bool.{Bool, _&&_}
 use lib.ListN.{length}
 use lib.Dec.{leb}
@@ -10,7 +10,7 @@ use Rattle.base.specs.Lists.{written}
 use Rattle.numbering.specs.Numbers.{Numbered, numberAll}
 use Rattle.order.specs.References.{referencesIn, SourcesKnown}
 use Rattle.annotation_answer.specs.declared.Annotation.{Annotation}
-use Rattle.annotation_answer.specs.Values.{annotationValues}
+use Rattle.annotation_answer.specs.declared.Annotation.the-variants.{Accepted, Refused}
 use Rattle.annotation_answer.specs.Zeros.{zeros}
 
 -- the labels and the references have room
@@ -29,8 +29,7 @@ pub record Orderable (text pool : List ℕ) (n m : ℕ) (t : Numbered) : Type 0 
 -- the answer and the four areas then
 pub record OrderedBy (t : Numbered) (ordered : List ℕ) (n m note : ℕ) (items groups references labels : List ℕ) (r : Annotation)
     (items' groups' references' labels' : List ℕ) : Type 0 where
-  pub values : annotationValues r
-      ≡ pick (roomThen t references labels) (0 ∷ n ∷ m ∷ t .sources ∷ length (t .labels) ∷ note ∷ []) (10 ∷ 0 ∷ 0 ∷ 0 ∷ 0 ∷ note ∷ [])
+  pub answer : r ≡ pick (roomThen t references labels) (Accepted n m (t .sources) (length (t .labels)) note) (Refused 10 note)
   pub item-area : items' ≡ pick (roomThen t references labels) (t .items) (zeros items)
   pub group-area : groups' ≡ pick (roomThen t references labels) (t .groups) (zeros groups)
   pub reference-area : references' ≡ pick (roomThen t references labels) (written ordered references) (zeros references)

@@ -24,14 +24,14 @@ use Rattle.numbering.specs.Progress.{Unnumbered}
 use Rattle.numbering.proofs.LabelledLaws.{swept-unnumbered}
 use Rattle.order.specs.References.{SourcesKnown}
 use Rattle.annotation_answer.specs.declared.Annotation.{Annotation}
-use Rattle.annotation_answer.specs.declared.Annotation.the-variants.{Refused}
+use Rattle.annotation_answer.specs.declared.Annotation.the-variants.{Accepted, Refused}
 use Rattle.preparation.specs.declared.Begun.{Begun}
 use Rattle.annotation.specs.Content.{Areas, areas, contentOf}
 use Rattle.preparation.specs.Refusal.{annotateRefusal}
 use Rattle.annotation.specs.Call.{annotateRefused, roomFor, filled, zeroFilled, annotateGives, answerOf, AnnotateRan, annotateRan, annotateSwept, annotateRun}
 use Rattle.annotation_answer.specs.Zeros.{zeros, Zeroed}
 use Rattle.annotation_answer.specs.Values.{annotationValues}
-use Rattle.annotation.specs.Values.{annotationNumbers, Done}
+use Rattle.annotation.specs.Values.{annotationAnswer, annotationNumbers, Done}
 use Rattle.annotation.specs.Steps.{sweptItems, sweptGroups, numberedFrom, referencesFrom, Fits, ContentAs}
 use Rattle.preparation.specs.FirstHalf.{BegunBy}
 use Rattle.after_sweep.specs.Ordering.{roomThen, referencesThen, Ordered}
@@ -192,8 +192,9 @@ module _ {text : List ℕ} {mode : ℕ} {pool : List ℕ} {note : ℕ} {index₀
     ran-refused = rw (refusal, ne-eqb (p .number) 0 n)
 
     pub done-refused : Done ran (Refused (p .number) note) items groups references labels
-    unfolding annotateRan annotationValues annotationNumbers
+    unfolding annotateRan annotationAnswer annotationValues annotationNumbers
     done-refused = record {
+      answer = rw (ran-refused, ne-eqb (p .number) 0 n);
       values = rw ran-refused;
       item-area = b .keeps-items n ∙ rw ran-refused;
       group-area = b .keeps-groups n ∙ rw ran-refused;
@@ -218,23 +219,24 @@ module _ {text : List ℕ} {mode : ℕ} {pool : List ℕ} {note : ℕ} {index₀
     -- an answer by the room that there is
     done-by : {k : ℕ} → k ≡ noteAfter (p .sweep .wants) note → (t : Bool) → roomFor wanted held ≡ t
         → {r : Annotation} {items' groups' references' labels' : List ℕ}
-        → annotationValues r
-        ≡ pick t (0 ∷ length found ∷ itemCount found ∷ length (wanted .references) ∷ length (wanted .labels) ∷ k ∷ []) (10 ∷ 0 ∷ 0 ∷ 0 ∷ 0 ∷ k ∷ [])
+        → r ≡ pick t (Accepted (length found) (itemCount found) (length (wanted .references)) (length (wanted .labels)) k) (Refused 10 k)
         → items' ≡ pick t (written (wanted .items) items₀) (zeros items₀)
         → groups' ≡ pick t (written (wanted .groups) groups₀) (zeros groups₀)
         → references' ≡ pick t (written (wanted .references) references) (zeros references)
         → labels' ≡ pick t (written (wanted .labels) labels) (zeros labels)
         → Done ran r items' groups' references' labels'
-    unfolding annotateRan annotationNumbers annotateGives filled zeroFilled lentAfter
+    unfolding annotateRan annotationAnswer annotationValues annotationNumbers annotateGives filled zeroFilled lentAfter
     done-by e true q v i g f l = record {
-      values = v ∙ rw (ran-swept, q, e);
+      answer = v ∙ rw (ran-swept, q, e);
+      values = ap annotationValues v ∙ rw (ran-swept, q, e);
       item-area = i ∙ rw (ran-swept, q);
       group-area = g ∙ rw (ran-swept, q);
       reference-area = f ∙ rw (ran-swept, q);
       label-area = l ∙ rw (ran-swept, q);
     }
     done-by e false q v i g f l = record {
-      values = v ∙ rw (ran-swept, q, e);
+      answer = v ∙ rw (ran-swept, q, e);
+      values = ap annotationValues v ∙ rw (ran-swept, q, e);
       item-area = i ∙ rw (ran-swept, q);
       group-area = g ∙ rw (ran-swept, q);
       reference-area = f ∙ rw (ran-swept, q);
@@ -261,9 +263,8 @@ module _ {text : List ℕ} {mode : ℕ} {pool : List ℕ} {note : ℕ} {index₀
         pub done-few : {r : Annotation} {items'' groups'' references'' labels'' : List ℕ}
             → Zeroed k items' groups' references labels r items'' groups'' references'' labels''
             → Done ran r items'' groups'' references'' labels''
-        unfolding annotationValues
         done-few o =
-            done-by e false no-room (rw (o .refused)) (o .item-area ∙ rw (recorded .item-area)) (o .group-area ∙ rw (recorded .group-area))
+            done-by e false no-room (o .refused) (o .item-area ∙ rw (recorded .item-area)) (o .group-area ∙ rw (recorded .group-area))
             (o .reference-area) (o .label-area)
 
       module _ (f : s .fits ≡ true) where
@@ -282,7 +283,7 @@ module _ {text : List ℕ} {mode : ℕ} {pool : List ℕ} {note : ℕ} {index₀
             → Done ran r items'' groups'' references'' labels''
         done-room o =
             done-by e (roomFor wanted held) refl
-            (o .values
+            (o .answer
             ∙ rw (room, then-sources b records z e i t f, then-labels b records z e i t f, all-groups-count recorded, all-items-count recorded))
             (o .item-area ∙ rw (room, then-items b records z e i t f, recorded .item-area))
             (o .group-area ∙ rw (room, then-groups b records z e i t f, recorded .group-area))

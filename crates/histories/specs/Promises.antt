@@ -13,7 +13,7 @@ use Rattle.annotation_answer.specs.declared.Annotation.the-variants.{Accepted, 
 use Rattle.annotation.specs.Content.{Areas}
 use Rattle.annotation.specs.Call.{Annotated, annotateRefused, annotateRun}
 use Rattle.annotation_answer.specs.Values.{annotationValues}
-use Rattle.annotation.specs.Values.{annotationNumbers}
+use Rattle.annotation.specs.Values.{annotationNumbers, annotationAnswer}
 use Rattle.histories.specs.Histories.{Call, LookUpCall, AnnotateCall, Answer, OfLookUp, OfAnnotation, State, state, putBack, plain}
 
 -- what calls::look_up promises of what it returns and of the areas that it leaves
@@ -34,6 +34,7 @@ AnnotatePromise text mode pool note index records areas r index' records' areas'
     × (areas' .groups ≡ annotateRun text mode pool note index records areas .answer .areas .groups)
     × (areas' .references ≡ annotateRun text mode pool note index records areas .answer .areas .references)
     × (areas' .labels ≡ annotateRun text mode pool note index records areas .answer .areas .labels)
+    × (r ≡ annotationAnswer (annotateRun text mode pool note index records areas))
 
 -- a call that was run: its arguments as in `Call`, what it returned, and the index and bracket records lent and the answer areas after it
 pub data Done : Type 0 where

@@ -159,7 +159,7 @@ module _ {M : Type 1} (𝓤 : URA M) (H : Heap 𝓤) (A : Atoms 𝓤) (W : Given
       qed W (‵ (R.the-row .own r (v ∷ [])) ∷ ‵ (flft κ₀ q₀) ∷ ‵ (flft κ₁ q₁) ∷ ‵ (flft κ₂ q₂) ∷ ‵ (flft κ₃ q₃) ∷ ‵ (flft κ₄ q₄) ∷ ‵ (flft κ₅ q₅) ∷ ‵ (flft κ₆ q₆) ∷ ‵ (ShrSlice (named 0) κ₀ u8 .own text (sv₀ ∷ []))
       ∷ ‵ (ShrSlice (named 0) κ₀ u8 .own pool (sv₁ ∷ [])) ∷ ‵ (finally u16 γ₂ (is′ p)) ∷ ‵ (MutSlice (named 2) κ₂ T.the-row .own (at-list b₃ o₃ γ₃ (ys′ p)) (sv₃ ∷ [])) ∷ ‵ (finally u16 γ₄ js′) ∷ ‵ (finally u16 γ₅ gs′) ∷ ‵ (finally u16 γ₆ rs′) ∷ ‵ (finally u8 γ₇ ls′) ∷ []) ∵
       suffices ! _ (ends-at 𝓤 H A f.ended stayed (f.clauses 𝓤 H A mem run) W (((κ₀, (κ₁, (κ₂, (κ₃, (κ₄, (κ₅, (κ₆, tt))))))), (q₀, (q₁, (q₂, (q₃, (q₄, (q₅, (q₆, tt))))))), tt, a, vals), tt) v r (tt, (tt, (tt, (tt, ((is′ p), ((ys′ p), (js′, (gs′, (rs′, (ls′, tt)))))))))) (tt, (tt, (tt, (tt, (e₂, (e₃, (e₄, (e₅, (e₆, (e₇, tt))))))))))) $
-      says ! (d .values, sym (ran-index b ys rs ls refl), sym (ran-records b ys rs ls refl), d .item-area, d .group-area, d .reference-area, d .label-area) $
+      says ! (d .values, sym (ran-index b ys rs ls refl), sym (ran-records b ys rs ls refl), d .item-area, d .group-area, d .reference-area, d .label-area, d .answer) $
       nothing ! $ move ! (8 ∷ 0 ∷ []) $ join ! $ move ! (7 ∷ 0 ∷ []) $ join ! $ move ! (6 ∷ 0 ∷ []) $ join ! $ move ! (5 ∷ 0 ∷ []) $ join ! $ move ! (4 ∷ 0 ∷ []) $ join ! $ move ! (3 ∷ 0 ∷ []) $ join ! $ move ! (2 ∷ 0 ∷ []) $ join ! $ frame ! $
       -- [answer; text; pool; index last; records; items last; groups last; references last; labels last]
       nothing ! $ move ! (9 ∷ 0 ∷ []) $ fjoin ! $ move ! (8 ∷ 0 ∷ []) $ fjoin ! $ move ! (7 ∷ 0 ∷ []) $ fjoin ! $ move ! (6 ∷ 0 ∷ []) $ fjoin ! $ move ! (5 ∷ 0 ∷ []) $ fjoin ! $ move ! (4 ∷ 0 ∷ []) $ fjoin ! $ owned ! u8 (Is u8) (uint-makes 𝓤 H A W w8) note (vint w8 note ∷ []) (refl, note-fits) $ fjoin ! $ move ! (3 ∷ 0 ∷ []) $ fjoin ! $ owned ! u8 (Is u8) (uint-makes 𝓤 H A W w8) mode (vint w8 mode ∷ []) (refl, mode-fits) $ fjoin ! $ move ! (2 ∷ 0 ∷ []) $ fjoin ! $ frame ! $ done !
