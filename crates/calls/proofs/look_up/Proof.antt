@@ -38,7 +38,7 @@ use denote.Triple.Walked.{says, Stays, stay-none, stay-none-slice, stay-slice, g
 use denote.Exit.{yes}
 use Rattle.index.specs.declared.Bracket.{Bracket}
 use Rattle.index.proofs.Bracket as T
-use Rattle.index.specs.Built.{builtWhen}
+use Rattle.index.specs.Built.{indexAfter, recordsAfter, builtWhen}
 use Rattle.pairs.specs.Turn.{Enough}
 use Rattle.pairs.proofs.Lent.{at-list, lent, back}
 use Rattle.base.proofs.Calling.{calls-fn, calls-row, copied, last-list, no-last}
@@ -140,6 +140,7 @@ module _ {M : Type 1} (𝓤 : URA M) (H : Heap 𝓤) (A : Atoms 𝓤) (W : Given
   exits : (v : Val) → at < 2 ^ 64 → note < 2 ^ 8 → length is′ ≡ length is → length ys′ ≡ length ys → length js′ ≡ length js
       → ent 𝓤 (⋆ 𝓤 H A (‵ (R.the-row .own answer (v ∷ [])) ∷ ‵ (flft κ₀ q₀) ∷ ‵ (ShrSlice (named 0) κ₀ u8 .own text (sv₀ ∷ [])) ∷ ‵ (flft κ₁ q₁) ∷ ‵ (finally u16 γ₁ is′)
       ∷ ‵ (flft κ₂ q₂) ∷ ‵ (MutSlice (named 2) κ₂ T.the-row .own (at-list b₂ o₂ γ₂ ys′) (sv₂ ∷ [])) ∷ ‵ (flft κ₃ q₃) ∷ ‵ (finally u16 γ₃ js′) ∷ [])) (Post v)
+  unfolding indexAfter recordsAfter
   exits v at-fits note-fits e₁ e₂ e₃ =
       qed W (‵ (R.the-row .own answer (v ∷ [])) ∷ ‵ (flft κ₀ q₀) ∷ ‵ (ShrSlice (named 0) κ₀ u8 .own text (sv₀ ∷ [])) ∷ ‵ (flft κ₁ q₁) ∷ ‵ (finally u16 γ₁ is′)
       ∷ ‵ (flft κ₂ q₂) ∷ ‵ (MutSlice (named 2) κ₂ T.the-row .own (at-list b₂ o₂ γ₂ ys′) (sv₂ ∷ [])) ∷ ‵ (flft κ₃ q₃) ∷ ‵ (finally u16 γ₃ js′) ∷ []) ∵
