@@ -1,47 +1,24 @@
 -- The source text call, by its refusals and its answer.
 use Prim.Native.Nat.{ℕ, _+_, _*_, _≤_, _<_}
 use native.Mathlib.Omega.{arith}
-use mathlib.Core.Path.{_≡_, refl, sym, _∙_, ap}
+use mathlib.Core.Path.{_≡_, refl, sym, _∙_}
 use mathlib.Core.List.{List}
-use mathlib.Core.Bool.{Bool, true, false, not}
+use mathlib.Core.Bool.{Bool, true, false}
 use lib.ListN.{length}
-use lib.Dec.{ltb}
 use borrow.Author.Tests.{lt-ltb, le-ltb}
-use Rattle.base.specs.Pick.{pick}
 use Rattle.base.specs.Lists.{written}
 use Rattle.pool.specs.Fields.{fieldsOf}
 use Rattle.pool.specs.Entries.{entryOf, noEntry}
 use Rattle.pool.specs.Layout.{countOf, offsetOf, endOf, wellFormed, entriesOf}
 use Rattle.pool.specs.Places.{EntryIn}
 use Rattle.pool.proofs.PoolLaws.{pair-there, entry-there, count-is, entry-is}
-use Rattle.source_text.specs.declared.SourceText.{SourceText}
 use Rattle.source_text.specs.declared.SourceText.the-variants.{Accepted, Refused}
 use Rattle.source_text.specs.Text.{sourceTextOf}
-use Rattle.source_text.specs.Call.{SourceAnswer, sourceRefused, entryAt, sourceWritten, sourceTextCall}
+use Rattle.source_text.specs.Call.{sourceRefused, entryAt, sourceWritten, sourceTextCall}
 use Rattle.source_text.specs.Values.{sourceTextValues, sourceTextNumbers, sourceTextAnswer}
 
 pub call-formed : (p : List ℕ) {w : Bool} → w ≡ wellFormed p → w ≡ true → wellFormed p ≡ true
 call-formed p e t = sym e ∙ t
-
--- the numbers of an answer are those of the call
-pub answer-values : (p : List ℕ) (i : ℕ) (area : List ℕ) (a : SourceText) → a ≡ sourceTextAnswer (sourceTextCall p i area)
-    → sourceTextValues a ≡ sourceTextNumbers (sourceTextCall p i area)
-unfolding sourceTextCall sourceWritten sourceTextAnswer sourceTextValues sourceTextNumbers
-answer-values p i area a e =
-    ap sourceTextValues e ∙ go (wellFormed p) (ltb i (length (entriesOf p))) (ltb (length area) (length (sourceTextOf (entryAt p i))))
-  where
-    ran : Bool → Bool → Bool → SourceAnswer
-    ran w b t =
-        pick (not w) (sourceRefused 7 area)
-        (pick (not b) (sourceRefused 8 area)
-        (pick t (sourceRefused 10 area)
-        (record { number = 0; bytes = length (sourceTextOf (entryAt p i)); area = written (sourceTextOf (entryAt p i)) area })))
-
-    go : (w b t : Bool) → sourceTextValues (sourceTextAnswer (ran w b t)) ≡ sourceTextNumbers (ran w b t)
-    go false b t = refl
-    go true false t = refl
-    go true true true = refl
-    go true true false = refl
 
 -- 7
 module _ (p : List ℕ) (i : ℕ) (area : List ℕ) where
@@ -52,6 +29,10 @@ module _ (p : List ℕ) (i : ℕ) (area : List ℕ) where
   pub broken-answer : {w : Bool} → w ≡ wellFormed p → w ≡ false → Refused 7 ≡ sourceTextAnswer (sourceTextCall p i area)
   unfolding sourceTextAnswer
   broken-answer e t = rw (broken e t) refl
+
+  pub broken-numbers : {w : Bool} → w ≡ wellFormed p → w ≡ false → sourceTextValues (Refused 7) ≡ sourceTextNumbers (sourceTextCall p i area)
+  unfolding sourceTextValues sourceTextNumbers
+  broken-numbers e t = rw (broken e t) refl
 
   pub broken-area : {w : Bool} → w ≡ wellFormed p → w ≡ false → area ≡ sourceTextCall p i area .area
   broken-area e t = rw (broken e t) refl
@@ -65,6 +46,11 @@ module _ (p : List ℕ) (i : ℕ) (area : List ℕ) where
       → Refused 8 ≡ sourceTextAnswer (sourceTextCall p i area)
   unfolding sourceTextAnswer
   past-answer e t c h = rw (past e t c h) refl
+
+  pub past-numbers : {w : Bool} {n : ℕ} → w ≡ wellFormed p → w ≡ true → n ≡ countOf p → n ≤ i
+      → sourceTextValues (Refused 8) ≡ sourceTextNumbers (sourceTextCall p i area)
+  unfolding sourceTextValues sourceTextNumbers
+  past-numbers e t c h = rw (past e t c h) refl
 
   pub past-area : {w : Bool} {n : ℕ} → w ≡ wellFormed p → w ≡ true → n ≡ countOf p → n ≤ i → area ≡ sourceTextCall p i area .area
   past-area e t c h = rw (past e t c h) refl
@@ -109,6 +95,11 @@ module _ (p : List ℕ) (i at e : ℕ) (area : List ℕ) where
   unfolding sourceTextAnswer
   small-answer n q l h = rw (small n q l h) refl
 
+  pub small-numbers : (n : ℕ) → Named p i at e → n ≡ length (sourceTextOf (entryOf (fieldsOf p at e))) → length area < n
+      → sourceTextValues (Refused 10) ≡ sourceTextNumbers (sourceTextCall p i area)
+  unfolding sourceTextValues sourceTextNumbers
+  small-numbers n q l h = rw (small n q l h) refl
+
   pub small-area : (n : ℕ) → Named p i at e → n ≡ length (sourceTextOf (entryOf (fieldsOf p at e))) → length area < n → area ≡ sourceTextCall p i area .area
   small-area n q l h = rw (small n q l h) refl
 
@@ -123,12 +114,13 @@ module _ (p : List ℕ) (i at e : ℕ) (area : List ℕ) where
   unfolding sourceTextAnswer
   fits-answer {n} q l h = rw (fits n q l h, ← l) refl
 
-  pub fits-values : {n : ℕ} → Named p i at e → n ≡ length (sourceTextOf (entryOf (fieldsOf p at e))) → n ≤ length area
+  pub fits-numbers : {n : ℕ} → Named p i at e → n ≡ length (sourceTextOf (entryOf (fieldsOf p at e))) → n ≤ length area
       → sourceTextValues (Accepted n) ≡ sourceTextNumbers (sourceTextCall p i area)
-  fits-values {n} q l h = answer-values p i area (Accepted n) (fits-answer q l h)
+  unfolding sourceTextValues sourceTextNumbers
+  fits-numbers {n} q l h = rw (fits n q l h, ← l) refl
 
   pub fits-area : (n : ℕ) {out : List ℕ} → Named p i at e → n ≡ length (sourceTextOf (entryOf (fieldsOf p at e))) → n ≤ length area
       → out ≡ written (sourceTextOf (entryOf (fieldsOf p at e))) area → out ≡ sourceTextCall p i area .area
   fits-area n q l h o = rw (fits n q l h) o
 
-pub ruleset call-laws = (call-formed, answer-values, broken-answer, broken-area, past-answer, past-area, named, call-pair, call-entry, small-answer, small-area, fits-room, fits-answer, fits-values, fits-area)
+pub ruleset call-laws = (call-formed, broken-answer, broken-numbers, broken-area, past-answer, past-numbers, past-area, named, call-pair, call-entry, small-answer, small-numbers, small-area, fits-room, fits-answer, fits-numbers, fits-area)
