@@ -20,7 +20,7 @@ use Rattle.index.specs.Scan.{readOn, nextWith, start, scanPlan, stepInde
 abbrev pub isOrdinary : ℕ → Bool
 isOrdinary b = not (eqb b 59) && not (eqb b 64) && (ltb b 91 || ltb 93 b)
 
--- the first place from `i` on that holds none, or the text's end
+-- the first place from `i` on that holds no such byte, or the text's end
 unfoldable pub ordinaryEnd : List ℕ → ℕ → ℕ
 ordinaryEnd s i = first (λ j. not (isOrdinary (byteAt s j))) (length s - i) i
 
@@ -38,7 +38,7 @@ unfoldable pub passing : ℕ → List ℕ → Scan → Scan
 passing zero s c = c
 passing (suc n) s c = passed s (passing n s c)
 
--- after all from here on
+-- the same after all from here on
 unfoldable pub skipped : List ℕ → Scan → Scan
 skipped s c = passing (ordinaryEnd s (c .at) - c .at) s c
 

@@ -46,7 +46,7 @@ use Rattle.base.proofs.Calling.{calls-fn, calls-row-last, copied, last-list, no
 use Rattle.annotation.specs.Content.{areas}
 use Rattle.annotation.specs.Call.{AnnotateRan, annotateRun}
 use Rattle.annotation_answer.specs.Values.{annotationValues}
-use Rattle.annotation.specs.Values.{annotationNumbers}
+use Rattle.annotation.specs.Values.{annotationNumbers, annotationAnswer}
 use Rattle.annotation_answer.proofs.Annotation as R
 use Rattle.annotation_answer.proofs.Annotation.Laws as R′
 use Rattle.calls.proofs.annotate as called
@@ -218,7 +218,7 @@ module _ {M : Type 1} (𝓤 : URA M) (H : Heap 𝓤) (A : Atoms 𝓤) (W : Given
           -- [ν₆; labels lent; what is kept of labels; ν₅; references lent; what is kept of references; ν₄; groups lent; what is kept of groups; ν₃; items lent; what is kept of items; ν₂; records lent; what is kept of records; ν₁; index lent; what is kept of index; κ₀; κ₇; text; pool; answer; the locals]
           move ! (20 ∷ []) $ copied ! u8 (named 0) κ₀ text $ move ! (22 ∷ []) $ copied ! u8 (named 0) κ₀ pool $ owned ! u8 (Is u8) (uint-makes 𝓤 H A W w8) mode (vint w8 mode ∷ []) (refl, mode-fits) $ owned ! u8 (Is u8) (uint-makes 𝓤 H A W w8) note (vint w8 note ∷ []) (refl, note-fits) $ nothing ! $ nothing ! $ move ! (26 ∷ 23 ∷ 20 ∷ 17 ∷ 14 ∷ 11 ∷ 8 ∷ 1 ∷ 6 ∷ 3 ∷ 4 ∷ 2 ∷ 24 ∷ 21 ∷ 18 ∷ 15 ∷ 12 ∷ 9 ∷ 0 ∷ []) $
           calls-fn W ! called.ended (called.clauses 𝓤 H A mem run) ((κ₀, (ν₁ ∷ [], (ν₂ ∷ [], (ν₃ ∷ [], (ν₄ ∷ [], (ν₅ ∷ [], (ν₆ ∷ [], tt))))))), (q₀, (fullShare, (fullShare, (fullShare, (fullShare, (fullShare, (fullShare, tt))))))), tt, (text, (mode, (pool, (note, (at-list b₂ o₂ δ₁ is, (at-list b₃ o₃ δ₂ ys, (at-list b₄ o₄ δ₃ js, (at-list b₅ o₅ δ₄ gs, (at-list b₆ o₆ δ₅ rs, (at-list b₇ o₇ δ₆ ls, tt)))))))))), (sv₀ ∷ [], (vint w8 mode ∷ [], (sv₁ ∷ [], (vint w8 note ∷ [], (sv₂ ∷ [], (sv₃ ∷ [], (sv₄ ∷ [], (sv₅ ∷ [], (sv₆ ∷ [], (sv₇ ∷ [], tt))))))))))) tt
-          (λ r zs. (annotationValues r ≡ annotationNumbers ran) × (zs .1 .1 .1 .1 .0 ≡ ran .index) × (zs .1 .1 .1 .1 .1 .0 ≡ ran .records) × (zs .1 .1 .1 .1 .1 .1 .0 ≡ ran .answer .areas .items) × (zs .1 .1 .1 .1 .1 .1 .1 .0 ≡ ran .answer .areas .groups) × (zs .1 .1 .1 .1 .1 .1 .1 .1 .0 ≡ ran .answer .areas .references) × (zs .1 .1 .1 .1 .1 .1 .1 .1 .1 .0 ≡ ran .answer .areas .labels))
+          (λ r zs. (annotationValues r ≡ annotationNumbers ran) × (zs .1 .1 .1 .1 .0 ≡ ran .index) × (zs .1 .1 .1 .1 .1 .0 ≡ ran .records) × (zs .1 .1 .1 .1 .1 .1 .0 ≡ ran .answer .areas .items) × (zs .1 .1 .1 .1 .1 .1 .1 .0 ≡ ran .answer .areas .groups) × (zs .1 .1 .1 .1 .1 .1 .1 .1 .0 ≡ ran .answer .areas .references) × (zs .1 .1 .1 .1 .1 .1 .1 .1 .1 .0 ≡ ran .answer .areas .labels) × (r ≡ annotationAnswer ran))
           (‵ (flft κ₀ q₀) ∷ ‵ (flft (ν₁ ∷ []) fullShare) ∷ ‵ (flft (ν₂ ∷ []) fullShare) ∷ ‵ (flft (ν₃ ∷ []) fullShare) ∷ ‵ (flft (ν₄ ∷ []) fullShare) ∷ ‵ (flft (ν₅ ∷ []) fullShare) ∷ ‵ (flft (ν₆ ∷ []) fullShare) ∷ ‵ ftrue ∷ [])
           (‵ (ShrSlice (named 0) κ₀ u8 .own text (sv₀ ∷ [])) ∷ ‵ (u8 .own mode (vint w8 mode ∷ [])) ∷ ‵ (ShrSlice (named 0) κ₀ u8 .own pool (sv₁ ∷ [])) ∷ ‵ (u8 .own note (vint w8 note ∷ [])) ∷ ‵ (MutSlice (named 1) (ν₁ ∷ []) u16 .own (at-list b₂ o₂ δ₁ is) (sv₂ ∷ [])) ∷ ‵ (MutSlice (named 2) (ν₂ ∷ []) T.the-row .own (at-list b₃ o₃ δ₂ ys) (sv₃ ∷ [])) ∷ ‵ (MutSlice (named 3) (ν₃ ∷ []) u16 .own (at-list b₄ o₄ δ₃ js) (sv₄ ∷ [])) ∷ ‵ (MutSlice (named 4) (ν₄ ∷ []) u16 .own (at-list b₅ o₅ δ₄ gs) (sv₅ ∷ [])) ∷ ‵ (MutSlice (named 5) (ν₅ ∷ []) u16 .own (at-list b₆ o₆ δ₅ rs) (sv₆ ∷ [])) ∷ ‵ (MutSlice (named 6) (ν₆ ∷ []) u8 .own (at-list b₇ o₇ δ₆ ls) (sv₇ ∷ [])) ∷ ‵ ftrue ∷ [])
           (record { tokens = refl; owned = refl; required = id⊢ 𝓤 _; ensured = λ r zs. id⊢ 𝓤 _ }) fm (known .1) (and-then ! (load ! (from ! {i = 1} (stop !)) (look ! 68 refl)) (and-then ! (load ! (from ! {i = 2} (stop !)) (look ! 66 refl)) (and-then ! (load ! (from ! {i = 3} (stop !)) (look ! 64 refl)) (and-then ! (load ! (from ! {i = 4} (stop !)) (look ! 62 refl)) (and-then ! (load ! (from ! {i = 17} (stop !)) (look ! 36 refl)) (and-then ! (load ! (from ! {i = 19} (stop !)) (look ! 32 refl)) (and-then ! (load ! (from ! {i = 21} (stop !)) (look ! 28 refl)) (and-then ! (load ! (from ! {i = 23} (stop !)) (look ! 24 refl)) (and-then ! (load ! (from ! {i = 25} (stop !)) (look ! 20 refl)) (and-then ! (load ! (from ! {i = 27} (stop !)) (look ! 16 refl)) (no-more !))))))))))) (λ u r zs e. move ! (9 ∷ []) $ no-last ! $ no-last ! $ no-last ! $ no-last ! $ last-list ! u16 δ₁ (zs .1 .1 .1 .1 .0) (ran .index) (e .1) (λ e₁. last-list ! T.the-row δ₂ (zs .1 .1 .1 .1 .1 .0) (ran .records) (e .2) (λ e₂. last-list ! u16 δ₃ (zs .1 .1 .1 .1 .1 .1 .0) (ran .answer .areas .items) (e .3) (λ e₃. last-list ! u16 δ₄ (zs .1 .1 .1 .1 .1 .1 .1 .0) (ran .answer .areas .groups) (e .4) (λ e₄. last-list ! u16 δ₅ (zs .1 .1 .1 .1 .1 .1 .1 .1 .0) (ran .answer .areas .references) (e .5) (λ e₅. last-list ! u8 δ₆ (zs .1 .1 .1 .1 .1 .1 .1 .1 .1 .0) (ran .answer .areas .labels) (e .6) (λ e₆. drop ! $ move ! (14 ∷ []) $ drop ! $
