@@ -1,8 +1,10 @@
-// Numbers, uses and labels, written into the records and the label bytes, group by group.
+// Numbers, uses and labels, written into the records and the label bytes, group by group. There are `n` groups and `m` items; the groups that
+// start a definition line lie below group record `end`.
 use crate::Numbering;
 use defined::Defined;
 use definition::Author;
 use definition::Year;
+use uses::Count;
 ghost use mathlib.Core.Path.{_≡_};
 ghost use mathlib.Core.Bool.{true};
 ghost use Prim.Native.Nat.{_+_, _<_, _≤_, min};
@@ -21,14 +23,14 @@ fn is_defined(
     groups: &[u16],
     items: &[u16],
     n: usize,
-    lines: usize,
+    end: usize,
     k: usize,
 ) -> bool
-    requires { ⌜ (n < 4294967296) × (wellFormed (now pool) ≡ true) × (k < 4294967296) × LinesBelow (now text) (now groups) (now items) n lines ⌝ }
+    requires { ⌜ (n < 4294967296) × (wellFormed (now pool) ≡ true) × (k < 4294967296) × LinesBelow (now text) (now groups) (now items) n end ⌝ }
     ensures { λ r. ⌜ r ≡ keyDefined (now (text .entry)) (now (pool .entry)) (now (groups .entry)) (now (items .entry)) n k ⌝ }
 {
     let key = records::key_in(text, items, k);
-    let d = defined::find(text, pool, groups, items, n, lines, key);
+    let d = defined::find(text, pool, groups, items, n, end, key);
     match d {
         Defined::Line { group: _ } => true,
         Defined::Entry { number: _ } => true,
@@ -43,16 +45,16 @@ fn all_defined(
     groups: &[u16],
     items: &[u16],
     n: usize,
-    lines: usize,
+    end: usize,
     first: usize,
     count: usize,
 ) -> bool
-    requires { ⌜ (n < 4294967296) × (wellFormed (now pool) ≡ true) × (first < 65536) × (count < 65536) × LinesBelow (now text) (now groups) (now items) n lines ⌝ }
+    requires { ⌜ (n < 4294967296) × (wellFormed (now pool) ≡ true) × (first < 65536) × (count < 65536) × LinesBelow (now text) (now groups) (now items) n end ⌝ }
     ensures { λ r. ⌜ r ≡ keysDefined (now (text .entry)) (now (pool .entry)) (now (groups .entry)) (now (items .entry)) n count first ⌝ }
 {
     let mut i: usize = 0;
     while i < count {
-        if is_defined(text, pool, groups, items, n, lines, first + i) {
+        if is_defined(text, pool, groups, items, n, end, first + i) {
             i += 1;
         } else {
             return false;
@@ -67,14 +69,14 @@ fn label_in<'a>(
     mode: u8,
     pool: &'a [u8],
     n: usize,
-    lines: usize,
+    end: usize,
     k: usize,
     number: u16,
     items: &[u16],
     groups: &[u16],
     out: &mut [u8],
 ) -> usize
-    requires { ⌜ (n < 4294967296) × (wellFormed (now pool) ≡ true) × (k < 4294967296) × LinesBelow (now text) (now groups) (now items) n lines ⌝ }
+    requires { ⌜ (n < 4294967296) × (wellFormed (now pool) ≡ true) × (k < 4294967296) × LinesBelow (now text) (now groups) (now items) n end ⌝ }
     ensures { λ r. ⌜ (r ≡ length (labelOf (now (text .entry)) mode (now (pool .entry)) (now (groups .entry)) (now (items .entry)) n k number)) × (now (out .exit) ≡ fitted (labelOf (now (text .entry)) mode (now (pool .entry)) (now (groups .entry)) (now (items .entry)) n k number) (now (out .entry))) ⌝ }
 {
     if mode == 0 {
@@ -90,7 +92,7 @@ fn label_in<'a>(
         );
     }
     let key = records::key_in(text, items, k);
-    let d = defined::find(text, pool, groups, items, n, lines, key);
+    let d = defined::find(text, pool, groups, items, n, end, key);
     let author = defined::author_in(text, pool, groups, n, d);
     let year = defined::year_in(text, pool, groups, n, d);
     let suppressed = records::suppressed_in(items, k);
@@ -123,18 +125,19 @@ fn label_at<'a>(
     mode: u8,
     pool: &'a [u8],
     n: usize,
-    lines: usize,
+    end: usize,
     m: usize,
     k: usize,
-    number: u16,
+    c: Count,
     s: Numbering,
     items: &[u16],
     groups: &[u16],
     labels: &mut [u8],
 ) -> usize
-    requires { ⌜ (n < 4294967296) × (wellFormed (now pool) ≡ true) × (k < 4294967296) × LinesBelow (now text) (now groups) (now items) n lines × (s .fits ≡ true) × (s .«label_bytes» ≤ length (now labels)) × Labelled (now text) mode (now pool) n m s (now items) (now groups) (now labels) ⌝ }
-    ensures { λ r. ⌜ (r ≡ length (labelOf (now (text .entry)) mode (now (pool .entry)) (now (groups .entry)) (now (items .entry)) n k number)) × (now (labels .exit) ≡ fittedAt (labelOf (now (text .entry)) mode (now (pool .entry)) (now (groups .entry)) (now (items .entry)) n k number) (s .«label_bytes») (now (labels .entry))) ⌝ }
+    requires { ⌜ (n < 4294967296) × (wellFormed (now pool) ≡ true) × (k < 4294967296) × LinesBelow (now text) (now groups) (now items) n end × (s .fits ≡ true) × (s .«label_bytes» ≤ length (now labels)) × Labelled (now text) mode (now pool) n m s (now items) (now groups) (now labels) ⌝ }
+    ensures { λ r. ⌜ (r ≡ length (labelOf (now (text .entry)) mode (now (pool .entry)) (now (groups .entry)) (now (items .entry)) n k (c .number))) × (now (labels .exit) ≡ fittedAt (labelOf (now (text .entry)) mode (now (pool .entry)) (now (groups .entry)) (now (items .entry)) n k (c .number)) (s .«label_bytes») (now (labels .entry))) ⌝ }
 {
+    let number = c.number;
     let at = s.label_bytes;
     let j = labelled_before(text, mode, items, s.sources, k, number as usize);
     if (j < k) & (j < m) {
@@ -144,7 +147,7 @@ fn label_at<'a>(
         return len;
     }
     let out = &mut labels[at..];
-    label_in(text, mode, pool, n, lines, k, number, items, groups, out)
+    label_in(text, mode, pool, n, end, k, number, items, groups, out)
 }
 
 // The lesser of two numbers.
@@ -171,7 +174,7 @@ fn cite<'a>(
     mode: u8,
     pool: &'a [u8],
     n: usize,
-    lines: usize,
+    end: usize,
     m: usize,
     k: usize,
     s: Numbering,
@@ -179,9 +182,9 @@ fn cite<'a>(
     groups: &[u16],
     labels: &mut [u8],
 ) -> Numbering
-    requires { ⌜ (n < 4294967296) × (wellFormed (now pool) ≡ true) × (k < 4294967296) × (s .sources < 1099511627776) × (s .«label_bytes» ≤ roomOf (now labels)) × LinesBelow (now text) (now groups) (now items) n lines × Labelled (now text) mode (now pool) n m s (now items) (now groups) (now labels) ⌝ }
+    requires { ⌜ (n < 4294967296) × (wellFormed (now pool) ≡ true) × (k < 4294967296) × (s .sources < 1099511627776) × (s .«label_bytes» ≤ roomOf (now labels)) × LinesBelow (now text) (now groups) (now items) n end × Labelled (now text) mode (now pool) n m s (now items) (now groups) (now labels) ⌝ }
     ensures { λ r. ⌜ Advances 1 (λ t. citeIn (now (text .entry)) mode (now (pool .entry)) n t k) s r (now (items .entry)) (now (groups .entry)) (now (labels .entry)) (now (items .exit)) (now (groups .entry)) (now (labels .exit)) ⌝ }
-    ensures lines { λ _. ⌜ LinesBelow (now (text .entry)) (now (groups .entry)) (now (items .exit)) n lines ⌝ }
+    ensures lines { λ _. ⌜ LinesBelow (now (text .entry)) (now (groups .entry)) (now (items .exit)) n end ⌝ }
     ensures labelled { λ r. ⌜ Labelled (now (text .entry)) mode (now (pool .entry)) n m r (now (items .exit)) (now (groups .entry)) (now (labels .exit)) ⌝ }
 {
     let fits = s.fits;
@@ -192,20 +195,7 @@ fn cite<'a>(
     let left = least(65535, labels.len()) - at;
     let c = uses::count_in(text, items, 0 < pool.len(), s.sources, k);
     let number = c.number;
-    let len = label_at(
-        text,
-        mode,
-        pool,
-        n,
-        lines,
-        m,
-        k,
-        number,
-        s,
-        items,
-        groups,
-        labels,
-    );
+    let len = label_at(text, mode, pool, n, end, m, k, c, s, items, groups, labels);
     if left < len {
         return reached(false, s.sources, at);
     }
@@ -219,7 +209,7 @@ fn cite_from<'a>(
     mode: u8,
     pool: &'a [u8],
     n: usize,
-    lines: usize,
+    end: usize,
     m: usize,
     first: usize,
     count: usize,
@@ -228,9 +218,9 @@ fn cite_from<'a>(
     groups: &[u16],
     labels: &mut [u8],
 ) -> Numbering
-    requires { ⌜ (n < 4294967296) × (wellFormed (now pool) ≡ true) × (first < 65536) × (count < 65536) × (s .sources < 549755813888) × (s .«label_bytes» ≤ roomOf (now labels)) × LinesBelow (now text) (now groups) (now items) n lines × Labelled (now text) mode (now pool) n m s (now items) (now groups) (now labels) ⌝ }
+    requires { ⌜ (n < 4294967296) × (wellFormed (now pool) ≡ true) × (first < 65536) × (count < 65536) × (s .sources < 549755813888) × (s .«label_bytes» ≤ roomOf (now labels)) × LinesBelow (now text) (now groups) (now items) n end × Labelled (now text) mode (now pool) n m s (now items) (now groups) (now labels) ⌝ }
     ensures { λ r. ⌜ Advances count (λ t. citeFrom (now (text .entry)) mode (now (pool .entry)) n count t first) s r (now (items .entry)) (now (groups .entry)) (now (labels .entry)) (now (items .exit)) (now (groups .entry)) (now (labels .exit)) ⌝ }
-    ensures lines { λ _. ⌜ LinesBelow (now (text .entry)) (now (groups .entry)) (now (items .exit)) n lines ⌝ }
+    ensures lines { λ _. ⌜ LinesBelow (now (text .entry)) (now (groups .entry)) (now (items .exit)) n end ⌝ }
     ensures labelled { λ r. ⌜ Labelled (now (text .entry)) mode (now (pool .entry)) n m r (now (items .exit)) (now (groups .entry)) (now (labels .exit)) ⌝ }
 {
     let mut so_far = s;
@@ -241,7 +231,7 @@ fn cite_from<'a>(
             mode,
             pool,
             n,
-            lines,
+            end,
             m,
             first + i,
             so_far,
@@ -260,7 +250,7 @@ pub fn number_group<'a>(
     mode: u8,
     pool: &'a [u8],
     n: usize,
-    lines: usize,
+    end: usize,
     m: usize,
     g: usize,
     s: Numbering,
@@ -268,9 +258,9 @@ pub fn number_group<'a>(
     groups: &mut [u16],
     labels: &mut [u8],
 ) -> Numbering
-    requires { ⌜ (n < 4294967296) × (wellFormed (now pool) ≡ true) × (g < 4294967296) × (s .sources < 549755813888) × (s .«label_bytes» ≤ roomOf (now labels)) × LinesBelow (now text) (now groups) (now items) n lines × Labelled (now text) mode (now pool) n m s (now items) (now groups) (now labels) ⌝ }
+    requires { ⌜ (n < 4294967296) × (wellFormed (now pool) ≡ true) × (g < 4294967296) × (s .sources < 549755813888) × (s .«label_bytes» ≤ roomOf (now labels)) × LinesBelow (now text) (now groups) (now items) n end × Labelled (now text) mode (now pool) n m s (now items) (now groups) (now labels) ⌝ }
     ensures { λ r. ⌜ Advances 65535 (λ t. numberGroup (now (text .entry)) mode (now (pool .entry)) n t g) s r (now (items .entry)) (now (groups .entry)) (now (labels .entry)) (now (items .exit)) (now (groups .exit)) (now (labels .exit)) ⌝ }
-    ensures lines { λ _. ⌜ LinesBelow (now (text .entry)) (now (groups .exit)) (now (items .exit)) n lines ⌝ }
+    ensures lines { λ _. ⌜ LinesBelow (now (text .entry)) (now (groups .exit)) (now (items .exit)) n end ⌝ }
     ensures labelled { λ r. ⌜ Labelled (now (text .entry)) mode (now (pool .entry)) n m r (now (items .exit)) (now (groups .exit)) (now (labels .exit)) ⌝ }
 {
     let fits = s.fits;
@@ -282,23 +272,10 @@ pub fn number_group<'a>(
         return s;
     }
     let k = records::group_field(groups, g, 2);
-    let count = records::group_field(groups, g, 3);
-    if all_defined(text, pool, groups, items, n, lines, k, count) {
+    let c = records::group_field(groups, g, 3);
+    if all_defined(text, pool, groups, items, n, end, k, c) {
         records::put(groups, 5 * g + 4, 2);
-        cite_from(
-            text,
-            mode,
-            pool,
-            n,
-            lines,
-            m,
-            k,
-            count,
-            s,
-            items,
-            groups,
-            labels,
-        )
+        cite_from(text, mode, pool, n, end, m, k, c, s, items, groups, labels)
     } else {
         s
     }

@@ -17,6 +17,7 @@ pub label-at-spec : {M : Type 1} → statement M
 label-at-spec =
     tie.close
     (tie.spec
+    (λ c. search needs)
     (λ c κs. search needs)
     (λ c κs. search (copy-laws, needs))
     (λ c κs. search (copy-laws, needs))
