@@ -2,7 +2,7 @@
 use Prim.Native.Nat.{ℕ, _*_, _≤_, min}
 use native.Mathlib.Omega.{arith}
 use mathlib.Core.Path.{_≡_, refl, sym, _∙_, ap}
-use mathlib.Core.List.{List, [], _∷_, _++_}
+use mathlib.Core.List.{List, _++_}
 use mathlib.Core.Bool.{Bool, true, false, _&&_, and-false, true≢false}
 use lib.ListN.{length, drop}
 use lib.Dec.{eqb, leb}
@@ -18,7 +18,8 @@ use Rattle.sweep.specs.Sweep.{Lent, lentOf, lentAfter, sweepRun}
 use Rattle.standing.specs.Rows.{groupRows, itemCount, itemRows, sweptFrom}
 use Rattle.sweep.specs.Stops.{startState, SweptTo}
 use Rattle.group_records.specs.Recording.{Recorded}
-use Rattle.sweep.proofs.Laws.{item-rows-length, group-rows-length, swept-length, all-groups-count, all-items-count, all-fitted, all-item-rows, all-group-rows, swept-whole, swept-lent}
+use Rattle.standing.proofs.Swept.{swept-length}
+use Rattle.sweep.proofs.Laws.{item-rows-length, group-rows-length, all-groups-count, all-items-count, all-fitted, all-item-rows, all-group-rows, swept-whole, swept-lent}
 use Rattle.numbering.specs.Numbers.{Numbered, numberAll}
 use Rattle.numbering.specs.Progress.{Unnumbered}
 use Rattle.numbering.proofs.LabelledLaws.{swept-unnumbered}

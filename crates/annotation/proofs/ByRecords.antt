@@ -156,7 +156,7 @@ references-agree text mode all pool restItems restGroups f =
 
 -- how many records there are -----------------------------------------------------------------------------------------------------------
 
-placed-length : (text : List ℕ) (all : List Group) (pool : List ℕ) (before : Bool) (from : ℕ) (gs : List Group)
+pub placed-length : (text : List ℕ) (all : List Group) (pool : List ℕ) (before : Bool) (from : ℕ) (gs : List Group)
     → length (placedFrom text all pool before from gs) ≡ length gs
 unfolding placedFrom
 placed-length text all pool before from [] = refl

@@ -50,19 +50,19 @@ module _ (b : ℕ) (s : List ℕ) (a i : ℕ) {w : ℕ} (p : w ≡ endWithout b 
   unfolding endWithout
   without-out h = let z : i - a ≡ 0 = omega arith in sym (p ∙ rw z)
 
-  fewer : a < i → i - a ≡ suc (i - 1 - a)
-  fewer h = omega arith
-
-  before : a < i → a + (i - 1 - a) ≡ i - 1
-  before h = omega arith
-
   pub without-stop : a < i → (byteAt s (i - 1) ≡ b → ⊥) → i ≡ w
   unfolding endWithout
-  without-stop h q = sym (p ∙ rw (fewer h, before h, ne-eqb _ _ q) (omega arith))
+  without-stop h q =
+      let f : i - a ≡ suc (i - 1 - a) = omega arith in
+      let g : a + (i - 1 - a) ≡ i - 1 = omega arith in
+      sym (p ∙ rw (f, g, ne-eqb _ _ q) (omega arith))
 
   pub without-more : a < i → byteAt s (i - 1) ≡ b → w ≡ endWithout b s a (i - 1 - a)
   unfolding endWithout
-  without-more h q = p ∙ rw (fewer h, before h, eq-eqb _ _ q)
+  without-more h q =
+      let f : i - a ≡ suc (i - 1 - a) = omega arith in
+      let g : a + (i - 1 - a) ≡ i - 1 = omega arith in
+      p ∙ rw (f, g, eq-eqb _ _ q)
 
 pub ruleset without-laws = (without-out, without-stop, without-more)
 

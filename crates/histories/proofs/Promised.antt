@@ -1,7 +1,7 @@
 -- THEOREM `PromisedHistories`: calls that meet their promises answer as `answersOf` says, and so by `Histories` plainly.
 use Prim.Native.Nat.{ℕ}
 use mathlib.Core.Path.{_≡_, refl, _∙_, ap}
-use mathlib.Core.List.{List, [], _∷_, map}
+use mathlib.Core.List.{List, [], _∷_, map, map-map}
 use lib.ListN.{length, getD, take}
 use Rattle.lookup.specs.declared.LookUp.{LookUp}
 use Rattle.lookup.specs.declared.LookUp.the-variants.{Accepted as FoundOne, Refused as FoundNone}
@@ -89,11 +89,7 @@ all-shown text (d ∷ ds) st h =
     (all-shown text ds (stateAfter st d) (h .1)
     ∙ ap (λ (s : State). answersOf text s (map callOf ds)) (met-leaves text st d (h .0)))
 
-map-map : {A B C : Type 0} (f : A → B) (g : B → C) (l : List A) → map g (map f l) ≡ map (λ (x : A). g (f x)) l
-map-map f g [] = refl
-map-map f g (x ∷ xs) = both refl (map-map f g xs)
-
 pub promised-histories : PromisedHistories
 promised-histories text index note other done h =
     all-shown text done (state index note) h ∙ demand-3 text index note other (map callOf done)
-    ∙ map-map callOf (plain text (length index)) done
+    ∙ map-map (plain text (length index)) callOf done

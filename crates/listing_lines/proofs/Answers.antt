@@ -1,5 +1,5 @@
 -- The answer of the annotation, and the listing by it, in the form of the needs.
-use Prim.Native.Nat.{ℕ, suc, _*_, _≤_}
+use Prim.Native.Nat.{ℕ, _*_, _≤_}
 use native.Mathlib.Omega.{arith}
 use mathlib.Core.Path.{_≡_, refl, _∙_, ap}
 use mathlib.Core.List.{List, [], _∷_}
@@ -12,7 +12,6 @@ use Rattle.index.specs.Built.{blank}
 use Rattle.base.proofs.Bools.{and-left, and-right}
 use Rattle.item.specs.Group.{Group}
 use Rattle.lookup.specs.Refusals.{tooFew}
-use Rattle.definition_line.specs.Lines.{inLine, groupEnd}
 use Rattle.sweep.specs.Sweep.{sweepOf}
 use Rattle.sweep.proofs.Laws.{group-rows-length}
 use Rattle.group_records.proofs.Areas.{written-front}
@@ -26,6 +25,7 @@ use Rattle.preparation.specs.Refusal.{annotateRefusal}
 use Rattle.annotation.proofs.Truth.{annotate-true}
 use Rattle.line_writers.specs.declared.Told.{Told}
 use Rattle.line_writers.specs.Lines.{countLine, listed}
+use Rattle.annotation.proofs.ByRecords.{placed-length}
 use Rattle.listing_lines.specs.Listing.{listingAreas, listingAnswer, listingOf}
 use Rattle.line_writers.specs.Writes.{Put, Room, answerBy}
 use Rattle.listing_lines.specs.Ready.{zeroes, Ready, Listed}
@@ -71,12 +71,6 @@ module _ (text index items groups references labels out : List ℕ) (z : Ready t
       ∙ rw (z .item-area, z .group-area, z .reference-area, z .label-area) refl
 
 -- how many groups there can be: as many as their area has room for
-pub placed-length : (text : List ℕ) (all : List Group) (pool : List ℕ) (before : Bool) (from : ℕ) (gs : List Group)
-    → length (placedFrom text all pool before from gs) ≡ length gs
-unfolding placedFrom
-placed-length text all pool before from [] = refl
-placed-length text all pool before from (g ∷ gs) = ap suc (placed-length text all pool (inLine text before from g) (groupEnd g) gs)
-
 pub content-groups : (text : List ℕ) (mode : ℕ) (all : List Group) (pool : List ℕ) → length (contentOf text mode all pool .groups) ≡ 5 * length all
 unfolding contentOf placedOf
 content-groups text mode all pool =

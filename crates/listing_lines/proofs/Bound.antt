@@ -30,8 +30,8 @@ use Rattle.annotation.specs.Steps.{Fits}
 use Rattle.annotation.proofs.Found.{swept-fits}
 use Rattle.annotation.proofs.Passes.{tally-agrees}
 use Rattle.line_writers.specs.Lines.{itemLine, itemLines, groupLines, countLine, refusedLine, listed}
+use Rattle.annotation.proofs.ByRecords.{placed-length}
 use Rattle.listing_lines.specs.Listing.{listingAreas, listingAnswer, listingOf}
-use Rattle.listing_lines.proofs.Answers.{placed-length}
 use Rattle.listing_lines.proofs.KeyBytes.{keysIn, keysOf, sweep-keys-by}
 
 -- lines ------------------------------------------------------------------------------------------------------------------------------

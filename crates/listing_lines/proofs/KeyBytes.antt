@@ -4,12 +4,11 @@ use Prim.Native.Nat.{ℕ, zero, suc, _+_, _-_, _≤_, _<_}
 use native.Mathlib.Omega.{arith}
 use mathlib.Core.Path.{_≡_, refl}
 use mathlib.Core.List.{List, [], _∷_, _++_}
-use mathlib.Core.Bool.{Bool, true, false, _&&_, _||_, not}
+use mathlib.Core.Bool.{Bool, true, false, not}
 use lib.ListN.{length}
-use lib.Dec.{eqb, ltb}
-use borrow.Author.Tests.{ltb-true, eqb-true, lt-ltb}
+use lib.Dec.{ltb}
+use borrow.Author.Tests.{ltb-true, lt-ltb}
 use Rattle.base.specs.Pick.{pick}
-use Rattle.base.specs.Lists.{byteAt}
 use Rattle.base.specs.Spans.{spanOf}
 use Rattle.white.specs.White.{isWhite}
 use Rattle.text.specs.Trim.{trimStart, trimEnd}
@@ -19,10 +18,10 @@ use Rattle.close.specs.declared.Close.the-variants.{At, Nothing}
 use Rattle.close.specs.Scan.{closeOf}
 use Rattle.item.specs.declared.Item.{Item}
 use Rattle.item.specs.declared.Parsed.the-variants.{Good, Bad}
-use Rattle.item.specs.Items.{atSign, keyServes, wins, winner, itemAt, itemIn, itemOf}
+use Rattle.item.specs.Items.{wins, winner, itemAt, itemIn, itemOf}
 use Rattle.item.specs.Pieces.{stretch, semicolonAt, endsPiece, piecesIn, pieces, integralAt, itemsStart, piecesOf, parsed, kept, itemsIn, itemsOf}
+use Rattle.item.proofs.Parts.{wins-by}
 use Rattle.index.specs.Entries.{opensAt}
-use Rattle.base.proofs.Bools.{and-left, and-right}
 use Rattle.base.proofs.Searches.{first-from, first-holds}
 use Rattle.text.proofs.Trims.{content-by}
 use Rattle.resolve.specs.Groups.{GroupAnswer, Found, NoGroup, groupAccepted, judge, groupAt}
@@ -45,23 +44,11 @@ span-length : (a e : ℕ) → a < e → spanOf a e .len ≡ e - a
 unfolding spanOf
 span-length a e h = rw (lt-ltb a e h) refl
 
--- the key of an `@` that wins begins after it, and does not pass the item's end
-wins-key : (s : List ℕ) (e i : ℕ) → wins s e i ≡ true → (i + 1 < keyEnd s (i + 1)) × (keyEnd s (i + 1) ≤ e)
-unfolding wins keyServes
-wins-key s e i h = go (keyEnd s (i + 1)) (and-right (atSign s i) _ h)
-  where
-    ends : (m : ℕ) (x : Bool) → eqb m e ≡ x → x || ltb m e && eqb (byteAt s m) 44 ≡ true → m ≤ e
-    ends m true q g = let z : m ≡ e = eqb-true _ _ q in omega arith
-    ends m false q g = let z : m < e = ltb-true _ _ (and-left _ _ g) in omega arith
-
-    go : (m : ℕ) → ltb (i + 1) m && (eqb m e || ltb m e && eqb (byteAt s m) 44) ≡ true → (i + 1 < m) × (m ≤ e)
-    go m g = (ltb-true _ _ (and-left _ _ g), ends m (eqb m e) refl (and-right (ltb (i + 1) m) _ g))
-
--- so it is shorter than its item
+-- the key of an `@` that wins is shorter than its item
 key-short : (s : List ℕ) (a e i : ℕ) → a ≤ i → wins s e i ≡ true → itemAt s a e i (keyEnd s (i + 1)) .key .len + 1 ≤ e - a
 unfolding itemAt
 key-short s a e i l h =
-    let k = wins-key s e i h in
+    let k = wins-by s e i h in
     let z = span-length (i + 1) (keyEnd s (i + 1)) (k .0) in
     omega (arith, k .0, k .1)
 

@@ -22,6 +22,7 @@ use Rattle.definition.specs.Defs.{Def, lineDef, definesKey, lastLine, firstEntr
 use Rattle.defined.specs.Definitions.{definesIn, definesKeyIn, lineIn, LinesBelow, lineDefIn, definitionIn}
 use Rattle.records.specs.Records.{groupField, keyIn, suppressedIn, bareIn, closeOfRecord, nextIn}
 use Rattle.base.proofs.Lasts.{lastFrom, last-from, last-same}
+use Rattle.standing.proofs.Swept.{swept-length}
 use Rattle.uses.proofs.Fields.{item-field, group-field, SameItems, SameGroups}
 
 -- areas whose records agree, but for numbers, uses, labels and standings -------------------------------------------------------------
@@ -268,11 +269,6 @@ pub swept-groups : (text : List ℕ) (before : Bool) (from : ℕ) (gs : List Gro
 unfolding sweptFrom
 swept-groups text before from [] = refl
 swept-groups text before from (g ∷ gs) = ap (λ (hs : List Group). g ∷ hs) (swept-groups text (inLine text before from g) (groupEnd g) gs)
-
-pub swept-length : (text : List ℕ) (before : Bool) (from : ℕ) (gs : List Group) → length (sweptFrom text before from gs) ≡ length gs
-unfolding sweptFrom
-swept-length text before from [] = refl
-swept-length text before from (g ∷ gs) = ap suc (swept-length text (inLine text before from g) (groupEnd g) gs)
 
 swept-each : (P : Group → Type 0) (text : List ℕ) (before : Bool) (from : ℕ) (gs : List Group) → Each P gs
     → Each (λ (p : Placed). P (p .group)) (sweptFrom text before from gs)

@@ -14,9 +14,8 @@ use Rattle.numbering.specs.declared.Numbering.{Numbering}
 use Rattle.uses.specs.declared.Count.{Count}
 use Rattle.defined.specs.Definitions.{LinesBelow}
 use Rattle.numbering.specs.Numbers.{Numbered, labelIn, citeAs, citeIn}
-use Rattle.uses.specs.Uses.{setLast}
+use Rattle.uses.specs.Uses.{setLast, Counts}
 use Rattle.numbering.specs.Progress.{labelOf, roomOf, state, Agrees, Holds, Advances}
-use Rattle.uses.specs.Uses.{Counts}
 use Rattle.uses.proofs.Fields.{set-last-same, set-standing-same}
 use Rattle.numbering.proofs.ByLines.{lines-same}
 

@@ -3,7 +3,7 @@ pub mod numbers;
 
 ghost use mathlib.Core.Path.{_≡_};
 ghost use mathlib.Core.Bool.{true};
-ghost use Prim.Native.Nat.{_<_, _≤_};
+ghost use Prim.Native.Nat.{_≤_};
 ghost use Rattle.pool.specs.Layout.{wellFormed};
 ghost use Rattle.numbering.specs.Numbers.{numberAll};
 ghost use Rattle.numbering.specs.Progress.{roomOf, Holds, Unnumbered};

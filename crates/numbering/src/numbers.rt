@@ -7,14 +7,13 @@ use definition::Year;
 use uses::Count;
 ghost use mathlib.Core.Path.{_≡_};
 ghost use mathlib.Core.Bool.{true};
-ghost use Prim.Native.Nat.{_+_, _<_, _≤_, min};
+ghost use Prim.Native.Nat.{_<_, _≤_, min};
 ghost use lib.ListN.{length};
 ghost use Rattle.pool.specs.Layout.{wellFormed};
 ghost use Rattle.label.specs.Areas.{fitted, fittedAt};
 ghost use Rattle.defined.specs.Definitions.{LinesBelow};
 ghost use Rattle.numbering.specs.Numbers.{citeIn, citeFrom, numberGroup};
-ghost use Rattle.numbering.specs.Progress.{keyDefined, keysDefined, labelOf, roomOf, state};
-ghost use Rattle.numbering.specs.Progress.{Advances, Alike, Labelled};
+ghost use Rattle.numbering.specs.Progress.{keyDefined, keysDefined, labelOf, roomOf, state, Advances, Alike, Labelled};
 
 // Whether the key of item record `k` is defined.
 fn is_defined(

@@ -20,7 +20,7 @@ use Rattle.order.specs.Ordered.{rankBy, insertBy, greaterAt, Rising, Sor
 -- the order of bytes -------------------------------------------------------------------------------------------------------------
 
 module _ (x y : ℕ) (xs ys : List ℕ) where
-  less-lt : x < y → less (x ∷ xs) (y ∷ ys) ≡ true
+  pub less-lt : x < y → less (x ∷ xs) (y ∷ ys) ≡ true
   unfolding less
   less-lt h = rw (lt-ltb x y h) refl
 

@@ -2,3 +2,4 @@ pub mod Lent
 pub mod Turns
 pub mod Clearing
 pub mod Calls
+pub mod Blank

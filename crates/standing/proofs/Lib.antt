@@ -1,2 +1,3 @@
 pub mod ItemSizes
 pub mod Lines
+pub mod Swept

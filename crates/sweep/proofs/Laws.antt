@@ -1,5 +1,5 @@
 -- The records of a sweep, over lists of groups that follow each other.
-use Prim.Native.Nat.{ℕ, suc, _+_, _*_, _≤_}
+use Prim.Native.Nat.{ℕ, _+_, _*_, _≤_}
 use native.Mathlib.Omega.{arith}
 use mathlib.Core.Path.{_≡_, refl, sym, _∙_, ap}
 use mathlib.Core.List.{List, [], _∷_, _++_, append-assoc}
@@ -15,6 +15,7 @@ use Rattle.rows.specs.Rows.{rowsOf, rowsLength}
 use Rattle.rows.proofs.RowLaws.{rows-length}
 use Rattle.definition_line.specs.Lines.{inLine, groupEnd}
 use Rattle.group_records.specs.declared.SweepState.{SweepState}
+use Rattle.standing.proofs.Swept.{swept-length}
 use Rattle.sweep.specs.Sweep.{Lent, Swept, lentAfter, sweepRun}
 use Rattle.standing.specs.Rows.{Placed, placed, groupRow, groupRows, itemCount, itemRows, sweptFrom, insideAfter, endAfter}
 use Rattle.sweep.specs.Stops.{stopFrom, startState, SweptTo}
@@ -48,11 +49,6 @@ group-rows-length n [] = refl
 group-rows-length n (p ∷ ps) = let h = group-rows-length (n + length (p .group .items)) ps in omega arith
 
 module _ (text : List ℕ) where
-  pub swept-length : (before : Bool) (from : ℕ) (gs : List Group) → length (sweptFrom text before from gs) ≡ length gs
-  unfolding sweptFrom
-  swept-length before from [] = refl
-  swept-length before from (g ∷ gs) = ap suc (swept-length (inLine text before from g) (groupEnd g) gs)
-
   -- the groups `hs` after the groups `gs`
   pub inside-append : (before : Bool) (from : ℕ) (gs hs : List Group)
       → insideAfter text before from (gs ++ hs) ≡ insideAfter text (insideAfter text before from gs) (endAfter from gs) hs

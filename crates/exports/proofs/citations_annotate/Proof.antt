@@ -56,7 +56,8 @@ use Rattle.calls.proofs.annotate.Met as called-thm
 use Rattle.answers.specs.Words.{Words}
 use Rattle.exports.specs.Areas.{AnnotateAreas, annotateAreas, afterAnnotate}
 use Rattle.exports.proofs.Laws.{annotate-fit, annotate-left, annotate-kept}
-use Rattle.exports.proofs.Calls.{HasRoom, asks, holds, fails}
+use Rattle.exports.proofs.Calls.{HasRoom, asks}
+use lib.Ieee.Bits.{is-true as holds, is-false as fails}
 use Rattle.answers.proofs.has_room.Symbol as room-def
 use Rattle.answers.proofs.has_room.Symbol.{name as #answers·has-room}
 use Rattle.answers.proofs.has_room.Met as room-thm

@@ -54,7 +54,8 @@ use Rattle.calls.proofs.look_up.Met as called-thm
 use Rattle.answers.specs.Words.{Words}
 use Rattle.exports.specs.Areas.{LookUpAreas, lookUpAreas, afterLookUp}
 use Rattle.exports.proofs.Laws.{look-up-fit, look-up-left, look-up-kept}
-use Rattle.exports.proofs.Calls.{HasRoom, asks, holds, fails}
+use Rattle.exports.proofs.Calls.{HasRoom, asks}
+use lib.Ieee.Bits.{is-true as holds, is-false as fails}
 use Rattle.answers.proofs.has_room.Symbol as room-def
 use Rattle.answers.proofs.has_room.Symbol.{name as #answers·has-room}
 use Rattle.answers.proofs.has_room.Met as room-thm

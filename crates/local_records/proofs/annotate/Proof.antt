@@ -55,7 +55,8 @@ use Rattle.calls.proofs.annotate.Symbol as called-def
 use Rattle.calls.proofs.annotate.Symbol.{name as #calls·annotate}
 use Rattle.calls.proofs.annotate.Met as called-thm
 use Rattle.local_records.proofs.LongLocal.{lends-long, big-lit}
-use Rattle.local_records.proofs.Records.{rows, bracket, is-blank}
+use Rattle.pairs.proofs.Blank.{bracket, is-blank}
+use Rattle.local_records.proofs.Records.{rows}
 use Rattle.local_records.proofs.annotate.Key.{name as #annotate}
 use Rattle.local_records.proofs.annotate as f
 use Rattle.local_records.proofs.annotate.Statement as stated

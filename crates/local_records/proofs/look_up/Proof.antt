@@ -54,7 +54,8 @@ use Rattle.calls.proofs.look_up.Symbol as called-def
 use Rattle.calls.proofs.look_up.Symbol.{name as #calls·look-up}
 use Rattle.calls.proofs.look_up.Met as called-thm
 use Rattle.local_records.proofs.LongLocal.{lends-long, big-lit}
-use Rattle.local_records.proofs.Records.{rows, bracket, is-blank}
+use Rattle.pairs.proofs.Blank.{bracket, is-blank}
+use Rattle.local_records.proofs.Records.{rows}
 use Rattle.local_records.proofs.look_up.Key.{name as #look-up}
 use Rattle.local_records.proofs.look_up as f
 use Rattle.local_records.proofs.look_up.Statement as stated

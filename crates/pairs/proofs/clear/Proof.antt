@@ -49,6 +49,7 @@ use Rattle.index.proofs.Bracket.Laws as T′
 use Rattle.pairs.proofs.Lent.{at-list, lent, back}
 use Rattle.base.proofs.Bools.{split as cases}
 use Rattle.base.proofs.Calling.{calls-row, last-list}
+use Rattle.pairs.proofs.Blank.{bracket, is-blank}
 use Rattle.pairs.proofs.Clearing.{State, next, below, below-wf, Facts, at-start, less, there, after, at-end}
 use Rattle.pairs.proofs.store as put
 use Rattle.pairs.proofs.store.Symbol as put-def
@@ -65,12 +66,6 @@ stayed = (stay-none-slice (0 ∷ []) tt (plain (λ _. u8)) yes, (stay-slice (1 �
 -- the callee's theorem, at the key by which the MIR calls it
 abbrev Known : {M : Type 1} (𝓤 : URA M) (H : Heap 𝓤) (A : Atoms 𝓤) (mem : Memory → SProp 𝓤) (run : Routine → Fun 𝓤) (C : Calls 𝓤 H) → Type 1
 Known 𝓤 H A mem run C = Triple 𝓤 (C #pairs·store) (tripleOf 𝓤 H A put.signature (put.spec 𝓤 H A mem run))
-
-abbrev bracket : Bracket → Val
-bracket h = LL.val T.the-type T′.the-laws h
-
-is-blank : Is T.the-row blank (bracket blank ∷ [])
-is-blank = LL.owes T.the-type T′.the-laws blank ((refl, lit< tt), ((refl, lit< tt), ((refl, lit< tt), ((refl, lit< tt), tt))))
 
 -- the types of the locals
 abbrev textTy : Ty
