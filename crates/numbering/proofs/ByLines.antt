@@ -14,7 +14,8 @@ use Rattle.base.specs.Lists.{same}
 use Rattle.base.specs.Sorted.{Each}
 use Rattle.item.specs.declared.Item.{Item}
 use Rattle.item.specs.Group.{Group}
-use Rattle.rows.specs.Rows.{itemWidth, marksOf, recordOf, rowOf, rowsIn, rowsOf}
+use Rattle.rows.specs.Rows.{itemWidth, marksOf, recordOf, rowOf, rowsIn, rowsOf, rowsLength}
+use Rattle.rows.proofs.RowLaws.{rows-length}
 use Rattle.pool.specs.Layout.{entriesOf}
 use Rattle.standing.specs.Rows.{Placed, groupWidth, groupRow, groupRows, sweptFrom, itemRows}
 use Rattle.definition_line.specs.Lines.{startsLine, colonAfter, bareItem, onlyKey, defines, inLine, groupEnd, nextOpen, keyOf, definedKey}
@@ -71,11 +72,6 @@ module _ (text groups otherGroups items otherItems : List ℕ) (h : SameGroups g
       rw (e, line-same n (last (definesKeyIn text otherGroups otherItems key) n n))
 
 -- one item and one group -------------------------------------------------------------------------------------------------------------
-
-pub rows-length : (integral : Bool) (is : List Item) → length (rowsIn integral is) ≡ itemWidth * length is
-unfolding rowsIn rowOf recordOf
-rows-length integral [] = refl
-rows-length integral (i ∷ is) = omega (arith, rows-length integral is)
 
 -- the record of an item, after `k` others
 module _ (text before : List ℕ) (integral : Bool) (i : Item) (after : List ℕ) (k : ℕ) (h : length before ≡ itemWidth * k) where
@@ -154,10 +150,10 @@ pub record LieAt (groups items : List ℕ) (g k : ℕ) (ps : List Placed) (befor
 module _ (groups items : List ℕ) (g k : ℕ) (p : Placed) (ps : List Placed) (gb ga ib ia : List ℕ) (l : LieAt groups items g k (p ∷ ps) gb ga ib ia) where
   -- the group after the first
   pub lie-next : LieAt groups items (g + 1) (k + length (p .group .items)) ps (gb ++ groupRow k p) ga (ib ++ rowsOf (p .group)) ia
-  unfolding groupRows groupRow itemRows rowsOf
+  unfolding groupRows groupRow itemRows rowsOf rowsLength
   lie-next = record {
     gcount = omega (arith, length-append gb (groupRow k p), l .gcount);
-    icount = omega (arith, length-append ib (rowsOf (p .group)), rows-length (p .group .integral) (p .group .items), l .icount);
+    icount = omega (arith, length-append ib (rowsOf (p .group)), rows-length (p .group), l .icount);
     gis = l .gis ∙ regroup gb (groupRow k p) (groupRows (k + length (p .group .items)) ps) ga;
     iis = l .iis ∙ regroup ib (rowsOf (p .group)) (itemRows (groupsOf ps)) ia;
   }

@@ -9,7 +9,7 @@ use lib.Dec.{eqb, ltb}
 use borrow.Author.Tests.{ltb-true, ltb-false, eqb-true, eqb-false, not-false}
 use Rattle.item.specs.declared.Item.{Item}
 use Rattle.item.specs.Group.{Group}
-use Rattle.rows.specs.Rows.{itemWidth, recordOf, rowOf, rowsIn, rowsOf}
+use Rattle.rows.specs.Rows.{itemWidth, recordOf, rowOf, rowsIn, rowsOf, rowsLength}
 use Rattle.standing.specs.Rows.{itemCount, itemRows}
 use Rattle.records.specs.Records.{itemField, suppressedIn}
 use Rattle.label.specs.Areas.{fittedAt}
@@ -18,7 +18,8 @@ use Rattle.uses.specs.Uses.{setLast}
 use Rattle.uses.proofs.Fields.{item-skip, SameItems, SameGroups, set-last-same, set-last-other, set-last-number, set-last-at, set-last-len, set-standing-same}
 use Rattle.numbering.specs.declared.Numbering.{Numbering}
 use Rattle.numbering.specs.Progress.{labelOf, roomOf, state, LabelStands, Labelled, Unnumbered}
-use Rattle.numbering.proofs.ByLines.{key-same, definition-same, rows-length}
+use Rattle.rows.proofs.RowLaws.{rows-length}
+use Rattle.numbering.proofs.ByLines.{key-same, definition-same}
 
 -- the records that a sweep leaves: none of them has a number ---------------------------------------------------------------------------
 
@@ -32,7 +33,7 @@ rows-unnumbered integral (i ∷ is) after (suc j) l =
     (item-skip (rowOf integral i) (rowsIn integral is ++ after) 1 j 12 refl ∙ rows-unnumbered integral is after j (omega arith))
 
 swept-numbers : (gs : List Group) (after : List ℕ) (j : ℕ) → j < itemCount gs → itemField (itemRows gs ++ after) j 12 ≡ 0
-unfolding itemRows itemCount rowsOf
+unfolding itemRows itemCount rowsOf rowsLength
 swept-numbers [] after j l = absurd (omega arith)
 swept-numbers (g ∷ gs) after j l =
     rw (append-assoc (rowsOf g) (itemRows gs) after) (go (ltb j n) refl (swept-numbers gs after (j - n)))
@@ -46,14 +47,14 @@ swept-numbers (g ∷ gs) after j l =
     go false p rec =
         let q = ltb-false j n p in
         let e : n + (j - n) ≡ j = omega arith in
-        rw e at (item-skip (rowsOf g) (itemRows gs ++ after) n (j - n) 12 (rows-length (g .integral) (g .items)) ∙ rec (omega arith))
+        rw e at (item-skip (rowsOf g) (itemRows gs ++ after) n (j - n) 12 (rows-length g) ∙ rec (omega arith))
 
 swept-room : (gs : List Group) (after : List ℕ) → itemWidth * itemCount gs ≤ length (itemRows gs ++ after)
-unfolding itemRows itemCount rowsOf
+unfolding itemRows itemCount rowsOf rowsLength
 swept-room [] after = omega arith
 swept-room (g ∷ gs) after =
     rw (append-assoc (rowsOf g) (itemRows gs) after, length-append)
-    (omega (arith, rows-length (g .integral) (g .items), swept-room gs after))
+    (omega (arith, rows-length g, swept-room gs after))
 
 pub swept-unnumbered : (gs : List Group) (after : List ℕ) → Unnumbered (itemCount gs) (itemRows gs ++ after)
 swept-unnumbered gs after = record { room = swept-room gs after; none = swept-numbers gs after }
