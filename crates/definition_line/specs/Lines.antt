@@ -59,10 +59,6 @@ nextOpen text (g ∷ gs) = g .at
 unfoldable pub afterSpaces : List ℕ → ℕ → ℕ
 afterSpaces text close = firstOther 32 text (close + 2) (length text)
 
--- the end of the plain run that goes on at `a`: the next group at `next`, an LF before that, or the text's end
-abbrev pub runStop : List ℕ → ℕ → ℕ → ℕ
-runStop text a next = breakAt text a next
-
 -- the first `}` from `a` up to `e`; `e` where none is there
 unfoldable pub braceAt : List ℕ → ℕ → ℕ → ℕ
 braceAt text a e = firstOf 125 text a e
@@ -77,9 +73,9 @@ bracedAt text a e = pick (isAt text a 123 && ltb (braceAt text a e) e) (part tex
 
 -- "If the plain run after those spaces starts with `{` and holds `}`, the part between that and the first `}` is its attributes."
 -- Without them a line gives no author and no year, as with empty ones. The line's first group closes at `close`, and the group after
--- that one begins at `next`.
+-- that one begins at `next`: the plain run ends there, or at an LF before that.
 unfoldable pub attributesOf : List ℕ → ℕ → ℕ → List ℕ
-attributesOf text close next = bracedAt text (afterSpaces text close) (runStop text (afterSpaces text close) next)
+attributesOf text close next = bracedAt text (afterSpaces text close) (breakAt text (afterSpaces text close) next)
 
 -- an item's key
 abbrev pub keyOf : List ℕ → Item → List ℕ

@@ -4,7 +4,7 @@ use native.Mathlib.Omega.{arith}
 use mathlib.Core.Path.{_≡_, refl, sym, _∙_, ap}
 use mathlib.Core.List.{List, [], _∷_}
 use mathlib.Core.Bool.{Bool, true, false, not, _&&_}
-use mathlib.Core.Option.{Option, none, some}
+use mathlib.Core.Option.{Option, none, some, Option·getD}
 use lib.ListN.{length, take, drop}
 use lib.Dec.{leb, ltb}
 use borrow.Author.Tests.{lt-ltb, le-ltb, eq-eqb, ne-eqb}
@@ -16,7 +16,7 @@ use Rattle.pool.specs.declared.Found.{Found}
 use Rattle.pool.specs.declared.Found.the-variants.{At, Missing}
 use Rattle.pool.specs.declared.NameParts.{NameParts}
 use Rattle.pool.specs.Fields.{fieldAt, fieldEnd, fieldsOf}
-use Rattle.pool.specs.Entries.{Name, bytesOr, fieldWith, nameAfter, nameAt, namesIn, entryOf}
+use Rattle.pool.specs.Entries.{Name, fieldWith, nameAfter, nameAt, namesIn, entryOf}
 use Rattle.pool.specs.Layout.{countOf, offsetOf, endOf, wellFormed, entriesIn, entriesOf}
 use Rattle.pool.specs.Places.{Reads, ReadsName, FieldsIn, EntryIn}
 use Rattle.pool.proofs.FieldLaws.{fields-next, fields-end}
@@ -80,11 +80,11 @@ module _ (s : List ℕ) (i : ℕ) {at e : ℕ} (p : at ≡ offsetOf s i) (q : e 
   pub id-given : {f : Found} {v : Span} {own : List ℕ} → Reads s f (fieldWith 1 (fieldsOf s at e)) → f ≡ At v → own ≡ part s (v .at) (v .at + v .len)
       → own ≡ entryAt s i .id
   unfolding entryOf
-  id-given f t g = g ∙ rw t at (ap (λ (o : Option (List ℕ)). bytesOr o []) (f .bytes)) ∙ id-at
+  id-given f t g = g ∙ rw t at (ap (λ (o : Option (List ℕ)). Option·getD o []) (f .bytes)) ∙ id-at
 
   pub id-missing : {f : Found} {own : List ℕ} → Reads s f (fieldWith 1 (fieldsOf s at e)) → f ≡ Missing → own ≡ part s 0 (0 + 0) → own ≡ entryAt s i .id
   unfolding entryOf
-  id-missing f t g = g ∙ part-none s ∙ rw t at (ap (λ (o : Option (List ℕ)). bytesOr o []) (f .bytes)) ∙ id-at
+  id-missing f t g = g ∙ part-none s ∙ rw t at (ap (λ (o : Option (List ℕ)). Option·getD o []) (f .bytes)) ∙ id-at
 
 pub ruleset id-laws = (has-none, has-same, pair-there, entry-fields, id-given, id-missing)
 

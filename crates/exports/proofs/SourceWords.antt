@@ -4,7 +4,7 @@ use native.Mathlib.Omega.{arith}
 use mathlib.Core.Path.{_≡_, refl}
 use mathlib.Core.List.{List, [], _∷_, _++_}
 use mathlib.Core.Bool.{Bool, true, false, not, _&&_}
-use mathlib.Core.Option.{Option, none, some}
+use mathlib.Core.Option.{Option, none, some, Option·getD}
 use lib.ListN.{length, take, drop, length-append, length-take, length-drop}
 use lib.Dec.{eqb, leb, ltb}
 use borrow.Author.Tests.{ltb-true}
@@ -14,7 +14,7 @@ use Rattle.base.specs.Lists.{part, within, written}
 use Rattle.base.specs.Sorted.{Each}
 use Rattle.pool.specs.Numbers.{Signed}
 use Rattle.pool.specs.Fields.{Field, fieldEnd, fieldAt, fieldsIn, fieldsOf}
-use Rattle.pool.specs.Entries.{Entry, noEntry, fieldWith, inName, nameAfter, nameAt, namesIn, bytesOr, entryOf}
+use Rattle.pool.specs.Entries.{Entry, noEntry, fieldWith, inName, nameAfter, nameAt, namesIn, entryOf}
 use Rattle.pool.specs.Layout.{countOf, offsetOf, endOf, wellFormed, entriesOf}
 use Rattle.pool.proofs.PoolLaws.{entry-there, count-is, entry-is}
 use Rattle.decimal.proofs.Laws.{decimal-short}
@@ -60,28 +60,28 @@ fields-few (suc n) s at e = go (ltb at e) (fields-few n s (fieldEnd s at) e)
     go true k = omega arith
     go false k = omega arith
 
-tagged-short : (t : ℕ) (fs : List Field) → Each Short fs → length (bytesOr (fieldWith t fs) []) ≤ 32768
+tagged-short : (t : ℕ) (fs : List Field) → Each Short fs → length (Option·getD (fieldWith t fs) []) ≤ 32768
 unfolding fieldWith
 tagged-short t [] h = omega arith
 tagged-short t (f ∷ fs) h = go (eqb (f .tag) t) (tagged-short t fs (h .1))
   where
-    go : (b : Bool) → length (bytesOr (fieldWith t fs) []) ≤ 32768 → length (bytesOr (pick b (some (f .bytes)) (fieldWith t fs)) []) ≤ 32768
+    go : (b : Bool) → length (Option·getD (fieldWith t fs) []) ≤ 32768 → length (Option·getD (pick b (some (f .bytes)) (fieldWith t fs)) []) ≤ 32768
     go true k = h .0
     go false k = k
 
 -- the names ------------------------------------------------------------------------------------------------------------------------
 
-in-name-short : (t : ℕ) (fs : List Field) → Each Short fs → length (bytesOr (inName t fs) []) ≤ 32768
+in-name-short : (t : ℕ) (fs : List Field) → Each Short fs → length (Option·getD (inName t fs) []) ≤ 32768
 unfolding inName
 in-name-short t [] h = omega arith
 in-name-short t (f ∷ fs) h = go (eqb (f .tag) t) (within 3 5 (f .tag)) (in-name-short t fs (h .1))
   where
-    go : (a b : Bool) → length (bytesOr (inName t fs) []) ≤ 32768 → length (bytesOr (pick a (some (f .bytes)) (pick b (inName t fs) none)) []) ≤ 32768
+    go : (a b : Bool) → length (Option·getD (inName t fs) []) ≤ 32768 → length (Option·getD (pick a (some (f .bytes)) (pick b (inName t fs) none)) []) ≤ 32768
     go true b k = h .0
     go false true k = k
     go false false k = omega arith
 
-by-short : (l f g : Option (List ℕ)) → length (bytesOr l []) ≤ 32768 → length (bytesOr f []) ≤ 32768 → length (bytesOr g []) ≤ 32768 → length (nameBy l f g) ≤ 65538
+by-short : (l f g : Option (List ℕ)) → length (Option·getD l []) ≤ 32768 → length (Option·getD f []) ≤ 32768 → length (Option·getD g []) ≤ 32768 → length (nameBy l f g) ≤ 65538
 unfolding nameBy
 by-short (some l) f g a b c = omega arith
 by-short none (some f) (some g) a b c = simp length-append (omega arith)
@@ -128,7 +128,7 @@ signed-short y = go (y .negative) (decimal-short (y .magnitude))
     go true k = omega arith
     go false k = omega arith
 
-year-short : (y : Option Signed) (d : Option (List ℕ)) → length (bytesOr d []) ≤ 32768 → length (inParens (yearBy y d)) ≤ 32770
+year-short : (y : Option Signed) (d : Option (List ℕ)) → length (Option·getD d []) ≤ 32768 → length (inParens (yearBy y d)) ≤ 32770
 unfolding yearBy inParens
 year-short (some y) d h = let k = signed-short y in simp length-append (omega arith)
 year-short none (some d) h = simp length-append (omega arith)
@@ -171,8 +171,8 @@ module _ (s : List ℕ) (at e : ℕ) (small : length s ≤ 32768) (inside : e �
   text-by =
       let h = head-by in
       let t = tagged-short 8 (fieldsOf s at e) all-short in
-      let b = beside-short (46 ∷ 32 ∷ []) (headOf entry) (bytesOr (entry .title) []) in
-      let d = ended-short (beside (46 ∷ 32 ∷ []) (headOf entry) (bytesOr (entry .title) [])) in
+      let b = beside-short (46 ∷ 32 ∷ []) (headOf entry) (Option·getD (entry .title) []) in
+      let d = ended-short (beside (46 ∷ 32 ∷ []) (headOf entry) (Option·getD (entry .title) [])) in
       omega arith
 
 entry-text-by : (p : List ℕ) (i : ℕ) → wellFormed p ≡ true → i < length (entriesOf p) → length (sourceTextOf (entryAt p i)) < 4294967296

@@ -3,7 +3,7 @@ use Prim.Native.Nat.{ℕ, _-_, _≤_, _<_}
 use native.Mathlib.Omega.{arith}
 use mathlib.Core.Path.{_≡_, refl, ap, sym, _∙_}
 use mathlib.Core.List.{List, [], _∷_, _++_}
-use mathlib.Core.Option.{Option}
+use mathlib.Core.Option.{Option, Option·getD}
 use mathlib.Core.Bool.{Bool, true, false}
 use lib.ListN.{length, take, drop, length-append, length-drop}
 use lib.Dec.{ltb}
@@ -16,7 +16,6 @@ use Rattle.white.specs.White.{isWhite}
 use Rattle.text.specs.Trim.{trimStart, contentEnd, trimEnd, trim}
 use Rattle.text.proofs.Trims.{start-by, start-plain, end-from, end-by, content-behind}
 use Rattle.pool.specs.Numbers.{signed}
-use Rattle.pool.specs.Entries.{bytesOr}
 use Rattle.source.specs.Entry.{isEmpty}
 use Rattle.decimal.specs.Decimal.{decimal}
 use Rattle.source.specs.Decimal.{signedDecimal}
@@ -230,24 +229,24 @@ dated-some A n m = go (ltb (trimStart A 0 (length A)) (length A)) refl
 
 module _ (n : ℕ) (text pool : List ℕ) (y : Year) (a : Author) {A : List ℕ} (p : A ≡ authorGiven text pool a) where
   abbrev Named : List ℕ
-  Named = authorYear n (authorGiven text pool a) (bytesOr (yearBytes text pool y) [])
+  Named = authorYear n (authorGiven text pool a) (Option·getD (yearBytes text pool y) [])
 
   signed-is : {g : Bool} {m : ℕ} → y ≡ Number g m → trim (A ++ (32 ∷ signedDecimal (signed g m))) ≡ Named
   unfolding yearBytes
   signed-is {g} {m} e = left-is n A (signedDecimal (signed g m)) refl (dated-some A g m) ∙ rw (e, p) refl
 
-  part-given : {b : List ℕ} → b ≡ yearPart text pool y → yearPart text pool y ≡ bytesOr (yearBytes text pool y) [] → authorYear n A b ≡ Named
+  part-given : {b : List ℕ} → b ≡ yearPart text pool y → yearPart text pool y ≡ Option·getD (yearBytes text pool y) [] → authorYear n A b ≡ Named
   part-given q e = rw (p, q, e) refl
 
-  in-text : {x : Span} → y ≡ InText x → yearPart text pool y ≡ bytesOr (yearBytes text pool y) []
+  in-text : {x : Span} → y ≡ InText x → yearPart text pool y ≡ Option·getD (yearBytes text pool y) []
   unfolding yearPart yearBytes
   in-text e = rw e refl
 
-  in-pool : {x : Span} → y ≡ InPool x → yearPart text pool y ≡ bytesOr (yearBytes text pool y) []
+  in-pool : {x : Span} → y ≡ InPool x → yearPart text pool y ≡ Option·getD (yearBytes text pool y) []
   unfolding yearPart yearBytes
   in-pool e = rw e refl
 
-  no-year : y ≡ Missing → yearPart text pool y ≡ bytesOr (yearBytes text pool y) []
+  no-year : y ≡ Missing → yearPart text pool y ≡ Option·getD (yearBytes text pool y) []
   unfolding yearPart yearBytes
   no-year e = rw e refl
 
@@ -288,7 +287,7 @@ module _ (mode : ℕ) (suppressed : Bool) (n : ℕ) (A : List ℕ) (Y : Option (
   unfolding labelBy
   by-year h e = rw (ne-eqb mode 0 h, e) refl
 
-  by-author : (mode ≡ 0 → ⊥) → suppressed ≡ false → authorYear n A (bytesOr Y []) ≡ labelBy mode suppressed n A Y
+  by-author : (mode ≡ 0 → ⊥) → suppressed ≡ false → authorYear n A (Option·getD Y []) ≡ labelBy mode suppressed n A Y
   unfolding labelBy
   by-author h e = rw (ne-eqb mode 0 h, e) refl
 
@@ -304,10 +303,10 @@ module _ (mode : ℕ) (suppressed : Bool) (n : ℕ) (A : List ℕ) (Y : Option (
   pub by-year-area : (s : List ℕ) {t : List ℕ} → (mode ≡ 0 → ⊥) → suppressed ≡ true → t ≡ fitted (yearOnly n Y) s → t ≡ fitted (labelBy mode suppressed n A Y) s
   by-year-area s h e = placed (by-year h e) s
 
-  pub by-author-count : {r : ℕ} → (mode ≡ 0 → ⊥) → suppressed ≡ false → r ≡ length (authorYear n A (bytesOr Y [])) → r ≡ length (labelBy mode suppressed n A Y)
+  pub by-author-count : {r : ℕ} → (mode ≡ 0 → ⊥) → suppressed ≡ false → r ≡ length (authorYear n A (Option·getD Y [])) → r ≡ length (labelBy mode suppressed n A Y)
   by-author-count h e = counted (by-author h e)
 
-  pub by-author-area : (s : List ℕ) {t : List ℕ} → (mode ≡ 0 → ⊥) → suppressed ≡ false → t ≡ fitted (authorYear n A (bytesOr Y [])) s
+  pub by-author-area : (s : List ℕ) {t : List ℕ} → (mode ≡ 0 → ⊥) → suppressed ≡ false → t ≡ fitted (authorYear n A (Option·getD Y [])) s
       → t ≡ fitted (labelBy mode suppressed n A Y) s
   by-author-area s h e = placed (by-author h e) s
 

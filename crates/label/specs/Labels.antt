@@ -2,11 +2,10 @@
 use Prim.Native.Nat.{ℕ}
 use mathlib.Core.List.{List, [], _∷_, _++_}
 use mathlib.Core.Bool.{Bool}
-use mathlib.Core.Option.{Option}
+use mathlib.Core.Option.{Option, Option·getD}
 use lib.Dec.{eqb}
 use Rattle.base.specs.Pick.{pick}
 use Rattle.text.specs.Trim.{trim}
-use Rattle.pool.specs.Entries.{bytesOr}
 use Rattle.decimal.specs.Decimal.{decimal}
 use Rattle.source.specs.Entry.{isEmpty}
 use Rattle.definition.specs.Defs.{Def, defAuthor, defYear}
@@ -21,14 +20,14 @@ authorYear number author year = orNumber (trim (author ++ (32 ∷ year))) number
 
 -- "A suppressed item shows the year even if that is empty, else its number."
 unfoldable pub yearOnly : ℕ → Option (List ℕ) → List ℕ
-yearOnly number year = bytesOr year (decimal number)
+yearOnly number year = Option·getD year (decimal number)
 
 -- "Mode 0 labels by number; mode 1 by author, space, year": from the author's bytes, none where it is not given, and the year
 unfoldable pub labelBy : ℕ → Bool → ℕ → List ℕ → Option (List ℕ) → List ℕ
 labelBy mode suppressed number author year =
     pick (eqb mode 0) (decimal number)
-    (pick suppressed (yearOnly number year) (authorYear number author (bytesOr year [])))
+    (pick suppressed (yearOnly number year) (authorYear number author (Option·getD year [])))
 
 -- the label of an item with this definition
 unfoldable pub labelText : ℕ → Bool → ℕ → Option Def → List ℕ
-labelText mode suppressed number def = labelBy mode suppressed number (bytesOr (defAuthor def) []) (defYear def)
+labelText mode suppressed number def = labelBy mode suppressed number (Option·getD (defAuthor def) []) (defYear def)

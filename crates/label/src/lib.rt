@@ -3,12 +3,12 @@ use definition::Author;
 use definition::Year;
 ghost use mathlib.Core.Path.{_≡_};
 ghost use mathlib.Core.List.{[], _∷_, _++_};
+ghost use mathlib.Core.Option.{Option·getD};
 ghost use Prim.Native.Nat.{_+_, _<_, _≤_};
 ghost use lib.ListN.{length, take, drop};
 ghost use Rattle.base.specs.Lists.{part, written};
 ghost use Rattle.text.specs.Trim.{trimEnd, trim};
 ghost use Rattle.pool.specs.Numbers.{signed};
-ghost use Rattle.pool.specs.Entries.{bytesOr};
 ghost use Rattle.decimal.specs.Decimal.{decimal};
 ghost use Rattle.source.specs.Decimal.{signedDecimal};
 ghost use Rattle.definition.specs.Parts.{authorGiven, yearBytes};
@@ -152,7 +152,7 @@ fn write_named<'a>(
     year: Year,
     out: &mut [u8],
 ) -> usize
-    ensures { λ r. ⌜ (r ≡ length (authorYear number (authorGiven (now (text .entry)) (now (pool .entry)) author) (bytesOr (yearBytes (now (text .entry)) (now (pool .entry)) year) []))) × (now (out .exit) ≡ fitted (authorYear number (authorGiven (now (text .entry)) (now (pool .entry)) author) (bytesOr (yearBytes (now (text .entry)) (now (pool .entry)) year) [])) (now (out .entry))) ⌝ }
+    ensures { λ r. ⌜ (r ≡ length (authorYear number (authorGiven (now (text .entry)) (now (pool .entry)) author) (Option·getD (yearBytes (now (text .entry)) (now (pool .entry)) year) []))) × (now (out .exit) ≡ fitted (authorYear number (authorGiven (now (text .entry)) (now (pool .entry)) author) (Option·getD (yearBytes (now (text .entry)) (now (pool .entry)) year) [])) (now (out .entry))) ⌝ }
 {
     let name = definition::author_bytes(text, pool, author);
     match year {

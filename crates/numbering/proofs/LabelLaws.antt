@@ -4,19 +4,17 @@ use native.Mathlib.Omega.{arith}
 use mathlib.Core.Path.{_≡_, refl, sym, _∙_, ap}
 use mathlib.Core.List.{List, []}
 use mathlib.Core.Bool.{Bool, true, false, _&&_, _||_, true≢false}
-use mathlib.Core.Option.{Option, none, some}
 use lib.ListN.{length, take, drop, length-take, length-drop}
 use lib.Dec.{eqb, ltb}
 use borrow.Author.Tests.{eq-eqb, eqb-true, eqb-false, ltb-true}
 use Rattle.base.proofs.Bools.{and-left, and-right, and-three}
 use Rattle.base.proofs.Lasts.{last-holds}
 use Rattle.base.proofs.Sames.{same-true}
-use Rattle.pool.specs.Entries.{bytesOr}
 use Rattle.definition.specs.declared.Author.{Author}
 use Rattle.definition.specs.declared.Author.the-variants.{Missing}
 use Rattle.definition.specs.declared.Year.{Year}
 use Rattle.definition.specs.declared.Year.the-variants.{Missing as NoYear}
-use Rattle.definition.specs.Parts.{orEmpty, authorBytes, authorGiven, yearBytes}
+use Rattle.definition.specs.Parts.{authorBytes, authorGiven, yearBytes}
 use Rattle.definition.specs.Defs.{defAuthor, defYear}
 use Rattle.label.specs.Labels.{labelBy, labelText}
 use Rattle.label.specs.Areas.{fitted, fittedAt}
@@ -50,16 +48,9 @@ module _ (text pool groups items : List ℕ) (mode n k number : ℕ) where
       (q : definedAs text pool groups n d ≡ definitionIn text groups items n pool key)
       (f : authorBytes text pool a ≡ defAuthor (definedAs text pool groups n d))
       (g : yearBytes text pool y ≡ defYear (definedAs text pool groups n d)) (e : b ≡ suppressedIn items k) where
-    given : orEmpty (authorBytes text pool a) ≡ bytesOr (authorBytes text pool a) []
-    given = go (authorBytes text pool a)
-      where
-        go : (o : Option (List ℕ)) → orEmpty o ≡ bytesOr o []
-        go none = refl
-        go (some v) = refl
-
     named : labelBy mode b number (authorGiven text pool a) (yearBytes text pool y) ≡ L
     unfolding labelText authorGiven
-    named = rw (given, f, g, q, e, p) refl
+    named = rw (f, g, q, e, p) refl
 
     pub named-length : {r : ℕ} → r ≡ length (labelBy mode b number (authorGiven text pool a) (yearBytes text pool y)) → r ≡ length L
     named-length h = h ∙ ap length named

@@ -1,4 +1,5 @@
 -- Definitions by number, and the bytes that their sources are ordered by, in the form of the needs.
+use mathlib.Core.Option.{Option·getD}
 use Prim.Native.Nat.{ℕ, _+_, _-_, _≤_, _<_}
 use native.Mathlib.Omega.{arith}
 use mathlib.Core.Path.{_≡_, refl, sym, _∙_, ap}
@@ -12,7 +13,6 @@ use Rattle.base.specs.First.{first}
 use Rattle.base.specs.Lists.{part}
 use Rattle.base.specs.declared.Span.{Span}
 use Rattle.base.proofs.Searches.{first-by, first-out, first-stop, first-more}
-use Rattle.pool.specs.Entries.{bytesOr}
 use Rattle.pool.specs.Layout.{countOf, wellFormed}
 use Rattle.pool.proofs.PoolLaws.{laid-out, count-bytes}
 use Rattle.definition.specs.declared.Author.{Author}
@@ -113,7 +113,7 @@ pub ruleset key-laws = (line-there, line-below, entry-there, key-line, key-entry
 -- what it is ordered by
 module _ (text pool groups items : List ℕ) (n i : ℕ) (d : Defined) (a : Author)
     (q : d ≡ definitionAt pool n i) (g : authorBytes text pool a ≡ defAuthor (definedAs text pool groups n d)) where
-  rank-is : bytesOr (authorBytes text pool a) (keyBy text pool groups items d) ≡ rankBy text pool groups items n i
+  rank-is : Option·getD (authorBytes text pool a) (keyBy text pool groups items d) ≡ rankBy text pool groups items n i
   unfolding rankBy
   rank-is = rw (g, q) refl
 

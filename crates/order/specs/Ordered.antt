@@ -1,5 +1,6 @@
 -- Reference order as the code makes it: the numbers of the sources' definitions are inserted one after the other, by their ranks; then each
 -- is replaced by the number of its source.
+use mathlib.Core.Option.{Option·getD}
 use Prim.Native.Nat.{ℕ, zero, suc, _+_, _≤_, _<_}
 use mathlib.Core.Path.{_≡_}
 use mathlib.Core.List.{List, [], _∷_}
@@ -8,7 +9,6 @@ use lib.ListN.{getD, set}
 use lib.Dec.{eqb}
 use Rattle.base.specs.Pick.{pick}
 use Rattle.base.specs.Sorted.{Sorted}
-use Rattle.pool.specs.Entries.{bytesOr}
 use Rattle.definition.specs.Defs.{defAuthor}
 use Rattle.records.specs.Records.{itemField}
 use Rattle.defined.specs.Defined.{definedAs, foundIn, definitionNumber, definitionAt, keyBy}
@@ -27,7 +27,7 @@ module _ (text pool groups items : List ℕ) (n m : ℕ) where
 -- the bytes that the source of definition number `i` is ordered by
 unfoldable pub rankBy : List ℕ → List ℕ → List ℕ → List ℕ → ℕ → ℕ → List ℕ
 rankBy text pool groups items n i =
-    bytesOr (defAuthor (definedAs text pool groups n (definitionAt pool n i))) (keyBy text pool groups items (definitionAt pool n i))
+    Option·getD (defAuthor (definedAs text pool groups n (definitionAt pool n i))) (keyBy text pool groups items (definitionAt pool n i))
 
 -- the number `k` into those in order: before the first with a greater rank
 unfoldable pub insertBy : (ℕ → List ℕ) → List ℕ → ℕ → List ℕ

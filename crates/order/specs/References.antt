@@ -1,4 +1,5 @@
 -- Reference order, from the records.
+use mathlib.Core.Option.{Option·getD}
 use Prim.Native.Nat.{ℕ, zero, suc, _+_, _≤_}
 use mathlib.Core.Path.{_≡_}
 use mathlib.Core.List.{List, [], _∷_, map}
@@ -8,7 +9,6 @@ use Rattle.base.specs.Pick.{pick}
 use Rattle.base.specs.First.{first}
 use Rattle.base.specs.Fold.{fold}
 use Rattle.base.specs.Lists.{upFrom}
-use Rattle.pool.specs.Entries.{bytesOr}
 use Rattle.definition.specs.Defs.{defAuthor, isDefined}
 use Rattle.defined.specs.Definitions.{definitionIn}
 use Rattle.records.specs.Records.{itemField, keyIn}
@@ -26,7 +26,7 @@ module _ (text pool groups items : List ℕ) (n m : ℕ) where
 
   -- "by author bytes, or by key where no author is given"
   unfoldable pub rankIn : ℕ → List ℕ
-  rankIn k = bytesOr (defAuthor (definitionIn text groups items n pool (sourceKeyIn k))) (sourceKeyIn k)
+  rankIn k = Option·getD (defAuthor (definitionIn text groups items n pool (sourceKeyIn k))) (sourceKeyIn k)
 
   -- the `count` sources from number `k` on
   unfoldable pub rankedIn : ℕ → ℕ → List Ranked

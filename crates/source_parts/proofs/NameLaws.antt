@@ -3,7 +3,7 @@ use Prim.Native.Nat.{ℕ, _+_, _-_, _≤_}
 use native.Mathlib.Omega.{arith}
 use mathlib.Core.Path.{_≡_, refl, sym}
 use mathlib.Core.List.{List, [], _∷_, _++_, append-nil}
-use mathlib.Core.Option.{Option, none, some}
+use mathlib.Core.Option.{Option, none, some, Option·getD}
 use mir.Val.{Fits}
 use mir.Syntax.{w64}
 use lib.ListN.{length, take, drop, length-append}
@@ -14,11 +14,10 @@ use Rattle.base.proofs.Areas.{written-after, written-none}
 use Rattle.pool.specs.declared.Found.{Found}
 use Rattle.pool.specs.declared.Found.the-variants.{At, Missing}
 use Rattle.pool.specs.declared.NameParts.{NameParts}
-use Rattle.pool.specs.Entries.{bytesOr}
 use Rattle.pool.specs.Places.{bytesAt, Inside, nameAtParts}
 use Rattle.source_parts.specs.Names.{nameBy, nameOf, lenOf, givenPart, givenLen, familyPart, familyLen, nameLenBy, nameLen}
 
-pub found-length : (s : List ℕ) (f : Found) → Inside s f → lenOf f ≡ length (bytesOr (bytesAt s f) [])
+pub found-length : (s : List ℕ) (f : Found) → Inside s f → lenOf f ≡ length (Option·getD (bytesAt s f) [])
 found-length s (At p) h = let l = part-length s (p .at) (p .at + p .len) (omega arith) h in omega arith
 found-length s Missing h = refl
 
@@ -36,10 +35,10 @@ module _ (s : List ℕ) (f : Found) where
   found-fits h e = rw e at h
 
   pub found-written : {p : Span} {out : List ℕ} (area : List ℕ) → f ≡ At p → out ≡ written (part s (p .at) (p .at + p .len)) area
-      → out ≡ written (bytesOr (bytesAt s f) []) area
+      → out ≡ written (Option·getD (bytesAt s f) []) area
   found-written area e o = rw e o
 
-  pub none-written : (area : List ℕ) → f ≡ Missing → area ≡ written (bytesOr (bytesAt s f) []) area
+  pub none-written : (area : List ℕ) → f ≡ Missing → area ≡ written (Option·getD (bytesAt s f) []) area
   none-written area e = rw e (written-none area)
 
 pub ruleset found-laws = (found-there, found-missing, found-inside, found-fits, found-written, none-written)

@@ -1,10 +1,9 @@
 -- The year in parentheses, and its length.
 use Prim.Native.Nat.{ℕ, _+_}
 use mathlib.Core.List.{List, [], _∷_, _++_}
-use mathlib.Core.Option.{Option, none, some}
+use mathlib.Core.Option.{Option, none, some, Option·getD}
 use lib.ListN.{length}
 use Rattle.pool.specs.Numbers.{signed}
-use Rattle.pool.specs.Entries.{bytesOr}
 use Rattle.source.specs.declared.Year.{Year}
 use Rattle.source.specs.declared.Year.the-variants.{Number, At, Missing}
 use Rattle.source.specs.Decimal.{signedDecimal}
@@ -17,7 +16,7 @@ inParens (some year) = 40 ∷ (year ++ (41 ∷ []))
 
 -- the bytes of a year; none where it is missing
 abbrev pub yearText : List ℕ → Year → List ℕ
-yearText s y = bytesOr (yearBytes s y) []
+yearText s y = Option·getD (yearBytes s y) []
 
 -- how many bytes of the pool it has
 abbrev pub yearLen : Year → ℕ

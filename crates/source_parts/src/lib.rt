@@ -5,13 +5,13 @@ use pool::NameParts;
 use source::Year;
 ghost use mathlib.Core.Path.{_≡_};
 ghost use mathlib.Core.List.{[], _∷_, _++_};
+ghost use mathlib.Core.Option.{Option·getD};
 ghost use Prim.Native.Nat.{_+_, _≤_};
 ghost use lib.ListN.{length};
 ghost use Rattle.base.specs.Lists.{part, written};
 ghost use Rattle.source_parts.specs.Names.{lenOf, givenPart, givenLen, familyPart, familyLen, nameLen, nameOf};
 ghost use Rattle.source_parts.specs.Parens.{inParens, yearLen, parensLen, yearText};
 ghost use Rattle.source.specs.Years.{YearInside, yearBytes};
-ghost use Rattle.pool.specs.Entries.{bytesOr};
 ghost use Rattle.pool.specs.Places.{bytesAt, Inside, nameAtParts};
 
 // How many bytes were found.
@@ -37,7 +37,7 @@ fn write_part(pool: &[u8], piece: Span, out: &mut [u8])
 // What was found at the front of `out`; nothing where that is missing.
 pub fn write_found(pool: &[u8], found: Found, out: &mut [u8])
     requires { ⌜ (Inside (now pool) found) × (lenOf found ≤ length (now out)) ⌝ }
-    ensures { λ _. ⌜ now (out .exit) ≡ written (bytesOr (bytesAt (now (pool .entry)) found) []) (now (out .entry)) ⌝ }
+    ensures { λ _. ⌜ now (out .exit) ≡ written (Option·getD (bytesAt (now (pool .entry)) found) []) (now (out .entry)) ⌝ }
 {
     match found {
         Found::At { part } => write_part(pool, part, out),

@@ -3,7 +3,7 @@ use Prim.Native.Nat.{ℕ, _+_, _-_, _≤_, _<_}
 use native.Mathlib.Omega.{arith}
 use mathlib.Core.Path.{_≡_, refl, ap, sym, _∙_}
 use mathlib.Core.List.{List, [], _∷_, _++_}
-use mathlib.Core.Option.{Option}
+use mathlib.Core.Option.{Option, Option·getD}
 use mir.Val.{Fits}
 use mir.Syntax.{w64}
 use lib.ListN.{length, take, drop, length-append}
@@ -12,7 +12,7 @@ use Rattle.base.specs.Lists.{written}
 use Rattle.base.proofs.Areas.{written-kept, written-after, written-front, written-length, written-over, rest-room}
 use Rattle.pool.specs.declared.Found.{Found}
 use Rattle.pool.specs.Fields.{fieldsOf}
-use Rattle.pool.specs.Entries.{bytesOr, fieldWith, entryOf}
+use Rattle.pool.specs.Entries.{fieldWith, entryOf}
 use Rattle.pool.specs.Places.{bytesAt, Inside, Reads, EntryIn}
 use Rattle.source.specs.declared.Year.{Year}
 use Rattle.source.specs.declared.Year.the-variants.{Number, At as YearAt, Missing as NoYear}
@@ -54,10 +54,10 @@ pub ruleset add-year-laws = (year-small, year-long, year-there, year-in, entry-s
 
 -- its title
 module _ (s : List ℕ) (f : Found) (o : Option (List ℕ)) where
-  pub title-long : {m : ℕ} → Reads s f o → m ≡ lenOf f → m ≡ length (bytesOr o [])
+  pub title-long : {m : ℕ} → Reads s f o → m ≡ lenOf f → m ≡ length (Option·getD o [])
   title-long r e = e ∙ found-length s f (r .inside) ∙ rw (r .bytes) refl
 
-  pub title-there : {out : List ℕ} (area : List ℕ) → Reads s f o → out ≡ written (bytesOr (bytesAt s f) []) area → out ≡ written (bytesOr o []) area
+  pub title-there : {out : List ℕ} (area : List ℕ) → Reads s f o → out ≡ written (Option·getD (bytesAt s f) []) area → out ≡ written (Option·getD o []) area
   title-there area r e = rw (r .bytes) at e
 
   pub title-in : Reads s f o → Inside s f
@@ -97,24 +97,24 @@ pub ruleset head-laws = (head-names, head-fits, head-count, head-written)
 module _ (s : List ℕ) (at e : ℕ) (area : List ℕ) where
   pub body-head : length (bodyOf (entryOf (fieldsOf s at e))) ≤ length area → length (headOf (entryOf (fieldsOf s at e))) ≤ length area
   unfolding bodyOf
-  body-head h = first-room area (46 ∷ 32 ∷ []) (headOf (entryOf (fieldsOf s at e))) (bytesOr (entryOf (fieldsOf s at e) .title) []) h
+  body-head h = first-room area (46 ∷ 32 ∷ []) (headOf (entryOf (fieldsOf s at e))) (Option·getD (entryOf (fieldsOf s at e) .title) []) h
 
   module _ (one : List ℕ) (k : ℕ) where
     pub body-fits : k ≡ length (headOf (entryOf (fieldsOf s at e))) → one ≡ written (headOf (entryOf (fieldsOf s at e))) area
-        → length (bodyOf (entryOf (fieldsOf s at e))) ≤ length area → Fit one (46 ∷ 32 ∷ []) (bytesOr (fieldWith 8 (fieldsOf s at e)) []) k
+        → length (bodyOf (entryOf (fieldsOf s at e))) ≤ length area → Fit one (46 ∷ 32 ∷ []) (Option·getD (fieldWith 8 (fieldsOf s at e)) []) k
     unfolding bodyOf entryOf
-    body-fits p o h = second-fits area (46 ∷ 32 ∷ []) (headOf (entryOf (fieldsOf s at e))) (bytesOr (fieldWith 8 (fieldsOf s at e)) []) one k p o h
+    body-fits p o h = second-fits area (46 ∷ 32 ∷ []) (headOf (entryOf (fieldsOf s at e))) (Option·getD (fieldWith 8 (fieldsOf s at e)) []) one k p o h
 
     pub body-count : {r : ℕ} → k ≡ length (headOf (entryOf (fieldsOf s at e))) → one ≡ written (headOf (entryOf (fieldsOf s at e))) area
-        → r ≡ length (beside (46 ∷ 32 ∷ []) (take k one) (bytesOr (fieldWith 8 (fieldsOf s at e)) [])) → r ≡ length (bodyOf (entryOf (fieldsOf s at e)))
+        → r ≡ length (beside (46 ∷ 32 ∷ []) (take k one) (Option·getD (fieldWith 8 (fieldsOf s at e)) [])) → r ≡ length (bodyOf (entryOf (fieldsOf s at e)))
     unfolding bodyOf entryOf
-    body-count p o h = second-count area (46 ∷ 32 ∷ []) (headOf (entryOf (fieldsOf s at e))) (bytesOr (fieldWith 8 (fieldsOf s at e)) []) one k p o h
+    body-count p o h = second-count area (46 ∷ 32 ∷ []) (headOf (entryOf (fieldsOf s at e))) (Option·getD (fieldWith 8 (fieldsOf s at e)) []) one k p o h
 
     pub body-written : {out : List ℕ} → k ≡ length (headOf (entryOf (fieldsOf s at e))) → one ≡ written (headOf (entryOf (fieldsOf s at e))) area
-        → out ≡ written (beside (46 ∷ 32 ∷ []) (take k one) (bytesOr (fieldWith 8 (fieldsOf s at e)) [])) one
+        → out ≡ written (beside (46 ∷ 32 ∷ []) (take k one) (Option·getD (fieldWith 8 (fieldsOf s at e)) [])) one
         → out ≡ written (bodyOf (entryOf (fieldsOf s at e))) area
     unfolding bodyOf entryOf
-    body-written p o h = second-written area (46 ∷ 32 ∷ []) (headOf (entryOf (fieldsOf s at e))) (bytesOr (fieldWith 8 (fieldsOf s at e)) []) one k p o h
+    body-written p o h = second-written area (46 ∷ 32 ∷ []) (headOf (entryOf (fieldsOf s at e))) (Option·getD (fieldWith 8 (fieldsOf s at e)) []) one k p o h
 
 pub ruleset body-laws = (body-head, body-fits, body-count, body-written)
 
@@ -215,7 +215,7 @@ module _ (s : List ℕ) (at e : ℕ) (f : Found) where
       → k ≡ besideLen n 2 m → k ≡ length (bodyOf (entryOf (fieldsOf s at e)))
   unfolding bodyOf entryOf
   body-long n m k r p q g =
-      g ∙ rw (p, title-long s f _ r q) (sym (beside-length (46 ∷ 32 ∷ []) (headOf (entryOf (fieldsOf s at e))) (bytesOr (fieldWith 8 (fieldsOf s at e)) [])))
+      g ∙ rw (p, title-long s f _ r q) (sym (beside-length (46 ∷ 32 ∷ []) (headOf (entryOf (fieldsOf s at e))) (Option·getD (fieldWith 8 (fieldsOf s at e)) [])))
 
   pub text-one : (n m : ℕ) {k : ℕ} → EntryIn s at e → Reads s f (fieldWith 8 (fieldsOf s at e)) → n ≤ 4294967296 → m ≡ lenOf f → k ≡ besideLen n 2 m
       → Fits w64 (k + 1)

@@ -1,10 +1,11 @@
 -- The lengths of what is joined, and what stands before a part that is to follow.
+use mathlib.Core.Option.{Option·getD}
 use Prim.Native.Nat.{ℕ, _+_}
 use mathlib.Core.List.{List, [], _∷_, _++_}
 use lib.ListN.{length}
 use lib.Dec.{eqb}
 use Rattle.base.specs.Pick.{pick}
-use Rattle.pool.specs.Entries.{Name, Entry, bytesOr}
+use Rattle.pool.specs.Entries.{Name, Entry}
 use Rattle.source_parts.specs.Names.{nameOf}
 use Rattle.source_text.specs.Text.{beside, headOf}
 
@@ -22,4 +23,4 @@ addLen n name = besideLen n 2 (length (nameOf name))
 
 -- the text without its stop
 unfoldable pub bodyOf : Entry → List ℕ
-bodyOf e = beside (46 ∷ 32 ∷ []) (headOf e) (bytesOr (e .title) [])
+bodyOf e = beside (46 ∷ 32 ∷ []) (headOf e) (Option·getD (e .title) [])

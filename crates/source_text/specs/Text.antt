@@ -1,9 +1,10 @@
 -- The text of an entry of the pool (`csl_to_def`).
+use mathlib.Core.Option.{Option·getD}
 use Prim.Native.Nat.{ℕ}
 use mathlib.Core.List.{List, [], _∷_, _++_}
 use Rattle.base.specs.Pick.{pick}
 use Rattle.base.specs.Fold.{fold}
-use Rattle.pool.specs.Entries.{Name, Entry, bytesOr}
+use Rattle.pool.specs.Entries.{Name, Entry}
 use Rattle.source.specs.Entry.{isEmpty, yearOf}
 use Rattle.source_parts.specs.Names.{nameOf}
 use Rattle.source_parts.specs.Parens.{inParens}
@@ -32,4 +33,4 @@ ended s = pick (isEmpty s) [] (s ++ (46 ∷ []))
 -- "Text is head, `. `, title, `.`; an empty head or title falls out together with the `. ` between them; with both empty the text
 -- is empty."
 unfoldable pub sourceTextOf : Entry → List ℕ
-sourceTextOf e = ended (beside (46 ∷ 32 ∷ []) (headOf e) (bytesOr (e .title) []))
+sourceTextOf e = ended (beside (46 ∷ 32 ∷ []) (headOf e) (Option·getD (e .title) []))

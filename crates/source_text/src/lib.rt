@@ -2,6 +2,7 @@
 use pool::NameParts;
 ghost use mathlib.Core.Path.{_≡_};
 ghost use mathlib.Core.List.{[], _∷_};
+ghost use mathlib.Core.Option.{Option·getD};
 ghost use Prim.Native.Nat.{_+_, _≤_, _<_};
 ghost use lib.ListN.{length, take};
 ghost use Rattle.base.specs.Lists.{byteAt, written};
@@ -14,7 +15,7 @@ ghost use Rattle.source_text.specs.Values.{sourceTextValues, sourceTextN
 ghost use Rattle.source_text.specs.Room.{Wrote, Fit, NameFits, NextFits};
 ghost use Rattle.base.specs.Fold.{fold};
 ghost use Rattle.pool.specs.Fields.{fieldsOf};
-ghost use Rattle.pool.specs.Entries.{bytesOr, fieldWith, nameAt};
+ghost use Rattle.pool.specs.Entries.{fieldWith, nameAt};
 ghost use Rattle.pool.specs.Places.{nameAtParts, FieldsIn, EntryIn, entryFrom};
 
 // The answer of the source text call; a definition (specs/Values) gives the paper's numbers for each case.
@@ -140,9 +141,9 @@ fn add_year(pool: &[u8], at: usize, e: usize, k: usize, area: &mut [u8]) -> usiz
 
 // The title beside the first `k` bytes of `area`. How many bytes there are then.
 fn add_title(pool: &[u8], at: usize, e: usize, k: usize, area: &mut [u8]) -> usize
-    requires { ⌜ EntryIn (now pool) at e × Fit (now area) (46 ∷ 32 ∷ []) (bytesOr (fieldWith 8 (fieldsOf (now pool) at e)) []) k ⌝ }
+    requires { ⌜ EntryIn (now pool) at e × Fit (now area) (46 ∷ 32 ∷ []) (Option·getD (fieldWith 8 (fieldsOf (now pool) at e)) []) k ⌝ }
     ensures { λ r. ⌜ Wrote
-        (beside (46 ∷ 32 ∷ []) (take k (now (area .entry))) (bytesOr (fieldWith 8 (fieldsOf (now (pool .entry)) at e)) []))
+        (beside (46 ∷ 32 ∷ []) (take k (now (area .entry))) (Option·getD (fieldWith 8 (fieldsOf (now (pool .entry)) at e)) []))
         (now (area .entry)) (now (area .exit)) r ⌝ }
 {
     let title = pool::field_with(pool, at, e, 8);
