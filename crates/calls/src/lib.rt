@@ -17,8 +17,8 @@ pub use source_text::SourceText;
 ghost use mathlib.Core.Path.{_≡_};
 ghost use Rattle.annotation.specs.Content.{areas};
 ghost use Rattle.histories.specs.Promises.{LookUpPromise, AnnotatePromise};
-ghost use Rattle.lookup.specs.Others.{locatorCall, locatorAnswer, sizeCall, sizeAnswer};
-ghost use Rattle.lookup.specs.Values.{locatorValues, locatorNumbers, sizeValues, sizeNumbers};
+ghost use Rattle.lookup.specs.Others.{locatorCall, sizeCall};
+ghost use Rattle.lookup.specs.Values.{locatorValues, locatorNumbers, locatorAnswer, sizeValues, sizeNumbers, sizeAnswer};
 ghost use Rattle.source_text.specs.Call.{sourceTextCall};
 ghost use Rattle.source_text.specs.Values.{sourceTextValues, sourceTextNumbers, sourceTextAnswer};
 
@@ -82,14 +82,14 @@ pub fn annotate<'a>(
 
 // How many item records any annotation of the text needs at most. Refusals: 1, 2.
 pub fn size(text: &[u8]) -> Size
-    ensures { λ r. ⌜ (r ≡ sizeAnswer (now (text .entry))) × (sizeValues r ≡ sizeNumbers (sizeCall (now (text .entry)))) ⌝ }
+    ensures { λ r. ⌜ (r ≡ sizeAnswer (sizeCall (now (text .entry)))) × (sizeValues r ≡ sizeNumbers (sizeCall (now (text .entry)))) ⌝ }
 {
     lookup::size_call(text)
 }
 
 // The locator that the whole text is: label code, value pair and suffix pair. Refusals: 1, 2.
 pub fn locator(text: &[u8]) -> LocatorAnswer
-    ensures { λ r. ⌜ (r ≡ locatorAnswer (now (text .entry))) × (locatorValues r ≡ locatorNumbers (locatorCall (now (text .entry)))) ⌝ }
+    ensures { λ r. ⌜ (r ≡ locatorAnswer (locatorCall (now (text .entry)))) × (locatorValues r ≡ locatorNumbers (locatorCall (now (text .entry)))) ⌝ }
 {
     lookup::locator_call(text)
 }

@@ -16,7 +16,9 @@ use Rattle.close.specs.declared.Close.{Close}
 use Rattle.close.specs.declared.Close.the-variants.{At, Nothing}
 use Rattle.base.proofs.Bools.{and-right}
 use Rattle.index.specs.declared.Bracket.{Bracket}
+use Rattle.locator.specs.declared.Locator.the-variants.{Nothing as NoLocator}
 use Rattle.locator.specs.Locators.{locatorOf}
+use Rattle.locator.specs.Answers.{codeOf, valueOf, suffixOf}
 use Rattle.locator.proofs.Laws.{code-small, value-ends, suffix-ends}
 use Rattle.resolve.specs.Groups.{GroupAnswer, Found, NoGroup, groupAccepted, judge}
 use Rattle.item.specs.Group.{Group, groupOf}
@@ -24,7 +26,7 @@ use Rattle.rows.specs.Rows.{rowsLength}
 use Rattle.resolve.specs.Resolve.{closeAsRun, groupAsRun, noteAfter}
 use Rattle.lookup.specs.Refusals.{tooFew, lookUpRefusal}
 use Rattle.lookup.specs.LookUps.{LookedUp, lookUpRefused, lookUpGives, lookUpAnswers, lookedUp, lookUpBuilds, ranWith, lookUpRun}
-use Rattle.lookup.specs.Others.{sized, located, notLocated, locatorCall, sizeCall}
+use Rattle.lookup.specs.Others.{sized, located, locatorCall, sizeCall}
 use Rattle.lookup.specs.Values.{lookUpNumbers, locatorNumbers, sizeNumbers}
 use Rattle.lookup.proofs.RefusalLaws.{unrefused}
 use Rattle.pool.specs.Layout.{wellFormed}
@@ -75,10 +77,10 @@ module _ (s : List ℕ) where
       go false q = let h = refusal-low in (omega arith, (omega arith, tt))
 
   pub locator-words : Words (locatorNumbers (locatorCall s))
-  unfolding locatorCall locatorNumbers located notLocated Words
+  unfolding locatorCall locatorNumbers codeOf valueOf suffixOf Words
   locator-words = go (eqb (textRefusal s) 0) refl
     where
-      go : (t : Bool) → eqb (textRefusal s) 0 ≡ t → Words (locatorNumbers (pick t (located (locatorOf s 0 (length s))) (notLocated (textRefusal s))))
+      go : (t : Bool) → eqb (textRefusal s) 0 ≡ t → Words (locatorNumbers (pick t (located 0 (locatorOf s 0 (length s))) (located (textRefusal s) NoLocator)))
       go true q =
           let h = text-short (eqb-true (textRefusal s) 0 q) in
           let c = code-small s 0 (length s) refl in

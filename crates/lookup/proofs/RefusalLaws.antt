@@ -14,16 +14,18 @@ use Rattle.text.specs.Escape.{escapedAt}
 use Rattle.utf8.specs.Refusal.{afterText, textRefusal}
 use Rattle.utf8.proofs.Characters.{refused-after, accepted-after}
 use Rattle.locator.specs.declared.Locator.{Locator}
+use Rattle.locator.specs.declared.Locator.the-variants.{Nothing}
+use Rattle.locator.specs.Answers.{codeOf, valueOf, suffixOf}
 use Rattle.locator.specs.Locators.{locatorOf}
 use Rattle.index.specs.Entries.{opensAt}
 use Rattle.resolve.proofs.AtBracket.{opens-in}
 use Rattle.lookup.specs.declared.Size.{Size}
-use Rattle.lookup.specs.declared.Size.the-variants.{Accepted as Sized', Refused as Unsized}
+use Rattle.lookup.specs.declared.Size.the-variants.{Accepted as SizeIs, Refused as NoSize}
 use Rattle.lookup.specs.declared.LocatorAnswer.{LocatorAnswer}
-use Rattle.lookup.specs.declared.LocatorAnswer.the-variants.{Accepted as Located', Refused as Unlocated}
+use Rattle.lookup.specs.declared.LocatorAnswer.the-variants.{Accepted as LocatorIs, Refused as NoLocator}
 use Rattle.lookup.specs.Refusals.{tooFew, lookUpRefusal}
-use Rattle.lookup.specs.Others.{sized, located, notLocated, locatorCall, locatorAnswer, sizeCall, sizeAnswer}
-use Rattle.lookup.specs.Values.{locatorValues, locatorNumbers, sizeValues, sizeNumbers}
+use Rattle.lookup.specs.Others.{sized, located, locatorCall, sizeCall}
+use Rattle.lookup.specs.Values.{locatorValues, locatorNumbers, locatorAnswer, sizeValues, sizeNumbers, sizeAnswer}
 
 -- `r` is what the text's own refusal gave
 module _ (s : List ℕ) (at n m : ℕ) {r : ℕ} (q : r ≡ textRefusal s) where
@@ -32,31 +34,28 @@ module _ (s : List ℕ) (at n m : ℕ) {r : ℕ} (q : r ≡ textRefusal s) where
   refused-text z = refused-after s q _ z
 
   module _ (z : r ≡ 0) where
-    passed : (x : ℕ) → x ≡ afterText s x
-    passed x = accepted-after s q x z
-
     pub refused-past : length s ≤ at → 3 ≡ lookUpRefusal s at n m
     unfolding lookUpRefusal
-    refused-past h = rw (le-ltb at (length s) h) (passed 3)
+    refused-past h = rw (le-ltb at (length s) h) (accepted-after s q 3 z)
 
     module _ (h : at < length s) where
       pub refused-other : (byteAt s at ≡ 91 → ⊥) → 3 ≡ lookUpRefusal s at n m
       unfolding lookUpRefusal
-      refused-other f = rw (lt-ltb at (length s) h, ne-eqb _ _ f) (passed 3)
+      refused-other f = rw (lt-ltb at (length s) h, ne-eqb _ _ f) (accepted-after s q 3 z)
 
       module _ (e : byteAt s at ≡ 91) {b : Bool} (d : b ≡ escapedAt s at) where
         pub refused-escaped : b ≡ true → 4 ≡ lookUpRefusal s at n m
         unfolding lookUpRefusal
-        refused-escaped t = rw (lt-ltb at (length s) h, eq-eqb _ _ e, sym d ∙ t) (passed 4)
+        refused-escaped t = rw (lt-ltb at (length s) h, eq-eqb _ _ e, sym d ∙ t) (accepted-after s q 4 z)
 
         module _ (f : b ≡ false) where
           pub refused-few : (ltb n (length s) || ltb m (length s)) ≡ true → 9 ≡ lookUpRefusal s at n m
           unfolding lookUpRefusal tooFew
-          refused-few t = rw (lt-ltb at (length s) h, eq-eqb _ _ e, sym d ∙ f, t) (passed 9)
+          refused-few t = rw (lt-ltb at (length s) h, eq-eqb _ _ e, sym d ∙ f, t) (accepted-after s q 9 z)
 
           pub refused-not : (ltb n (length s) || ltb m (length s)) ≡ false → 0 ≡ lookUpRefusal s at n m
           unfolding lookUpRefusal tooFew
-          refused-not t = rw (lt-ltb at (length s) h, eq-eqb _ _ e, sym d ∙ f, t) (passed 0)
+          refused-not t = rw (lt-ltb at (length s) h, eq-eqb _ _ e, sym d ∙ f, t) (accepted-after s q 0 z)
 
 pub ruleset refusal-laws = (refused-text, refused-past, refused-other, refused-escaped, refused-few, refused-not)
 
@@ -97,39 +96,40 @@ at-there s at n m q z = unrefused s at n m (sym q ∙ z) .there
 -- the size and the locator call: the answers,
 module _ (s : List ℕ) {r : ℕ} (q : r ≡ textRefusal s) where
   module _ (n : r ≡ 0 → ⊥) where
-    pub size-refused : Unsized r ≡ sizeAnswer s
-    unfolding sizeAnswer
-    size-refused = rw (← q, ne-eqb r 0 n)
+    pub size-refused : NoSize r ≡ sizeAnswer (sizeCall s)
+    unfolding sizeCall sizeAnswer
+    size-refused = rw (← q, ne-eqb r 0 n, ne-eqb r 0 n)
 
-    pub locator-refused : Unlocated r ≡ locatorAnswer s
-    unfolding locatorAnswer
-    locator-refused = rw (← q, ne-eqb r 0 n)
+    pub locator-refused : NoLocator r ≡ locatorAnswer (locatorCall s)
+    unfolding locatorCall locatorAnswer
+    locator-refused = rw (← q, ne-eqb r 0 n, ne-eqb r 0 n)
 
   module _ (z : r ≡ 0) where
-    pub size-given : Sized' (length s / 3) ≡ sizeAnswer s
-    unfolding sizeAnswer
+    pub size-given : SizeIs (length s / 3) ≡ sizeAnswer (sizeCall s)
+    unfolding sizeCall sizeAnswer
     size-given = rw (← q, eq-eqb r 0 z)
 
-    pub locator-given : {l : Locator} → l ≡ locatorOf s 0 (length s) → Located' l ≡ locatorAnswer s
-    unfolding locatorAnswer
+    pub locator-given : {l : Locator} → l ≡ locatorOf s 0 (length s) → LocatorIs l ≡ locatorAnswer (locatorCall s)
+    unfolding locatorCall locatorAnswer
     locator-given e = rw (← q, eq-eqb r 0 z, e)
 
 -- and their numbers
-pub size-values : (s : List ℕ) {a : Size} → a ≡ sizeAnswer s → sizeValues a ≡ sizeNumbers (sizeCall s)
+pub size-values : (s : List ℕ) {a : Size} → a ≡ sizeAnswer (sizeCall s) → sizeValues a ≡ sizeNumbers (sizeCall s)
 unfolding sizeAnswer sizeCall sizeValues sizeNumbers
-size-values s e = rw e (go (eqb (textRefusal s) 0))
+size-values s e = rw e (go (eqb (textRefusal s) 0) refl)
   where
-    go : (t : Bool) → sizeValues (pick t (Sized' (length s / 3)) (Unsized (textRefusal s))) ≡ sizeNumbers (pick t (sized 0 (length s / 3)) (sized (textRefusal s) 0))
-    go true = refl
-    go false = refl
+    go : (t : Bool) → eqb (textRefusal s) 0 ≡ t → sizeValues (sizeAnswer (pick t (sized 0 (length s / 3)) (sized (textRefusal s) 0))) ≡ sizeNumbers (pick t (sized 0 (length s / 3)) (sized (textRefusal s) 0))
+    go true q = refl
+    go false q = rw q
 
-pub locator-values : (s : List ℕ) {a : LocatorAnswer} → a ≡ locatorAnswer s → locatorValues a ≡ locatorNumbers (locatorCall s)
-unfolding locatorAnswer locatorCall locatorValues locatorNumbers located notLocated
-locator-values s e = rw e (go (eqb (textRefusal s) 0))
+pub locator-values : (s : List ℕ) {a : LocatorAnswer} → a ≡ locatorAnswer (locatorCall s) → locatorValues a ≡ locatorNumbers (locatorCall s)
+unfolding locatorAnswer locatorCall locatorValues locatorNumbers codeOf valueOf suffixOf
+locator-values s e = rw e (go (eqb (textRefusal s) 0) refl)
   where
-    go : (t : Bool) → locatorValues (pick t (Located' (locatorOf s 0 (length s))) (Unlocated (textRefusal s)))
-        ≡ locatorNumbers (pick t (located (locatorOf s 0 (length s))) (notLocated (textRefusal s)))
-    go true = refl
-    go false = refl
+    go : (t : Bool) → eqb (textRefusal s) 0 ≡ t
+        → locatorValues (locatorAnswer (pick t (located 0 (locatorOf s 0 (length s))) (located (textRefusal s) Nothing)))
+        ≡ locatorNumbers (pick t (located 0 (locatorOf s 0 (length s))) (located (textRefusal s) Nothing))
+    go true q = refl
+    go false q = rw q
 
 pub ruleset call-laws = (size-refused, size-given, size-values, locator-refused, locator-given, locator-values)

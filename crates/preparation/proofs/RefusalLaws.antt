@@ -22,31 +22,28 @@ module _ (s : List ℕ) (mode : ℕ) (pool : List ℕ) (n m : ℕ) {r : ℕ} (q 
   refused-text z = refused-after s q _ z
 
   module _ (z : r ≡ 0) where
-    passed : (x : ℕ) → x ≡ afterText s x
-    passed x = accepted-after s q x z
-
     pub refused-mode : 1 < mode → 6 ≡ annotateRefusal s mode pool n m
     unfolding annotateRefusal
-    refused-mode h = rw (lt-ltb 1 mode h) (passed 6)
+    refused-mode h = rw (lt-ltb 1 mode h) (accepted-after s q 6 z)
 
     module _ (h : mode ≤ 1) {b : Bool} (d : b ≡ wellFormed pool) where
       pub refused-pool : b ≡ false → 7 ≡ annotateRefusal s mode pool n m
       unfolding annotateRefusal
-      refused-pool f = rw (le-ltb 1 mode h, sym d ∙ f) (passed 7)
+      refused-pool f = rw (le-ltb 1 mode h, sym d ∙ f) (accepted-after s q 7 z)
 
       module _ (t : b ≡ true) where
         pub refused-index : n < length s → 9 ≡ annotateRefusal s mode pool n m
         unfolding annotateRefusal tooFew
-        refused-index g = rw (le-ltb 1 mode h, sym d ∙ t, lt-ltb n (length s) g) (passed 9)
+        refused-index g = rw (le-ltb 1 mode h, sym d ∙ t, lt-ltb n (length s) g) (accepted-after s q 9 z)
 
         module _ (g : length s ≤ n) where
           pub refused-records : m < length s → 9 ≡ annotateRefusal s mode pool n m
           unfolding annotateRefusal tooFew
-          refused-records k = rw (le-ltb 1 mode h, sym d ∙ t, le-ltb n (length s) g, lt-ltb m (length s) k) (passed 9)
+          refused-records k = rw (le-ltb 1 mode h, sym d ∙ t, le-ltb n (length s) g, lt-ltb m (length s) k) (accepted-after s q 9 z)
 
           pub refused-not : length s ≤ m → 0 ≡ annotateRefusal s mode pool n m
           unfolding annotateRefusal tooFew
-          refused-not k = rw (le-ltb 1 mode h, sym d ∙ t, le-ltb n (length s) g, le-ltb m (length s) k) (passed 0)
+          refused-not k = rw (le-ltb 1 mode h, sym d ∙ t, le-ltb n (length s) g, le-ltb m (length s) k) (accepted-after s q 0 z)
 
 pub ruleset refusal-laws = (refused-text, refused-mode, refused-pool, refused-index, refused-records, refused-not)
 
