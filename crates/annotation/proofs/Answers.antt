@@ -10,7 +10,6 @@ use borrow.Author.Tests.{eq-eqb, ne-eqb, eqb-true, eqb-false, le-leb, lt-leb, le
 use Rattle.base.specs.Pick.{pick}
 use Rattle.base.specs.Lists.{written}
 use Rattle.index.specs.declared.Bracket.{Bracket}
-use Rattle.index.specs.Built.{builtIndex, builtRecords}
 use Rattle.item.specs.Group.{Group}
 use Rattle.resolve.specs.Resolve.{noteAfter, indexAfter, recordsAfter}
 use Rattle.group_records.specs.declared.SweepState.{SweepState}
@@ -88,17 +87,17 @@ module _ {text : List ℕ} {mode : ℕ} {pool : List ℕ} {note : ℕ} {index₀
 
   -- after the second sweep
   module _ (z : p .number ≡ 0) {k : ℕ} (e : k ≡ noteAfter (p .sweep .wants) note) {index : List ℕ}
-      (i : index ≡ pick (p .sweep .wants) (builtIndex text index₀) index₀) {s : SweepState} {items' groups' : List ℕ}
+      (i : index ≡ indexAfter (p .sweep .wants) text index₀) {s : SweepState} {items' groups' : List ℕ}
       (t : SweptTo text k index (p .sweep) items groups s items' groups') where
     not-refused : Unrefused text mode pool (length index₀) m
     not-refused = unrefused text mode pool (length index₀) m (sym (b .refuses) ∙ z)
 
     whole : Recorded text all startState items₀ groups₀ s items' groups'
-    unfolding lentAfter indexAfter
+    unfolding lentAfter
     whole = swept-whole text lent (b .sweeps z) (rw (e, i) at t)
 
     fits : Fits text all
-    fits = swept-fits text lent (not-refused .short)
+    fits = swept-fits text lent (not-refused .enough .short)
 
     abbrev restItems : List ℕ
     restItems = drop (length (itemRows all)) items₀
@@ -244,7 +243,7 @@ module _ {text : List ℕ} {mode : ℕ} {pool : List ℕ} {note : ℕ} {index₀
       label-area = l ∙ rw (ran-swept, q);
     }
 
-    module _ {k : ℕ} (e : k ≡ noteAfter (p .sweep .wants) note) {index : List ℕ} (i : index ≡ pick (p .sweep .wants) (builtIndex text index₀) index₀)
+    module _ {k : ℕ} (e : k ≡ noteAfter (p .sweep .wants) note) {index : List ℕ} (i : index ≡ indexAfter (p .sweep .wants) text index₀)
         {s : SweepState} {items' groups' : List ℕ} (t : SweptTo text k index (p .sweep) items groups s items' groups') where
       recorded : Recorded text found startState items₀ groups₀ s items' groups'
       recorded = whole b records z e i t
@@ -292,18 +291,18 @@ module _ {text : List ℕ} {mode : ℕ} {pool : List ℕ} {note : ℕ} {index₀
             (o .label-area ∙ rw (room, then-labels b records z e i t f))
 
   -- the index and the bracket records that the call leaves
-  pub ran-index : ran .index ≡ pick (p .sweep .wants) (builtIndex text index₀) index₀
+  pub ran-index : ran .index ≡ indexAfter (p .sweep .wants) text index₀
   unfolding annotateRan lentAfter indexAfter
   ran-index = go (eqb (p .number) 0) refl
     where
-      go : (t : Bool) → eqb (p .number) 0 ≡ t → ran .index ≡ pick (p .sweep .wants) (builtIndex text index₀) index₀
+      go : (t : Bool) → eqb (p .number) 0 ≡ t → ran .index ≡ indexAfter (p .sweep .wants) text index₀
       go true q = rw (ran-swept (eqb-true (p .number) 0 q))
       go false q = let n = eqb-false (p .number) 0 q in rw (ran-refused n, b .no-build n)
 
-  pub ran-records : ran .records ≡ pick (p .sweep .wants) (builtRecords text records) records
+  pub ran-records : ran .records ≡ recordsAfter (p .sweep .wants) text records
   unfolding annotateRan lentAfter recordsAfter
   ran-records = go (eqb (p .number) 0) refl
     where
-      go : (t : Bool) → eqb (p .number) 0 ≡ t → ran .records ≡ pick (p .sweep .wants) (builtRecords text records) records
+      go : (t : Bool) → eqb (p .number) 0 ≡ t → ran .records ≡ recordsAfter (p .sweep .wants) text records
       go true q = rw (ran-swept (eqb-true (p .number) 0 q))
       go false q = let n = eqb-false (p .number) 0 q in rw (ran-refused n, b .no-build n)

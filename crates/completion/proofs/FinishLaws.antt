@@ -28,7 +28,7 @@ module _ {text : List ℕ} {mode : ℕ} {pool : List ℕ} {note : ℕ} {p : Begu
   goes-on = unrefused text mode pool (length (c .index₀)) (c .lent) (sym (c .begun .refuses) ∙ z)
 
   pub goes-short : length text ≤ 65535
-  goes-short = goes-on .short
+  goes-short = goes-on .enough .short
 
   pub goes-layout : wellFormed pool ≡ true
   goes-layout = goes-on .layout

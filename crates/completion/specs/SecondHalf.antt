@@ -3,9 +3,8 @@ use Prim.Native.Nat.{ℕ}
 use mathlib.Core.Path.{_≡_}
 use mathlib.Core.List.{List}
 use lib.ListN.{length}
-use Rattle.base.specs.Pick.{pick}
 use Rattle.index.specs.declared.Bracket.{Bracket}
-use Rattle.index.specs.Built.{builtIndex}
+use Rattle.index.specs.Built.{indexAfter}
 use Rattle.annotation_answer.specs.declared.Annotation.{Annotation}
 use Rattle.preparation.specs.declared.Begun.{Begun}
 use Rattle.preparation.specs.FirstHalf.{BegunBy}
@@ -21,7 +20,7 @@ pub record Continues (text : List ℕ) (mode : ℕ) (pool : List ℕ) (note : �
   pub items₀ : List ℕ
   pub groups₀ : List ℕ
   pub begun : BegunBy text mode pool note index₀ lent items₀ groups₀ p items groups
-  pub built : index ≡ pick (p .sweep .wants) (builtIndex text index₀) index₀
+  pub built : index ≡ indexAfter (p .sweep .wants) text index₀
 
 -- After the build: whatever the call was given, the answer is that of the call as run, if the first half began so and the index was built
 -- where that wanted it.
@@ -30,5 +29,5 @@ pub record Finished (text : List ℕ) (mode : ℕ) (pool : List ℕ) (note : ℕ
   pub gives : (index₀ : List ℕ) (records : List Bracket) (m : ℕ) (items₀ groups₀ : List ℕ)
       → BegunBy text mode pool note index₀ m items₀ groups₀ p items groups
       → length records ≡ m
-      → index ≡ pick (p .sweep .wants) (builtIndex text index₀) index₀
+      → index ≡ indexAfter (p .sweep .wants) text index₀
       → Done (annotateRun text mode pool note index₀ records (areas items₀ groups₀ references labels)) r items' groups' references' labels'

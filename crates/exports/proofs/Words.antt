@@ -134,7 +134,7 @@ module _ (s : List ℕ) (at : ℕ) (items : List ℕ) where
     where
       go : (t : Bool) → eqb (lookUpRefusal s at n m) 0 ≡ t
           → Low (pick t (lookUpAnswers (judge s at (closeAsRun s at note index)) items) (lookUpRefused (lookUpRefusal s at n m) items))
-      go true q = judged-low (unrefused s at n m (eqb-true _ 0 q) .short) (closeAsRun s at note index) (run-inside s at note index)
+      go true q = judged-low (unrefused s at n m (eqb-true _ 0 q) .enough .short) (closeAsRun s at note index) (run-inside s at note index)
       go false q = let h = look-up-refusal-low n m in refused-low (lookUpRefusal s at n m) items (omega arith)
 
 note-low : (b : Bool) (note : ℕ) → note < 256 → noteAfter b note < 256
@@ -247,7 +247,7 @@ module _ (text : List ℕ) (mode : ℕ) (pool : List ℕ) (areas : Areas) where
       go : (t : Bool) → eqb number 0 ≡ t
           → Few (pick t (annotateSwept text mode pool areas (sweepRun text (lentOf note index records)))
           (annotateRan (annotateRefused number areas) (lentOf note index records)))
-      go true q = swept-few (lentOf note index records) (annotate-unrefused text mode pool (length index) (length records) (eqb-true number 0 q) .short) h
+      go true q = swept-few (lentOf note index records) (annotate-unrefused text mode pool (length index) (length records) (eqb-true number 0 q) .enough .short) h
       go false q = let l = annotate-refusal-low (length index) (length records) in refused-few number areas (lentOf note index records) (omega arith) h
 
 pub annotation-words : (text : List ℕ) (mode : ℕ) (pool : List ℕ) (note : ℕ) (index : List ℕ) (records : List Bracket) (areas : Areas) → note < 256

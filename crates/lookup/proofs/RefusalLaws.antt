@@ -18,6 +18,7 @@ use Rattle.locator.specs.declared.Locator.the-variants.{Nothing}
 use Rattle.locator.specs.Answers.{codeOf, valueOf, suffixOf}
 use Rattle.locator.specs.Locators.{locatorOf}
 use Rattle.index.specs.Entries.{opensAt}
+use Rattle.index.specs.Built.{Enough}
 use Rattle.resolve.proofs.AtBracket.{opens-in}
 use Rattle.lookup.specs.declared.Size.{Size}
 use Rattle.lookup.specs.declared.Size.the-variants.{Accepted as SizeIs, Refused as NoSize}
@@ -59,25 +60,21 @@ module _ (s : List ℕ) (at n m : ℕ) {r : ℕ} (q : r ≡ textRefusal s) where
 
 pub ruleset refusal-laws = (refused-text, refused-past, refused-other, refused-escaped, refused-few, refused-not)
 
--- Where nothing refuses a look-up before its bracket is resolved: the text is short, it is an unescaped `[`, and both areas have a
--- record for each byte.
+-- Where nothing refuses a look-up before its bracket is resolved: a build can be had, and an unescaped `[` stands at the place.
 pub record Unrefused (s : List ℕ) (at n m : ℕ) : Type 0 where
-  pub short : length s ≤ 65535
+  pub enough : Enough s n m
   pub there : at < length s
   pub opens : opensAt s at ≡ true
-  pub wide : length s ≤ n
-  pub long : length s ≤ m
 
 pub unrefused : (s : List ℕ) (at n m : ℕ) → lookUpRefusal s at n m ≡ 0 → Unrefused s at n m
 unfolding lookUpRefusal afterText tooFew opensAt
 unrefused s at n m q =
     let r = go (tooLong s) (utf8 s) (isAt s at 91) (escapedAt s at) (ltb n (length s)) (ltb m (length s)) q in
     record {
-      short = ltb-false 65535 (length s) (r .0);
+      enough =
+          record { short = ltb-false 65535 (length s) (r .0); wide = ltb-false n (length s) (r .2); long = ltb-false m (length s) (r .3) };
       there = opens-in s at (r .1);
       opens = r .1;
-      wide = ltb-false n (length s) (r .2);
-      long = ltb-false m (length s) (r .3);
     }
   where
     go : (a b c d e f : Bool) → pick {A = ℕ} a 1 (pick b (pick (not c) 3 (pick d 4 (pick (e || f) 9 0))) 2) ≡ 0

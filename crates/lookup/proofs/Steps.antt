@@ -12,7 +12,7 @@ use Rattle.base.specs.Lists.{written}
 use Rattle.base.proofs.Bools.{and-left}
 use Rattle.close.specs.declared.Close.{Close}
 use Rattle.index.specs.declared.Bracket.{Bracket}
-use Rattle.index.specs.Built.{builtIndex, builtRecords}
+use Rattle.index.specs.Built.{Enough}
 use Rattle.resolve.specs.declared.Look.{Look}
 use Rattle.lookup.specs.declared.LookUp.{LookUp}
 use Rattle.lookup.specs.declared.LookUp.the-variants.{Accepted, Refused}
@@ -32,7 +32,7 @@ use Rattle.lookup.specs.Steps.{preparedOf, preparedWants, CanFinish, ans
 use Rattle.lookup.proofs.Laws.{matched-none, matched-found, matched-count}
 use Rattle.resolve.proofs.Laws.{look-inside, after-inside}
 use Rattle.resolve.proofs.Runs.{look-wants, look-close}
-use Rattle.lookup.proofs.RefusalLaws.{Unrefused, unrefused}
+use Rattle.lookup.proofs.RefusalLaws.{unrefused}
 
 -- in the form of the needs ---------------------------------------------------------------------------------------------------------
 
@@ -150,7 +150,7 @@ can-finish s at note index m = go (eqb (lookUpRefusal s at (length index) m) 0) 
   where
     go : (t : Bool) → eqb (lookUpRefusal s at (length index) m) 0 ≡ t
         → CanFinish s at (pick t (Ready (lookOf s at note index)) (NotReady (lookUpRefusal s at (length index) m)))
-    go true q = let u = unrefused s at (length index) m (eqb-true _ 0 q) in (u .short, u .there, look-inside s at note index)
+    go true q = let u = unrefused s at (length index) m (eqb-true _ 0 q) in (u .enough .short, u .there, look-inside s at note index)
     go false q = tt
 
 module _ (s : List ℕ) (at note : ℕ) (index : List ℕ) (m : ℕ) where
@@ -164,18 +164,10 @@ module _ (s : List ℕ) (at note : ℕ) (index : List ℕ) (m : ℕ) where
 
   -- what the build asks for
   module _ (w : preparedWants (preparedOf s at note index m) ≡ true) where
-    wanted : Unrefused s at (length index) m
+    pub wanted-enough : Enough s (length index) m
     unfolding lookUpBuilds
-    wanted = unrefused s at (length index) m (eqb-true _ 0 (and-left (eqb (lookUpRefusal s at (length index) m) 0) _ (sym prepared-builds ∙ w)))
-
-    pub builds-short : length s ≤ 65535
-    builds-short = wanted .short
-
-    pub builds-wide : length s ≤ length index
-    builds-wide = wanted .wide
-
-    pub builds-long : length s ≤ m
-    builds-long = wanted .long
+    wanted-enough =
+        unrefused s at (length index) m (eqb-true _ 0 (and-left (eqb (lookUpRefusal s at (length index) m) 0) _ (sym prepared-builds ∙ w))) .enough
 
 -- the answer's numbers, from what the bracket gives
 answered-values : (g : GroupAnswer) (note : ℕ) (items : List ℕ)
@@ -193,7 +185,7 @@ answered-values NoGroup note items = refl
 
 -- `w` is whether the index was built, and `after` what it is then
 module _ (s : List ℕ) (at note : ℕ) (index : List ℕ) (records : List Bracket) (items : List ℕ) {w : Bool} {after : List ℕ}
-    (q : w ≡ preparedWants (preparedOf s at note index (length records))) (e : after ≡ pick w (builtIndex s index) index) where
+    (q : w ≡ preparedWants (preparedOf s at note index (length records))) (e : after ≡ indexAfter w s index) where
   abbrev r : ℕ
   r = lookUpRefusal s at (length index) (length records)
 
@@ -203,10 +195,10 @@ module _ (s : List ℕ) (at note : ℕ) (index : List ℕ) (records : List Brack
   pub finished-values
       : lookUpValues (finishedOf s at note (preparedOf s at note index (length records)) after items)
       ≡ lookUpNumbers (lookUpRun s at note index records items)
-  unfolding preparedOf preparedWants finishedOf lookUpRun ranWith lookedUp lookUpNumbers lookUpValues groupAsRun lookUpBuilds lookUpRefused noteAfter
+  unfolding preparedOf preparedWants finishedOf lookUpRun ranWith lookedUp lookUpNumbers lookUpValues groupAsRun lookUpBuilds lookUpRefused noteAfter indexAfter
   finished-values = rw (e, q) (go (eqb (lookUpRefusal s at (length index) (length records)) 0))
     where
-      go : (t : Bool) → lookUpValues (finishedOf s at note (P t) (pick (preparedWants (P t)) (builtIndex s index) index) items)
+      go : (t : Bool) → lookUpValues (finishedOf s at note (P t) (indexAfter (preparedWants (P t)) s index) items)
           ≡ pick t (lookUpAnswers (groupAsRun s at note index) items) (lookUpRefused r items) .number
           ∷ pick t (lookUpAnswers (groupAsRun s at note index) items) (lookUpRefused r items) .close
           ∷ pick t (lookUpAnswers (groupAsRun s at note index) items) (lookUpRefused r items) .count
@@ -216,19 +208,19 @@ module _ (s : List ℕ) (at note : ℕ) (index : List ℕ) (records : List Brack
 
   pub finished-items
       : finishedItems s at (preparedOf s at note index (length records)) after items ≡ lookUpRun s at note index records items .answer .items
-  unfolding preparedOf preparedWants finishedItems lookUpRun ranWith lookedUp groupAsRun lookUpRefused
+  unfolding preparedOf preparedWants finishedItems lookUpRun ranWith lookedUp groupAsRun lookUpRefused indexAfter
   finished-items = rw (e, q) (go (eqb (lookUpRefusal s at (length index) (length records)) 0))
     where
-      go : (t : Bool) → finishedItems s at (P t) (pick (preparedWants (P t)) (builtIndex s index) index) items
+      go : (t : Bool) → finishedItems s at (P t) (indexAfter (preparedWants (P t)) s index) items
           ≡ pick t (lookUpAnswers (groupAsRun s at note index) items) (lookUpRefused r items) .items
       go true = ap (λ (c : Close). lookUpAnswers (judge s at c) items .items) (look-close s at note index)
       go false = refl
 
   -- the index and the bracket records
   pub ran-index : after ≡ lookUpRun s at note index records items .index
-  unfolding lookUpRun ranWith indexAfter
+  unfolding lookUpRun ranWith
   ran-index = e ∙ rw (q, prepared-builds s at note index (length records))
 
-  pub ran-records : {rs : List Bracket} → rs ≡ pick w (builtRecords s records) records → rs ≡ lookUpRun s at note index records items .records
-  unfolding lookUpRun ranWith recordsAfter
+  pub ran-records : {rs : List Bracket} → rs ≡ recordsAfter w s records → rs ≡ lookUpRun s at note index records items .records
+  unfolding lookUpRun ranWith
   ran-records o = o ∙ rw (q, prepared-builds s at note index (length records))

@@ -29,9 +29,8 @@ use denote.Steps.{owned, nothing}
 use denote.Triple.Spec.{tripleOf}
 use denote.Triple.Statement.{Contract, Triple}
 use Rattle.index.specs.declared.Bracket.{Bracket}
-use Rattle.index.specs.Built.{Both, builtWhen}
+use Rattle.index.specs.Built.{Both, builtWhen, Enough}
 use Rattle.index.proofs.Bracket as T
-use Rattle.pairs.specs.Turn.{Enough}
 use Rattle.pairs.proofs.Lent.{at-list, lent, back}
 use Rattle.base.proofs.Calling.{beside, calls-row, copied, last-list, no-last}
 use Rattle.pairs.proofs.count as count
@@ -60,7 +59,7 @@ module _ {M : Type 1} {𝓤 : URA M} {H : Heap 𝓤} {A : Atoms 𝓤} {K : Type 
       move t (2 ∷ []) $ last-list t T.the-row δ (zs .0) ys (e .1) (λ _. drop t $ move t (2 ∷ []) $ drop t $ move t (1 ∷ 0 ∷ []) $ back t tt T.the-row b o ℓ ys ys room refl $ k (is .1))))
 
   pub builds-when : K → (mem : Memory → SProp 𝓤) (run : Routine → Fun 𝓤) → FmC 𝓤 H (W .laws) C → Triple 𝓤 (C #pairs·build-when) (BuildWhen 𝓤 H A mem run)
-      → {κ₀ κ₁ κ₂ : Lft} {q₀ q₁ q₂ : Share} {γ₀ γ₁ γ₂ : GName} (ℓ₀ ℓ₁ ℓ₂ : Lifetime) (b₀ o₀ b₁ o₁ b₂ o₂ : ℕ) (c : Bool) (ts is : List ℕ) (ys : List Bracket) → Room u16 (length is) → Room T.the-row (length ys) → (c ≡ true → Enough ts is ys)
+      → {κ₀ κ₁ κ₂ : Lft} {q₀ q₁ q₂ : Share} {γ₀ γ₁ γ₂ : GName} (ℓ₀ ℓ₁ ℓ₂ : Lifetime) (b₀ o₀ b₁ o₁ b₂ o₂ : ℕ) (c : Bool) (ts is : List ℕ) (ys : List Bracket) → Room u16 (length is) → Room T.the-row (length ys) → (c ≡ true → Enough ts (length is) (length ys))
       → Opds K W Γ E xs (vbool c ∷ sliceVal (b₀, o₀) (length ts) ∷ sliceVal (b₁, o₁) (length is) ∷ sliceVal (b₂, o₂) (length ys) ∷ [])
       → (length (builtWhen c ts is ys .0) ≡ length is → length (builtWhen c ts is ys .1) ≡ length ys
       → Seq K W (‵ (flft κ₀ q₀) ∷ ‵ (ShrSlice ℓ₀ κ₀ u8 .own (at-list b₀ o₀ γ₀ ts) (sliceVal (b₀, o₀) (length ts) ∷ [])) ∷ ‵ (flft κ₁ q₁) ∷ ‵ (MutSlice ℓ₁ κ₁ u16 .own (at-list b₁ o₁ γ₁ (builtWhen c ts is ys .0)) (sliceVal (b₁, o₁) (length is) ∷ []))
@@ -75,7 +74,7 @@ module _ {M : Type 1} {𝓤 : URA M} {H : Heap 𝓤} {A : Atoms 𝓤} {K : Type 
       calls-row W t when.ended (when.clauses 𝓤 H A mem run) ((κ₀, (ν₁ ∷ [], (ν₂ ∷ [], tt))), (q₀, (fullShare, (fullShare, tt))), tt, (c, (text, (at-list b₁ o₁ δ₁ is, (at-list b₂ o₂ δ₂ ys, tt)))), (vbool c ∷ [], (sv₀ ∷ [], (sv₁ ∷ [], (sv₂ ∷ [], tt))))) tt
       (λ r zs. (zs .1 .1 .0, zs .1 .1 .1 .0) ≡ builtWhen c ts is ys) (‵ (flft κ₀ q₀) ∷ ‵ (flft (ν₁ ∷ []) fullShare) ∷ ‵ (flft (ν₂ ∷ []) fullShare) ∷ ‵ ftrue ∷ [])
       (‵ (Boolean .own c (vbool c ∷ [])) ∷ ‵ (ShrSlice (named 0) κ₀ u8 .own text (sv₀ ∷ [])) ∷ ‵ (MutSlice (named 1) (ν₁ ∷ []) u16 .own (at-list b₁ o₁ δ₁ is) (sv₁ ∷ [])) ∷ ‵ (MutSlice (named 2) (ν₂ ∷ []) T.the-row .own (at-list b₂ o₂ δ₂ ys) (sv₂ ∷ [])) ∷ ‵ ftrue ∷ [])
-      (record { tokens = refl; owned = refl; required = factI 𝓤 (c ≡ true → Enough ts is ys) (emp 𝓤) enough; ensured = λ r zs. id⊢ 𝓤 _ }) fm known (beside _ (beside _ (beside _ os)))
+      (record { tokens = refl; owned = refl; required = factI 𝓤 (c ≡ true → Enough ts (length is) (length ys)) (emp 𝓤) enough; ensured = λ r zs. id⊢ 𝓤 _ }) fm known (beside _ (beside _ (beside _ os)))
       (λ _. vunit) nothing-tells tt (λ r zs e. refl) (λ _ zs e. move t (4 ∷ []) $ no-last t $ no-last t $
       last-list t u16 δ₁ (zs .1 .1 .0) (builtWhen c ts is ys .0) (ap (λ (b : Both). b .0) e) (λ e₁. last-list t T.the-row δ₂ (zs .1 .1 .1 .0) (builtWhen c ts is ys .1) (ap (λ (b : Both). b .1) e) (λ e₂. drop t $
       -- [the records' last list; the index's; κ₀; ν₁; ν₂; true; text's; what is kept of the index; of the records; …]

@@ -10,12 +10,12 @@ use lib.ListN.{length}
 use borrow.Author.Tests.{ltb-true, ltb-false}
 use Rattle.index.specs.declared.Bracket.{Bracket}
 use Rattle.index.specs.declared.Scan.{Scan}
-use Rattle.index.specs.Built.{blank, Both, built}
+use Rattle.index.specs.Built.{blank, Both, built, Enough}
 use Rattle.index.specs.Passing.{turnAt, unread, filled}
 use Rattle.index.specs.Scan.{start, stepIndex, stepRecords}
 use Rattle.index.proofs.Turns.{KnownAt}
 use Rattle.index.proofs.Building.{turn-far, build-start, build-turn, build-end, fine, read-in, slot-in, place-in}
-use Rattle.pairs.specs.Turn.{Ready, Enough}
+use Rattle.pairs.specs.Turn.{Ready}
 
 -- what a turn changes: the scan's state, the index and the records
 abbrev pub State : Type 0
@@ -35,7 +35,7 @@ unread-is : (s : List ℕ) (c : Scan) → unread s c ≡ true → c .at < length
 unfolding unread
 unread-is s c m = ltb-true (c .at) (length s) m
 
-module _ (s index₀ : List ℕ) (records₀ : List Bracket) (enough : Enough s index₀ records₀) where
+module _ (s index₀ : List ℕ) (records₀ : List Bracket) (enough : Enough s (length index₀) (length records₀)) where
   pub record Facts (x : State) : Type 0 where
     pub known : KnownAt s index₀ records₀ (enough .wide) (enough .long) (x .0) (x .1 .0) (x .1 .1)
     pub same-index : length (x .1 .0) ≡ length index₀

@@ -1,5 +1,5 @@
--- What a turn of the scan and a build ask of the lent areas.
-use Prim.Native.Nat.{ℕ, _-_, _<_, _≤_}
+-- What a turn of the scan asks of the lent areas.
+use Prim.Native.Nat.{ℕ, _-_, _<_}
 use mathlib.Core.List.{List}
 use lib.ListN.{length}
 use Rattle.index.specs.declared.Bracket.{Bracket}
@@ -12,9 +12,3 @@ pub record Ready (s : List ℕ) (c : Scan) (index : List ℕ) (records : List Br
   pub read : c .depth - 1 < length records
   pub slot : turnAt s c records .slot < length records
   pub place : turnAt s c records .place < length index
-
--- a build can be had: no "index or bracket records fewer than text bytes", and every place fits a u16
-pub record Enough (s index : List ℕ) (records : List Bracket) : Type 0 where
-  pub short : length s ≤ 65535
-  pub wide : length s ≤ length index
-  pub long : length s ≤ length records

@@ -4,10 +4,10 @@ ghost use Prim.Native.Nat.{_-_, _<_, _≤_};
 ghost use lib.ListN.{length, set, getD};
 ghost use mathlib.Core.Bool.{true};
 ghost use mathlib.Core.Path.{_≡_};
-ghost use Rattle.index.specs.Built.{blank, built, builtWhen};
+ghost use Rattle.index.specs.Built.{blank, built, builtWhen, Enough};
 ghost use Rattle.index.specs.Passing.{turnAt, filled};
 ghost use Rattle.index.specs.Scan.{stepIndex, stepRecords};
-ghost use Rattle.pairs.specs.Turn.{Ready, Enough};
+ghost use Rattle.pairs.specs.Turn.{Ready};
 use index::Bracket;
 use index::Scan;
 
@@ -78,7 +78,7 @@ fn clear(text: &[u8], records: &mut [Bracket])
 
 // Builds the index of the text: clears its entries, takes the turns of the scan, and clears the records.
 fn bracket_pairs(text: &[u8], index: &mut [u16], records: &mut [Bracket])
-    requires { ⌜ Enough (now text) (now index) (now records) ⌝ }
+    requires { ⌜ Enough (now text) (length (now index)) (length (now records)) ⌝ }
     ensures { λ _. ⌜ (now (index .exit), now (records .exit)) ≡ built (now (text .entry)) (now (index .entry)) (now (records .entry)) ⌝ }
 {
     index::clear_entries(text, index);
@@ -91,7 +91,7 @@ fn bracket_pairs(text: &[u8], index: &mut [u16], records: &mut [Bracket])
 
 // The same where it is wanted; else nothing.
 pub fn build_when(want: bool, text: &[u8], index: &mut [u16], records: &mut [Bracket])
-    requires { ⌜ (want ≡ true → Enough (now text) (now index) (now records)) ⌝ }
+    requires { ⌜ (want ≡ true → Enough (now text) (length (now index)) (length (now records))) ⌝ }
     ensures { λ _. ⌜ (now (index .exit), now (records .exit)) ≡ builtWhen want (now (text .entry)) (now (index .entry)) (now (records .entry)) ⌝ }
 {
     if want {

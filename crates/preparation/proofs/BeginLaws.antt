@@ -6,6 +6,7 @@ use mathlib.Core.Bool.{Bool, true, false, true≢false}
 use lib.ListN.{length}
 use lib.Dec.{eqb}
 use borrow.Author.Tests.{eqb-true, eqb-false}
+use Rattle.index.specs.Built.{Enough}
 use Rattle.group_records.specs.declared.SweepState.{SweepState}
 use Rattle.sweep.specs.Stops.{startState, SweptTo}
 use Rattle.group_records.specs.Recording.{Counted}
@@ -36,7 +37,7 @@ module _ (text : List ℕ) (mode : ℕ) (pool : List ℕ) (note : ℕ) (index : 
 
   module _ (z : number ≡ 0) where
     pub begun-short : length text ≤ 65535
-    begun-short = unrefused text mode pool (length index) m (sym q ∙ z) .short
+    begun-short = unrefused text mode pool (length index) m (sym q ∙ z) .enough .short
 
     pub begun-swept : {t : SweepState} {items' groups' : List ℕ} → SweptTo text note index s items groups t items' groups'
         → BegunBy text mode pool note index m items groups (begun number t) items' groups'
@@ -59,19 +60,9 @@ module _ {text : List ℕ} {mode : ℕ} {pool : List ℕ} {note : ℕ} {index : 
   passed : p .number ≡ 0 → Unrefused text mode pool (length index) m
   passed z = unrefused text mode pool (length index) m (sym (b .refuses) ∙ z)
 
-  module _ (w : p .sweep .wants ≡ true) where
-    wanted : Unrefused text mode pool (length index) m
-    wanted = go (eqb (p .number) 0) refl
-      where
-        go : (t : Bool) → eqb (p .number) 0 ≡ t → Unrefused text mode pool (length index) m
-        go true q = passed (eqb-true (p .number) 0 q)
-        go false q = absurd (true≢false (sym w ∙ b .no-build (eqb-false (p .number) 0 q)))
-
-    pub builds-short : length text ≤ 65535
-    builds-short = wanted .short
-
-    pub builds-wide : length text ≤ length index
-    builds-wide = wanted .wide
-
-    pub builds-long : length text ≤ m
-    builds-long = wanted .long
+  pub wanted-enough : p .sweep .wants ≡ true → Enough text (length index) m
+  wanted-enough w = go (eqb (p .number) 0) refl
+    where
+      go : (t : Bool) → eqb (p .number) 0 ≡ t → Enough text (length index) m
+      go true q = passed (eqb-true (p .number) 0 q) .enough
+      go false q = absurd (true≢false (sym w ∙ b .no-build (eqb-false (p .number) 0 q)))

@@ -11,6 +11,7 @@ use Rattle.base.specs.Pick.{pick}
 use Rattle.utf8.specs.Utf8.{tooLong, utf8}
 use Rattle.utf8.specs.Refusal.{afterText, textRefusal}
 use Rattle.utf8.proofs.Characters.{refused-after, accepted-after}
+use Rattle.index.specs.Built.{Enough}
 use Rattle.lookup.specs.Refusals.{tooFew}
 use Rattle.pool.specs.Layout.{wellFormed}
 use Rattle.preparation.specs.Refusal.{annotateRefusal}
@@ -47,25 +48,21 @@ module _ (s : List ℕ) (mode : ℕ) (pool : List ℕ) (n m : ℕ) {r : ℕ} (q 
 
 pub ruleset refusal-laws = (refused-text, refused-mode, refused-pool, refused-index, refused-records, refused-not)
 
--- Where nothing refuses an annotation before the sweep: the text is short, the mode is one of the two, the pool has its layout, and there
--- is an index and a bracket record for each byte.
+-- Where nothing refuses an annotation before the sweep: a build can be had, the mode is one of the two, and the pool has its layout.
 pub record Unrefused (s : List ℕ) (mode : ℕ) (pool : List ℕ) (n m : ℕ) : Type 0 where
-  pub short : length s ≤ 65535
+  pub enough : Enough s n m
   pub low : mode ≤ 1
   pub layout : wellFormed pool ≡ true
-  pub wide : length s ≤ n
-  pub long : length s ≤ m
 
 pub unrefused : (s : List ℕ) (mode : ℕ) (pool : List ℕ) (n m : ℕ) → annotateRefusal s mode pool n m ≡ 0 → Unrefused s mode pool n m
 unfolding annotateRefusal afterText tooFew
 unrefused s mode pool n m q =
     let r = go (tooLong s) (utf8 s) (ltb 1 mode) (wellFormed pool) (ltb n (length s)) (ltb m (length s)) q in
     record {
-      short = ltb-false 65535 (length s) (r .0);
+      enough =
+          record { short = ltb-false 65535 (length s) (r .0); wide = ltb-false n (length s) (r .3); long = ltb-false m (length s) (r .4) };
       low = ltb-false 1 mode (r .1);
       layout = r .2;
-      wide = ltb-false n (length s) (r .3);
-      long = ltb-false m (length s) (r .4);
     }
   where
     go : (a b c d e f : Bool) → pick {A = ℕ} a 1 (pick b (pick c 6 (pick (not d) 7 (pick (e || f) 9 0))) 2) ≡ 0

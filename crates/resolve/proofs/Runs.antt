@@ -9,7 +9,7 @@ use borrow.Author.Tests.{lt-ltb, le-ltb, leb-true, leb-false}
 use Rattle.base.specs.Pick.{pick}
 use Rattle.close.specs.declared.Close.{Close}
 use Rattle.close.specs.declared.Close.the-variants.{At, Nothing}
-use Rattle.index.specs.Built.{builtIndex}
+use Rattle.index.specs.Built.{builtIndex, indexAfter}
 use Rattle.resolve.specs.declared.Look.the-variants.{Nothing as LookNothing, Build}
 use Rattle.resolve.specs.Resolve.{isBuilt, storedClose, shortLook, orElse, isNothing, closeAsRun, wantsBuild}
 use Rattle.resolve.specs.Looks.{settled, shortened, lookOf, isBuild, closeAfter, Inside}
@@ -35,18 +35,18 @@ module _ (s : List ℕ) (at note : ℕ) (index : List ℕ) where
       go false Nothing d = past-64 (length s - at)
 
   -- and then the close after it is that of the call as run
-  pub look-close : closeAfter s at (pick (isBuild (lookOf s at note index)) (builtIndex s index) index) (lookOf s at note index) ≡ closeAsRun s at note index
-  unfolding lookOf shortened closeAsRun closeAfter
+  pub look-close : closeAfter s at (indexAfter (isBuild (lookOf s at note index)) s index) (lookOf s at note index) ≡ closeAsRun s at note index
+  unfolding lookOf shortened closeAsRun closeAfter indexAfter
   look-close = go (isBuilt note) (shortLook s at) (storedClose s at index)
     where
       end : (t : Bool)
-          → closeAfter s at (pick (isBuild (pick t LookNothing Build)) (builtIndex s index) index) (pick t LookNothing Build)
+          → closeAfter s at (indexAfter (isBuild (pick t LookNothing Build)) s index) (pick t LookNothing Build)
           ≡ pick t Nothing (storedClose s at (builtIndex s index))
       end true = refl
       end false = refl
 
       go : (t : Bool) (c d : Close)
-          → closeAfter s at (pick (isBuild (pick t (settled d) (shortened s at c))) (builtIndex s index) index) (pick t (settled d) (shortened s at c))
+          → closeAfter s at (indexAfter (isBuild (pick t (settled d) (shortened s at c))) s index) (pick t (settled d) (shortened s at c))
           ≡ pick t d (orElse c (pick (leb (length s - at) 64) Nothing (storedClose s at (builtIndex s index))))
       go true c (At k) = refl
       go true c Nothing = refl
@@ -57,4 +57,4 @@ module _ (s : List ℕ) (at note : ℕ) (index : List ℕ) where
   pub run-inside : Inside s at (closeAsRun s at note index)
   run-inside =
       subst (λ (d : Close). Inside s at d) look-close
-      (after-inside s at (pick (isBuild (lookOf s at note index)) (builtIndex s index) index) (lookOf s at note index) (look-inside s at note index))
+      (after-inside s at (indexAfter (isBuild (lookOf s at note index)) s index) (lookOf s at note index) (look-inside s at note index))

@@ -10,6 +10,7 @@ use Rattle.base.specs.Pick.{pick}
 use Rattle.base.specs.Lists.{byteAt}
 use Rattle.text.specs.Escape.{escapedAt}
 use Rattle.close.specs.declared.Close.the-variants.{At}
+use Rattle.index.specs.Built.{indexAfter}
 use Rattle.index.specs.Entries.{opensAt}
 use Rattle.resolve.specs.declared.Look.{Look}
 use Rattle.resolve.specs.declared.Look.the-variants.{At as LookAt, Nothing as LookNothing, Build as LookBuild}
@@ -76,6 +77,7 @@ module _ (s : List ℕ) (note : ℕ) (index : List ℕ) (p : ℕ) where
           rw (o, x)
 
       judged : (isBuild l ≡ false) → stepAt s note index p ≡ stepOf (judge s p (closeAfter s p index l))
+      unfolding indexAfter
       judged z =
           let n : isBuild (lookOf s p note index) ≡ false = ap isBuild (sym k) ∙ z in
           let c : closeAfter s p index (lookOf s p note index) ≡ closeAsRun s p note index = rw n at (look-close s p note index) in

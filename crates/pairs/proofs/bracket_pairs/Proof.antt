@@ -40,13 +40,13 @@ use denote.Triple.Walked.{says, needs, Stays, stay-slice, stay-none-slice, walkO
 use denote.Exit.{yes}
 use Rattle.index.specs.declared.Bracket.{Bracket}
 use Rattle.index.specs.declared.Scan.{Scan}
-use Rattle.index.specs.Built.{blank, Both, built}
+use Rattle.index.specs.Built.{blank, Both, built, Enough}
 use Rattle.index.specs.Passing.{unread, filled}
 use Rattle.index.specs.Scan.{start}
 use Rattle.index.proofs.Bracket as T
 use Rattle.index.proofs.Scan as S
 use Rattle.index.proofs.Scan.Laws as S′
-use Rattle.pairs.specs.Turn.{Ready, Enough}
+use Rattle.pairs.specs.Turn.{Ready}
 use Rattle.pairs.proofs.Lent.{at-list, lent, back}
 use Rattle.base.proofs.Bools.{split as cases}
 use Rattle.base.proofs.Calling.{calls-row, calls-row-last, copied, last-list, no-last}
@@ -145,7 +145,7 @@ module _ {M : Type 1} (𝓤 : URA M) (H : Heap 𝓤) (A : Atoms 𝓤) (W : Given
       -- [records'; index's; text's]
       nothing ! $ move ! (1 ∷ 0 ∷ []) $ fjoin ! $ move ! (1 ∷ 0 ∷ []) $ fjoin ! $ move ! (1 ∷ 0 ∷ []) $ fjoin ! $ frame ! $ feqI ! (List Val) (vunit ∷ []) (vunit ∷ []) refl $ done !
 
-  module _ (𝓣 : Tables 𝓤 H) (known : Known 𝓤 H A mem run (𝓣 .C)) (room₀ : Room u8 (length ts)) (room₁ : Room u16 (length is₀)) (room₂ : Room T.the-row (length ys₀)) (enough : Enough ts is₀ ys₀) where
+  module _ (𝓣 : Tables 𝓤 H) (known : Known 𝓤 H A mem run (𝓣 .C)) (room₀ : Room u8 (length ts)) (room₁ : Room u16 (length is₀)) (room₂ : Room T.the-row (length ys₀)) (enough : Enough ts (length is₀) (length ys₀)) where
     module _ (l₀ l₁ l₂ l₃ l₄ l₅ l₆ l₇ l₈ l₉ l₁₀ l₁₁ l₁₂ l₁₃ l₁₄ : ℕ) where
       abbrev En : Env 𝓤 H
       En = (tyUnit, l₀) ∷ (textTy, l₁) ∷ (indexTy, l₂) ∷ (recordsTy, l₃) ∷ (S′.mir, l₄) ∷ (tyUnit, l₅) ∷ (ref₁, l₆) ∷ ((sliceTy ref₁), l₇) ∷ (tyBool, l₈) ∷ (ref₁, l₉) ∷ ((sliceTy ref₁), l₁₀) ∷ (ref₂, l₁₁) ∷ ((sliceTy ref₂), l₁₂) ∷ (ref₂, l₁₃) ∷ ((sliceTy ref₂), l₁₄) ∷ []
@@ -275,7 +275,7 @@ module _ {M : Type 1} (𝓤 : URA M) (H : Heap 𝓤) (A : Atoms 𝓤) (W : Given
   bracket-pairs-walks : Walks 𝓤 H A f.ended stayed (WpFn 𝓤 H (𝓣 .C) (𝓣 .Λ) code.function) (f.clauses 𝓤 H A mem run)
   bracket-pairs-walks = walked 𝓤 H A f.ended stayed (f.clauses 𝓤 H A mem run) (WpFn 𝓤 H (𝓣 .C) (𝓣 .Λ) code.function)
       (λ κs. (slice-vals, (slice-vals, (slice-vals, tt)))) (λ κs. (shr-slice-tells (named 0) (κs .0) u8, (mut-slice-tells (named 1) (κs .1 .0) u16, (mut-slice-tells (named 2) (κs .1 .1 .0) T.the-row, tt))))
-      (λ κs qs bounds a g are. needs 𝓤 (Enough (a .0 .now) (a .1 .0 .now) (a .1 .1 .0 .now)) _ (λ enough.
+      (λ κs qs bounds a g are. needs 𝓤 (Enough (a .0 .now) (length (a .1 .0 .now)) (length (a .1 .1 .0 .now))) _ (λ enough.
       walk 𝓤 H A W mem run (κs .0) (κs .1 .0) (κs .1 .1 .0) (qs .0) (qs .1 .0) (qs .1 .1 .0) (a .0 .ptr .0) (a .0 .ptr .1) (a .1 .0 .ptr .0) (a .1 .0 .ptr .1) (a .1 .1 .0 .ptr .0) (a .1 .1 .0 .ptr .1)
       (a .0 .name) (a .1 .0 .name) (a .1 .1 .0 .name) (a .0 .now) (a .1 .0 .now) (a .1 .1 .0 .now) 𝓣 known (are .0 .0 .1) (are .1 .0 .0 .1) (are .1 .1 .0 .0 .1) enough))
 

@@ -38,8 +38,7 @@ use denote.Triple.Table.{entered, cited}
 use denote.Triple.Walked.{says, needs, Stays, stay-none, stay-slice, stay-none-slice, walkOf, goes-none, goes-slice, goes-none-slice, Walks, ends-at, walked, walk-meets}
 use denote.Exit.{yes}
 use Rattle.index.specs.declared.Bracket.{Bracket}
-use Rattle.index.specs.Built.{Both, built, indexAfter, recordsAfter, builtWhen}
-use Rattle.pairs.specs.Turn.{Enough}
+use Rattle.index.specs.Built.{Both, built, indexAfter, recordsAfter, builtWhen, Enough}
 use Rattle.index.proofs.Bracket as T
 use Rattle.pairs.proofs.Lent.{at-list, lent, back}
 use Rattle.base.proofs.Calling.{calls-row-last, copied, last-list, no-last}
@@ -128,7 +127,7 @@ module _ {M : Type 1} (𝓤 : URA M) (H : Heap 𝓤) (A : Atoms 𝓤) (W : Given
           move ! (26 ∷ 27 ∷ []) $ free1 ! $ move ! (24 ∷ 25 ∷ []) $ free1 ! $ move ! (22 ∷ 23 ∷ []) $ free1 ! $ move ! (20 ∷ 21 ∷ []) $ free1 ! $ move ! (18 ∷ 19 ∷ []) $ free1 ! $ move ! (16 ∷ 17 ∷ []) $ free1 ! $ move ! (14 ∷ 15 ∷ []) $ free1 ! $ move ! (12 ∷ 13 ∷ []) $ free1 ! $ move ! (10 ∷ 11 ∷ []) $ free1 ! $ move ! (8 ∷ 9 ∷ []) $ free1 ! $ move ! (6 ∷ 7 ∷ []) $ free1 ! $ free0 ! $
           by ! (exits x e e₁ e₂)
 
-      body : (c ≡ true → Enough ts is₀ ys₀) → Sq W (After (is₀, ys₀)) (runs C Λ En code.Mir.t-2 (atRet En Post))
+      body : (c ≡ true → Enough ts (length is₀) (length ys₀)) → Sq W (After (is₀, ys₀)) (runs C Λ En code.Mir.t-2 (atRet En Post))
       unfolding indexAfter recordsAfter
       body enough = first ! $ branches ! (load ! (from ! (stop !)) (look ! 16 refl))
           (λ yes.
@@ -142,7 +141,7 @@ module _ {M : Type 1} (𝓤 : URA M) (H : Heap 𝓤) (A : Atoms 𝓤) (W : Given
           calls-row-last W ! pairs.ended (pairs.clauses 𝓤 H A mem run) ((κ₀, (ν₁ ∷ [], (ν₂ ∷ [], tt))), (q₀, (fullShare, (fullShare, tt))), tt, (text, (at-list b₁ o₁ δ₁ is₀, (at-list b₂ o₂ δ₂ ys₀, tt))), (sv₀ ∷ [], (sv₁ ∷ [], (sv₂ ∷ [], tt)))) tt
           (λ r zs. (zs .1 .0, zs .1 .1 .0) ≡ built ts is₀ ys₀) (‵ (flft κ₀ q₀) ∷ ‵ (flft (ν₁ ∷ []) fullShare) ∷ ‵ (flft (ν₂ ∷ []) fullShare) ∷ ‵ ftrue ∷ [])
           (‵ (ShrSlice (named 0) κ₀ u8 .own text (sv₀ ∷ [])) ∷ ‵ (MutSlice (named 1) (ν₁ ∷ []) u16 .own (at-list b₁ o₁ δ₁ is₀) (sv₁ ∷ [])) ∷ ‵ (MutSlice (named 2) (ν₂ ∷ []) T.the-row .own (at-list b₂ o₂ δ₂ ys₀) (sv₂ ∷ [])) ∷ ‵ ftrue ∷ [])
-          (record { tokens = refl; owned = refl; required = factI 𝓤 (Enough ts is₀ ys₀) (emp 𝓤) (enough (holds c yes)); ensured = λ r zs. id⊢ 𝓤 _ }) fm known (and-then ! (load ! (from ! (stop !)) (look ! 19 refl)) (and-then ! (load ! (from ! (stop !)) (look ! 7 refl)) (and-then ! (load ! (from ! (stop !)) (look ! 3 refl)) (no-more !))))
+          (record { tokens = refl; owned = refl; required = factI 𝓤 (Enough ts (length is₀) (length ys₀)) (emp 𝓤) (enough (holds c yes)); ensured = λ r zs. id⊢ 𝓤 _ }) fm known (and-then ! (load ! (from ! (stop !)) (look ! 19 refl)) (and-then ! (load ! (from ! (stop !)) (look ! 7 refl)) (and-then ! (load ! (from ! (stop !)) (look ! 3 refl)) (no-more !))))
           (λ _. vunit) nothing-tells tt (λ r zs e. refl) (λ _ zs e. move ! (4 ∷ []) $ no-last ! $ last-list ! u16 δ₁ (zs .1 .0) (built ts is₀ ys₀ .0) (ap (λ (b : Both). b .0) e) (λ e₁. last-list ! T.the-row δ₂ (zs .1 .1 .0) (built ts is₀ ys₀ .1) (ap (λ (b : Both). b .1) e) (λ e₂. drop ! $
           -- [the records' last list; the index's; κ₀; ν₁; ν₂; true; text's; what is kept of the index; of the records; _10; …]
           move ! (3 ∷ 1 ∷ 7 ∷ []) $ back ! tt u16 b₁ o₁ (named 1) is₀ (built ts is₀ ys₀ .0) room₁ e₁ $ move ! (4 ∷ 2 ∷ 7 ∷ []) $ back ! tt T.the-row b₂ o₂ (named 2) ys₀ (built ts is₀ ys₀ .1) room₂ e₂ $ move ! (5 ∷ []) $ drop ! $
@@ -151,7 +150,7 @@ module _ {M : Type 1} (𝓤 : URA M) (H : Heap 𝓤) (A : Atoms 𝓤) (W : Given
           leaves (built ts is₀ ys₀) (ap (λ (t : Bool). builtWhen t ts is₀ ys₀) (sym (holds c yes))) e₁ e₂))))))
           (λ no. skips ! $ exec ! C Λ En code.Mir.t-3 (atRet En Post) $ leaves (is₀, ys₀) (ap (λ (t : Bool). builtWhen t ts is₀ ys₀) (sym (fails c no))) refl refl)
 
-    walk : (c ≡ true → Enough ts is₀ ys₀) → ent 𝓤 (onEntry 𝓤 H A f.signature (κ₀, (κ₁, (κ₂, tt))) (q₀, (q₁, (q₂, tt))) a vals) (WpFn 𝓤 H C Λ code.function (vbool c ∷ sv₀ ∷ sv₁ ∷ sv₂ ∷ []) Post)
+    walk : (c ≡ true → Enough ts (length is₀) (length ys₀)) → ent 𝓤 (onEntry 𝓤 H A f.signature (κ₀, (κ₁, (κ₂, tt))) (q₀, (q₁, (q₂, tt))) a vals) (WpFn 𝓤 H C Λ code.function (vbool c ∷ sv₀ ∷ sv₁ ∷ sv₂ ∷ []) Post)
     walk enough =
         qed W ((‵ (flft κ₀ q₀) ⊛ (‵ (flft κ₁ q₁) ⊛ (‵ (flft κ₂ q₂) ⊛ ‵ ftrue))) ∷ ‵ (owns (Boolean ∷ ShrSlice (named 0) κ₀ u8 ∷ MutSlice (named 1) κ₁ u16 ∷ MutSlice (named 2) κ₂ T.the-row ∷ []) a vals) ∷ []) ∵
         split ! $ move ! (1 ∷ []) $ split ! $ move ! (1 ∷ []) $ split ! $ move ! (4 ∷ []) $ fsplit ! $ drop ! $ fsplit ! $ move ! (1 ∷ []) $ fsplit ! $ move ! (1 ∷ []) $ fsplit ! $
@@ -166,7 +165,7 @@ module _ {M : Type 1} (𝓤 : URA M) (H : Heap 𝓤) (A : Atoms 𝓤) (W : Given
   build-when-walks : (C : Calls 𝓤 H) (Λ : Loops 𝓤 H) → FmC 𝓤 H (W .laws) C → Triple 𝓤 (C #pairs·bracket-pairs) (tripleOf 𝓤 H A pairs.signature (pairs.spec 𝓤 H A mem run)) → Walks 𝓤 H A f.ended stayed (WpFn 𝓤 H C Λ code.function) (f.clauses 𝓤 H A mem run)
   build-when-walks C Λ fm known = walked 𝓤 H A f.ended stayed (f.clauses 𝓤 H A mem run) (WpFn 𝓤 H C Λ code.function)
       (λ κs. (bool-vals, (slice-vals, (slice-vals, (slice-vals, tt))))) (λ κs. (bool-tells, (shr-slice-tells (named 0) (κs .0) u8, (mut-slice-tells (named 1) (κs .1 .0) u16, (mut-slice-tells (named 2) (κs .1 .1 .0) T.the-row, tt)))))
-      (λ κs qs bounds a g are. needs 𝓤 (a .0 ≡ true → Enough (a .1 .0 .now) (a .1 .1 .0 .now) (a .1 .1 .1 .0 .now)) _
+      (λ κs qs bounds a g are. needs 𝓤 (a .0 ≡ true → Enough (a .1 .0 .now) (length (a .1 .1 .0 .now)) (length (a .1 .1 .1 .0 .now))) _
       (walk 𝓤 H A W mem run (κs .0) (κs .1 .0) (κs .1 .1 .0) (qs .0) (qs .1 .0) (qs .1 .1 .0) (a .1 .0 .ptr .0) (a .1 .0 .ptr .1) (a .1 .1 .0 .ptr .0) (a .1 .1 .0 .ptr .1) (a .1 .1 .1 .0 .ptr .0) (a .1 .1 .1 .0 .ptr .1)
       (a .1 .0 .name) (a .1 .1 .0 .name) (a .1 .1 .1 .0 .name) (a .0) (a .1 .0 .now) (a .1 .1 .0 .now) (a .1 .1 .1 .0 .now) C Λ fm known (are .1 .0 .0 .1) (are .1 .1 .0 .0 .1) (are .1 .1 .1 .0 .0 .1)))
 
