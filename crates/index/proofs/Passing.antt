@@ -21,7 +21,8 @@ use Rattle.index.specs.declared.Bracket.{Bracket}
 use Rattle.index.specs.declared.Reads.{Reads}
 use Rattle.index.specs.declared.Scan.{Scan}
 use Rattle.index.specs.declared.Plan.{Plan}
-use Rattle.index.specs.Scan.{keyHere, latest, readOn, nextScan, scanPlan}
+use Rattle.index.specs.Scan.{keyHere, latest, readOn, scanPlan}
+use Rattle.index.proofs.Laws.{plan-at}
 use Rattle.index.specs.Passing.{isOrdinary, ordinaryEnd, contentIn, passing, skipped, turnOf, unread, Fine, filled}
 
 -- bytes -----------------------------------------------------------------------------------------------------------------------------
@@ -132,8 +133,7 @@ unfolding unread
 turn-here s c f = ltb-true _ _ (f .goes)
 
 pub turn-by : (s : List ℕ) (c : Scan) (outer : Bracket) {p : Plan} → p ≡ scanPlan s c outer → c .at < length s → p .next .at ≤ length s
-unfolding scanPlan nextScan
-turn-by s c outer e h = rw e (omega arith)
+turn-by s c outer e h = rw e (omega (arith, plan-at s c outer))
 
 pub turn-is : (s : List ℕ) (c : Scan) (outer : Bracket) {p : Plan} {n : Scan} → p ≡ scanPlan s c outer → n ≡ skipped s (p .next)
     → record { next = n; slot = p .slot; top = p .top; place = p .place; mark = p .mark } ≡ turnOf s c outer
