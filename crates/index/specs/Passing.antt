@@ -1,6 +1,6 @@
 -- A build as the code does it: it clears the index, takes the turns of the scan, and clears the records. A turn is that of one byte, and goes
 -- on over the ordinary bytes after it, which change nothing but what was read.
-use Prim.Native.Nat.{ℕ, zero, suc, _+_, _-_, _≤_}
+use Prim.Native.Nat.{ℕ, zero, suc, _-_, _≤_}
 use mathlib.Core.List.{List}
 use mathlib.Core.Bool.{Bool, true, _&&_, _||_, not}
 use mathlib.Core.Path.{_≡_}

@@ -13,7 +13,6 @@ use Rattle.base.specs.Last.{lastEnd}
 use Rattle.base.specs.Lists.{part}
 use Rattle.base.specs.declared.Span.{Span}
 use Rattle.base.proofs.Parts.{part-is, part-length}
-use Rattle.white.specs.White.{isWhite}
 use Rattle.text.specs.Trim.{trimStart, trimEnd, trim}
 use Rattle.text.proofs.Trims.{start-by, start-plain, end-from, end-by, end-behind}
 use Rattle.pool.specs.Numbers.{signed}
