@@ -12,6 +12,7 @@ use Rattle.base.specs.Lists.{byteAt, part, same}
 use Rattle.base.specs.Spans.{span, bytesOf}
 use Rattle.base.specs.declared.Span.{Span}
 use Rattle.base.proofs.Searches.{first-from, first-by, first-out, first-stop, first-more}
+use Rattle.base.proofs.Lasts.{last-end-from, last-end-by, last-end-out, last-end-stop, last-end-more}
 use Rattle.base.proofs.Parts.{part-is, part-length, take-part, drop-part}
 use Rattle.white.specs.White.{isInk, isWhite}
 use Rattle.white.proofs.Whites.{ink-plain}
@@ -20,7 +21,7 @@ use Rattle.text.proofs.Trims.{start-from, start-plain}
 use Rattle.attributes.specs.declared.Value.the-variants.{Given, Missing}
 use Rattle.attributes.specs.Attributes.{wordEnd, wordsIn, wordsOf, equalsAt, endWithout, stripped, bare, valueIn, attrValue}
 use Rattle.attributes.specs.Values.{valueBytes}
-use Rattle.attributes.proofs.Parts.{without-from, without-by, equals-shift, stripped-shift}
+use Rattle.attributes.proofs.Parts.{equals-shift, stripped-shift}
 
 -- where a word ends --------------------------------------------------------------------------------------------------------------
 
@@ -45,24 +46,15 @@ pub ruleset word-laws = (word-start, word-out, word-stop, word-more, word-ink)
 
 -- bytes stripped from the end ------------------------------------------------------------------------------------------------------
 
-module _ (b : ℕ) (s : List ℕ) (a i : ℕ) {w : ℕ} (p : w ≡ endWithout b s a (i - a)) where
+module _ (b : ℕ) (s : List ℕ) (a i : ℕ) {w : ℕ} (p : w ≡ endWithout b s a i) where
   pub without-out : i ≤ a → a ≡ w
-  unfolding endWithout
-  without-out h = let z : i - a ≡ 0 = omega arith in sym (p ∙ rw z)
+  without-out = last-end-out (λ k. not (eqb (byteAt s k) b)) a i a p
 
   pub without-stop : a < i → (byteAt s (i - 1) ≡ b → ⊥) → i ≡ w
-  unfolding endWithout
-  without-stop h q =
-      let f : i - a ≡ suc (i - 1 - a) = omega arith in
-      let g : a + (i - 1 - a) ≡ i - 1 = omega arith in
-      sym (p ∙ rw (f, g, ne-eqb _ _ q) (omega arith))
+  without-stop h q = last-end-stop (λ k. not (eqb (byteAt s k) b)) a i a p h (ap not (ne-eqb _ _ q))
 
-  pub without-more : a < i → byteAt s (i - 1) ≡ b → w ≡ endWithout b s a (i - 1 - a)
-  unfolding endWithout
-  without-more h q =
-      let f : i - a ≡ suc (i - 1 - a) = omega arith in
-      let g : a + (i - 1 - a) ≡ i - 1 = omega arith in
-      p ∙ rw (f, g, eq-eqb _ _ q)
+  pub without-more : a < i → byteAt s (i - 1) ≡ b → w ≡ endWithout b s a (i - 1)
+  without-more h q = last-end-more (λ k. not (eqb (byteAt s k) b)) a i a p h (ap not (eq-eqb _ _ q))
 
 pub ruleset without-laws = (without-out, without-stop, without-more)
 
@@ -75,18 +67,18 @@ module _ (b : ℕ) (s : List ℕ) (a e : ℕ) {r : ℕ} where
   pub skip-le : r ≡ firstOther b s a e → a ≤ e → r ≤ e
   skip-le p h = omega (arith, first-by (λ i. not (eqb (byteAt s i) b)) (e - a) a)
 
-  pub without-ge : r ≡ endWithout b s a (e - a) → a ≤ r
-  without-ge p = omega (arith, without-from b s a (e - a))
+  pub without-ge : r ≡ endWithout b s a e → a ≤ r
+  without-ge p = omega (arith, last-end-from (λ k. not (eqb (byteAt s k) b)) (e - a) a a (omega arith))
 
-  pub without-le : r ≡ endWithout b s a (e - a) → a ≤ e → r ≤ e
-  without-le p h = omega (arith, without-by b s a (e - a))
+  pub without-le : r ≡ endWithout b s a e → a ≤ e → r ≤ e
+  without-le p h = omega (arith, last-end-by (λ k. not (eqb (byteAt s k) b)) (e - a) a a (omega arith))
 
 -- stripped of the bytes `x`, then of the bytes `y`
-module _ (s : List ℕ) (a e : ℕ) (l : a ≤ e) (h : e ≤ length s) (x : ℕ) {b f : ℕ} (p : b ≡ firstOther x s a e) (q : f ≡ endWithout x s b (e - b)) where
+module _ (s : List ℕ) (a e : ℕ) (l : a ≤ e) (h : e ≤ length s) (x : ℕ) {b f : ℕ} (p : b ≡ firstOther x s a e) (q : f ≡ endWithout x s b e) where
   pub strip-mid : f ≤ length s
   strip-mid = omega (arith, skip-le x s a e p l, without-le x s b e q (skip-le x s a e p l))
 
-  module _ (y : ℕ) {c g : ℕ} (u : c ≡ firstOther y s b f) (v : g ≡ endWithout y s c (f - c)) where
+  module _ (y : ℕ) {c g : ℕ} (u : c ≡ firstOther y s b f) (v : g ≡ endWithout y s c f) where
     pub strip-within : c + (g - c) ≤ length s
     strip-within =
         let k = without-ge x s b e q in
@@ -101,7 +93,7 @@ module _ (s : List ℕ) (a e : ℕ) (l : a ≤ e) (h : e ≤ length s) (x : ℕ)
         ∙ ap (stripped y) (stripped-shift s a e l h x p q)
 
 module _ (s : List ℕ) (a e : ℕ) (l : a ≤ e) (h : e ≤ length s) where
-  pub bare-is : {b f c g : ℕ} → b ≡ firstOther 34 s a e → f ≡ endWithout 34 s b (e - b) → c ≡ firstOther 39 s b f → g ≡ endWithout 39 s c (f - c)
+  pub bare-is : {b f c g : ℕ} → b ≡ firstOther 34 s a e → f ≡ endWithout 34 s b e → c ≡ firstOther 39 s b f → g ≡ endWithout 39 s c f
       → bytesOf s (span c (g - c)) ≡ bare (part s a e)
   unfolding bare
   bare-is p q u v = strip-is s a e l h 34 p q 39 u v

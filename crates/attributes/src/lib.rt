@@ -35,7 +35,7 @@ fn word_end(attributes: &[u8], from: usize) -> usize
 // Where the stretch from `a` to `e` ends without the bytes `b` at its end.
 fn end_without(s: &[u8], b: u8, a: usize, e: usize) -> usize
     requires { ⌜ e ≤ length (now s) ⌝ }
-    ensures { λ r. ⌜ r ≡ endWithout b (now (s .entry)) a (e - a) ⌝ }
+    ensures { λ r. ⌜ r ≡ endWithout b (now (s .entry)) a e ⌝ }
 {
     let mut i = e;
     while a < i {

@@ -1,11 +1,15 @@
--- Where a linear search from the end ends.
+-- Linear searches from the end: where they end, cut in two, at other places, and at a place of a loop.
 use Prim.Native.Nat.{ℕ, zero, suc, _+_, _-_, _≤_, _<_}
 use native.Mathlib.Omega.{arith}
 use native.Mathlib.Numerals.{add-one}
 use mathlib.Core.Path.{_≡_, refl, sym, _∙_, ap}
-use mathlib.Core.Bool.{Bool, true, false}
+use mathlib.Core.Bool.{Bool, true, false, true≢false}
+use lib.Dec.{ltb}
+use borrow.Author.Tests.{lt-ltb, le-ltb}
 use Rattle.base.specs.Pick.{pick}
-use Rattle.base.specs.Last.{last}
+use Rattle.base.specs.Last.{last, lastEnd}
+
+-- for a place --------------------------------------------------------------------------------------------------------------------
 
 -- the same search by a loop that goes up: the `m` places from `i` on, `d` being the last one before them
 unfoldable pub lastFrom : (ℕ → Bool) → ℕ → ℕ → ℕ → ℕ
@@ -83,3 +87,95 @@ last-holds f (suc n) d h l = go (f n) refl l (λ k. last-holds f n d (omega arit
     go : (t : Bool) → f n ≡ t → pick t n (last f n d) < d → (last f n d < d → f (last f n d) ≡ true) → f (pick t n (last f n d)) ≡ true
     go true q k rec = q
     go false q k rec = rec k
+
+-- for where the place ends ---------------------------------------------------------------------------------------------------------
+
+pub last-end-from : (f : ℕ → Bool) (n i d : ℕ) → d ≤ i → d ≤ lastEnd f n i d
+unfolding lastEnd
+last-end-from f zero i d h = omega arith
+last-end-from f (suc n) i d h = go (f (i + n)) (last-end-from f n i d h)
+  where
+    go : (t : Bool) → d ≤ lastEnd f n i d → d ≤ pick t (suc (i + n)) (lastEnd f n i d)
+    go true l = omega arith
+    go false l = l
+
+pub last-end-by : (f : ℕ → Bool) (n i d : ℕ) → d ≤ i → lastEnd f n i d ≤ i + n
+unfolding lastEnd
+last-end-by f zero i d h = omega arith
+last-end-by f (suc n) i d h = go (f (i + n)) (last-end-by f n i d h)
+  where
+    go : (t : Bool) → lastEnd f n i d ≤ i + n → pick t (suc (i + n)) (lastEnd f n i d) ≤ i + suc n
+    go true l = omega arith
+    go false l = omega arith
+
+-- it lies behind every place where the test holds
+pub last-end-behind : (f : ℕ → Bool) (n i d v : ℕ) → i ≤ v → v < i + n → f v ≡ true → v < lastEnd f n i d
+unfolding lastEnd
+last-end-behind f zero i d v h k t = absurd (omega arith)
+last-end-behind f (suc n) i d v h k t = go (f (i + n)) refl (λ l. last-end-behind f n i d v h l t)
+  where
+    go : (b : Bool) → f (i + n) ≡ b → (v < i + n → v < lastEnd f n i d) → v < pick b (suc (i + n)) (lastEnd f n i d)
+    go true q rec = omega arith
+    go false q rec =
+        let ne : v ≡ i + n → ⊥ = λ e. true≢false (sym t ∙ ap f e ∙ q) in
+        rec (omega arith)
+
+-- whatever stands for nothing found
+pub last-end-or : (f : ℕ → Bool) (n i d : ℕ) → lastEnd f n i d ≡ pick (ltb i (lastEnd f n i i)) (lastEnd f n i i) d
+unfolding lastEnd
+last-end-or f zero i d = rw (le-ltb i i (omega arith))
+last-end-or f (suc n) i d = go (f (i + n)) (last-end-or f n i d)
+  where
+    go : (t : Bool) → lastEnd f n i d ≡ pick (ltb i (lastEnd f n i i)) (lastEnd f n i i) d
+        → pick t (suc (i + n)) (lastEnd f n i d) ≡ pick (ltb i (pick t (suc (i + n)) (lastEnd f n i i))) (pick t (suc (i + n)) (lastEnd f n i i)) d
+    go true h = rw (lt-ltb i (suc (i + n)) (omega arith))
+    go false h = h
+
+pub last-end-some : (f : ℕ → Bool) (n i d : ℕ) → i < lastEnd f n i i → lastEnd f n i d ≡ lastEnd f n i i
+last-end-some f n i d h = last-end-or f n i d ∙ rw (lt-ltb _ _ h)
+
+pub last-end-none : (f : ℕ → Bool) (n i d : ℕ) → lastEnd f n i i ≤ i → lastEnd f n i d ≡ d
+last-end-none f n i d h = last-end-or f n i d ∙ rw (le-ltb _ _ h)
+
+-- cut in two: what the first part finds stands for nothing found in the second
+pub last-end-cut : (f : ℕ → Bool) (n m i d : ℕ) → lastEnd f (n + m) i d ≡ lastEnd f m (i + n) (lastEnd f n i d)
+unfolding lastEnd
+last-end-cut f n zero i d = let z : n + 0 ≡ n = omega arith in rw z
+last-end-cut f n (suc m) i d =
+    let z : n + suc m ≡ suc (n + m) = omega arith in
+    let y : i + (n + m) ≡ i + n + m = omega arith in
+    rw (z, y, last-end-cut f n m i d)
+
+-- a test that holds at `x` exactly where another does at `x + k`
+pub last-end-shift : (f g : ℕ → Bool) (k n i d : ℕ) → ((x : ℕ) → x < i + n → f x ≡ g (x + k)) → lastEnd f n i d + k ≡ lastEnd g n (i + k) (d + k)
+unfolding lastEnd
+last-end-shift f g k zero i d h = refl
+last-end-shift f g k (suc n) i d h = rw (y, h (i + n) (omega arith)) (go (g (i + n + k)) (last-end-shift f g k n i d (λ x l. h x (omega arith))))
+  where
+    y : i + k + n ≡ i + n + k
+    y = omega arith
+
+    go : (t : Bool) → lastEnd f n i d + k ≡ lastEnd g n (i + k) (d + k)
+        → pick t (suc (i + n)) (lastEnd f n i d) + k ≡ pick t (suc (i + n + k)) (lastEnd g n (i + k) (d + k))
+    go true r = omega arith
+    go false r = r
+
+-- at a place, in the form of the needs: `w` is what the loop's invariant speaks of, and the places from `i` on were passed
+module _ (f : ℕ → Bool) (a i d : ℕ) {w : ℕ} (p : w ≡ lastEnd f (i - a) a d) where
+  pub last-end-out : i ≤ a → d ≡ w
+  unfolding lastEnd
+  last-end-out h = let z : i - a ≡ 0 = omega arith in sym (p ∙ rw z)
+
+  last-end-is : a < i → lastEnd f (i - a) a d ≡ pick (f (i - 1)) i (lastEnd f (i - 1 - a) a d)
+  unfolding lastEnd
+  last-end-is h =
+      let n : i - a ≡ suc (i - 1 - a) = omega arith in
+      let m : a + (i - 1 - a) ≡ i - 1 = omega arith in
+      let l : suc (i - 1) ≡ i = omega arith in
+      rw (n, m, l)
+
+  pub last-end-stop : a < i → f (i - 1) ≡ true → i ≡ w
+  last-end-stop h t = sym (p ∙ last-end-is h ∙ rw t)
+
+  pub last-end-more : a < i → f (i - 1) ≡ false → w ≡ lastEnd f (i - 1 - a) a d
+  last-end-more h t = p ∙ last-end-is h ∙ rw t

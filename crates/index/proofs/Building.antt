@@ -4,12 +4,11 @@ use native.Mathlib.Omega.{arith}
 use mathlib.Core.Path.{_≡_, refl, sym, _∙_, ap, ap₂, subst}
 use mathlib.Core.List.{List, _++_}
 use mathlib.Core.Logic.{inl, inr, ⊎-elim}
-use mathlib.Core.Bool.{Bool, true, false, _&&_, not}
+use mathlib.Core.Bool.{true, _&&_, not}
 use lib.ListN.{length, getD, drop, replicate, length-set, length-replicate, getD-replicate, List·getD-append}
 use lib.Seq.{getD-set-same, getD-set-other, getD-append-add, getD-drop, ext-getD}
 use lib.Dec.{eqb, ltb}
 use borrow.Author.Tests.{eqb-true, eqb-false, ltb-true, ltb-false}
-use Rattle.base.specs.Pick.{pick}
 use Rattle.base.specs.Lists.{byteAt, written}
 use Rattle.base.proofs.Bools.{and-right, split}
 use Rattle.base.proofs.Areas.{written-length}
@@ -18,8 +17,9 @@ use Rattle.index.specs.declared.Bracket.{Bracket}
 use Rattle.index.specs.declared.Scan.{Scan}
 use Rattle.index.specs.Entries.{indexAt, indexOf}
 use Rattle.index.specs.Built.{blank, builtIndex, builtRecords, Both, built}
-use Rattle.index.specs.Scan.{firstReads, start, closes, nextScan, scanPlan, stepIndex, stepRecords}
+use Rattle.index.specs.Scan.{firstReads, start, closes, scanPlan, stepIndex, stepRecords}
 use Rattle.index.specs.Passing.{isOrdinary, ordinaryEnd, passing, skipped, turnOf, turnAt, unread, Fine, filled}
+use Rattle.index.proofs.Laws.{plan-cases, plan-at, plan-slot}
 use Rattle.index.proofs.Reading.{readsAt}
 use Rattle.index.proofs.Marks.{badAt, bad-by}
 use Rattle.index.proofs.Stack.{Stack, stack-end}
@@ -78,10 +78,11 @@ passing-at (suc n) s c = ap (λ (k : ℕ). k + 1) (passing-at n s c) ∙ (let e 
 
 -- a turn goes on
 pub turn-far : (s : List ℕ) (c : Scan) (records : List Bracket) → c .at < turnAt s c records .next .at
-unfolding turnAt turnOf skipped scanPlan nextScan
+unfolding turnAt turnOf skipped
 turn-far s c records =
-    let n = scanPlan s c (getD records (c .depth - 1) blank) .next in
-    omega (arith, passing-at (ordinaryEnd s (n .at) - n .at) s n)
+    let outer = getD records (c .depth - 1) blank in
+    let n = scanPlan s c outer .next in
+    omega (arith, plan-at s c outer, passing-at (ordinaryEnd s (n .at) - n .at) s n)
 
 -- turns -----------------------------------------------------------------------------------------------------------------------------
 
@@ -131,20 +132,22 @@ module _ (s index₀ : List ℕ) (records₀ : List Bracket) (fi : length s ≤ 
     read-in h = let l = w .recorded .long in let d = w .deep in omega arith
 
     pub slot-in : c .at < length s → turnAt s c records .slot < length records
-    unfolding turnAt turnOf scanPlan
-    slot-in h = let l = w .recorded .long in let d = w .deep in omega arith
+    unfolding turnAt turnOf
+    slot-in h =
+        let l = w .recorded .long in
+        let d = w .deep in
+        omega (arith, plan-slot s c (getD records (c .depth - 1) blank))
 
     pub place-in : c .at < length s → turnAt s c records .place < length s
-    unfolding turnAt turnOf scanPlan closes
-    place-in h = go (closes s c) refl
+    unfolding turnAt turnOf closes
+    place-in h = plan-cases s c (getD records (c .depth - 1) blank) (λ p. p .place < length s) (λ o. h) (λ o x. closed x) (λ o x t. h) (λ o x t. h)
       where
         inner : (d : ℕ) → 0 < d → Stack s (c .at) d records (c .inner) → c .inner .place < length s
         inner zero l t = absurd (omega arith)
         inner (suc d) l t = let b = t .0 .before in omega arith
 
-        go : (t : Bool) → closes s c ≡ t → pick t (c .inner .place) (c .at) < length s
-        go true q = inner (c .depth) (ltb-true 0 (c .depth) (and-right (eqb (byteAt s (c .at)) 93 && not (c .reads .esc)) _ q)) (w .stack)
-        go false q = h
+        closed : closes s c ≡ true → c .inner .place < length s
+        closed q = inner (c .depth) (ltb-true 0 (c .depth) (and-right (eqb (byteAt s (c .at)) 93 && not (c .reads .esc)) _ q)) (w .stack)
 
     -- at the text's end a bracket that is still open has no close
     pub build-end : length s ≤ c .at → _≡_ {A = Both} (index, filled blank (length s) records) (built s index₀ records₀)
@@ -156,16 +159,14 @@ module _ (s index₀ : List ℕ) (records₀ : List Bracket) (fi : length s ≤ 
         right p (inr x) =
             x .1 ∙ sym (entry-open s p (stack-end s (c .at) (c .depth) records (c .inner) (sym (ended s (c .at) (length s) _ refl h)) (w .stack) p (x .0)))
 
-        li : length (indexOf s) ≡ length s
-        li = length-index s
-
         lr : length (replicate (length s) blank) ≡ length s
         lr = length-replicate (length s) blank
 
         first : index ≡ written (indexOf s) index₀
         first =
-            written-is 0 (indexOf s) index₀ index (omega (arith, li)) (rw li (w .indexed))
-            (λ p l. let k : p < length s = omega (arith, li) in right p (w .settled p (omega arith)) ∙ sym (at-index s p k))
+            let li = length-index s in
+            written-is 0 (indexOf s) index₀ index (omega arith) (rw li (w .indexed))
+            (λ p l. let k : p < length s = omega arith in right p (w .settled p (omega arith)) ∙ sym (at-index s p k))
 
         second : filled blank (length s) records ≡ written (replicate (length s) blank) records₀
         second =

@@ -1,7 +1,7 @@
 -- Laws on a turn of the scan, in the form of the code's needs.
 use Prim.Native.Nat.{ℕ, _+_, _-_, _≤_, _<_, max}
 use native.Mathlib.Omega.{arith}
-use mathlib.Core.Path.{_≡_, _∙_}
+use mathlib.Core.Path.{_≡_, refl, _∙_}
 use mathlib.Core.List.{List}
 use lib.ListN.{length}
 use mathlib.Core.Bool.{Bool, true, false, _&&_, not, and-false}
@@ -19,7 +19,7 @@ use Rattle.index.specs.declared.Bracket.{Bracket}
 use Rattle.index.specs.declared.Reads.{Reads}
 use Rattle.index.specs.declared.Scan.{Scan}
 use Rattle.index.specs.declared.Plan.{Plan}
-use Rattle.index.specs.Scan.{reach, parted, around, counted, allGoodIn, keyHere, latest, readOn, opens, closes, parts, nextInner, nextScan, scanPlan, nextWith, planWith, openPlan, closePlan, partPlan, passPlan}
+use Rattle.index.specs.Scan.{reach, parted, around, counted, allGoodIn, keyHere, latest, readOn, opens, closes, parts, scanPlan, nextWith, planWith, openPlan, closePlan, partPlan, passPlan}
 
 -- the bracket records
 module _ (b : Bracket) (r n : ℕ) where
@@ -105,33 +105,58 @@ module _ (c : Scan) (w : Reads) where
       → b ≡ parted (c .inner) r k → n ≡ nextWith c (c .depth) b k w → p ≡ planWith c n (c .at) 0 → p ≡ partPlan c w
   plan-parted er ek eb en ep = rw (ep, en, eb, ek, er)
 
+-- what holds of each of them, in its case, holds of the turn
+module _ (s : List ℕ) (c : Scan) (outer : Bracket) where
+  module _ (P : Plan → Type 0) where
+    abbrev w : Reads
+    w = readOn s (c .at) (c .reads)
+
+    pub plan-cases : (opens s c ≡ true → P (openPlan c w)) → (opens s c ≡ false → closes s c ≡ true → P (closePlan c outer w))
+        → (opens s c ≡ false → closes s c ≡ false → parts s c ≡ true → P (partPlan c w))
+        → (opens s c ≡ false → closes s c ≡ false → parts s c ≡ false → P (passPlan c w)) → P (scanPlan s c outer)
+    unfolding scanPlan
+    plan-cases f g h k = go (opens s c) (closes s c) (parts s c) refl refl refl
+      where
+        go : (o x t : Bool) → opens s c ≡ o → closes s c ≡ x → parts s c ≡ t
+            → P (pick o (openPlan c w) (pick x (closePlan c outer w) (pick t (partPlan c w) (passPlan c w))))
+        go true x t p q r = f p
+        go false true t p q r = g p q
+        go false false true p q r = h p q r
+        go false false false p q r = k p q r
+
+  pub plan-at : scanPlan s c outer .next .at ≡ c .at + 1
+  plan-at = plan-cases (λ p. p .next .at ≡ c .at + 1) (λ o. refl) (λ o x. refl) (λ o x t. refl) (λ o x t. refl)
+
+  pub plan-slot : scanPlan s c outer .slot ≡ c .depth
+  plan-slot = plan-cases (λ p. p .slot ≡ c .depth) (λ o. refl) (λ o x. refl) (λ o x t. refl) (λ o x t. refl)
+
 -- which of them it is
 module _ (s : List ℕ) (c : Scan) (outer : Bracket) {w : Reads} (e : w ≡ readOn s (c .at) (c .reads)) where
   pub plan-at-part : {p : Plan} → byteAt s (c .at) ≡ 59 → p ≡ partPlan c w → p ≡ scanPlan s c outer
-  unfolding scanPlan nextScan nextInner opens closes parts
+  unfolding scanPlan opens closes parts
   plan-at-part h q = q ∙ rw (e, h)
 
   pub plan-at-escaped : {p : Plan} → (byteAt s (c .at) ≡ 59 → ⊥) → c .reads .esc ≡ true → p ≡ passPlan c w → p ≡ scanPlan s c outer
-  unfolding scanPlan nextScan nextInner opens closes parts
+  unfolding scanPlan opens closes parts
   plan-at-escaped h f q = q ∙ rw (e, ne-eqb _ _ h, f, and-false (eqb (byteAt s (c .at)) 91), and-false (eqb (byteAt s (c .at)) 93))
 
   pub plan-at-open : {p : Plan} → c .reads .esc ≡ false → byteAt s (c .at) ≡ 91 → p ≡ openPlan c w → p ≡ scanPlan s c outer
-  unfolding scanPlan nextScan nextInner opens closes parts
+  unfolding scanPlan opens closes parts
   plan-at-open f h q = q ∙ rw (e, h, f)
 
   pub plan-at-close : {p : Plan} → c .reads .esc ≡ false → byteAt s (c .at) ≡ 93 → 0 < c .depth → p ≡ closePlan c outer w
       → p ≡ scanPlan s c outer
-  unfolding scanPlan nextScan nextInner opens closes parts
+  unfolding scanPlan opens closes parts
   plan-at-close f h d q = q ∙ rw (e, h, f, lt-ltb _ _ d)
 
   pub plan-at-lone : {p : Plan} → c .reads .esc ≡ false → byteAt s (c .at) ≡ 93 → c .depth ≤ 0 → p ≡ passPlan c w
       → p ≡ scanPlan s c outer
-  unfolding scanPlan nextScan nextInner opens closes parts
+  unfolding scanPlan opens closes parts
   plan-at-lone f h d q = q ∙ rw (e, h, f, le-ltb _ _ d)
 
   pub plan-at-other : {p : Plan} → (byteAt s (c .at) ≡ 59 → ⊥) → (byteAt s (c .at) ≡ 91 → ⊥) → (byteAt s (c .at) ≡ 93 → ⊥) → p ≡ passPlan c w
       → p ≡ scanPlan s c outer
-  unfolding scanPlan nextScan nextInner opens closes parts
+  unfolding scanPlan opens closes parts
   plan-at-other h k l q = q ∙ rw (e, ne-eqb _ _ h, ne-eqb _ _ k, ne-eqb _ _ l)
 
 pub ruleset laws = (

@@ -5,20 +5,24 @@ use mathlib.Core.Path.{_≡_, refl, sym, _∙_, ap}
 use mathlib.Core.List.{List}
 use mathlib.Core.Bool.{Bool, true, false, not, true≢false}
 use lib.ListN.{length, set}
-use lib.Dec.{eqb, ltb}
-use borrow.Author.Tests.{ne-eqb, lt-ltb, le-ltb, ltb-true}
+use lib.Dec.{eqb}
+use borrow.Author.Tests.{ne-eqb, ltb-true, not-false}
 use Rattle.base.specs.Pick.{pick}
+use Rattle.base.specs.Last.{lastEnd}
 use Rattle.base.specs.Lists.{byteAt}
-use Rattle.base.proofs.Searches.{first-out, first-stop, first-more, first-from, first-by, first-before}
+use Rattle.base.proofs.Picks.{pick-not}
+use Rattle.base.proofs.Lasts.{last-end-stop, last-end-some, last-end-none}
+use Rattle.base.proofs.Searches.{first-out, first-stop, first-more, first-from, first-by, first-fails}
 use Rattle.white.specs.White.{isInk, isWhite}
-use Rattle.text.specs.Trim.{contentEnd, trimEnd}
+use Rattle.text.specs.Trim.{trimEnd}
 use Rattle.text.proofs.Trims.{end-by}
 use Rattle.white.proofs.Whites.{ink-plain}
 use Rattle.index.specs.declared.Bracket.{Bracket}
 use Rattle.index.specs.declared.Reads.{Reads}
 use Rattle.index.specs.declared.Scan.{Scan}
 use Rattle.index.specs.declared.Plan.{Plan}
-use Rattle.index.specs.Scan.{keyHere, latest, readOn, nextScan, scanPlan}
+use Rattle.index.specs.Scan.{keyHere, latest, readOn, scanPlan}
+use Rattle.index.proofs.Laws.{plan-at}
 use Rattle.index.specs.Passing.{isOrdinary, ordinaryEnd, contentIn, passing, skipped, turnOf, unread, Fine, filled}
 
 -- bytes -----------------------------------------------------------------------------------------------------------------------------
@@ -34,19 +38,6 @@ read-past s i r h = rw (ne-eqb _ 59 (ordinary-ne 59 refl h), ne-eqb _ 64 (ordina
 
 -- content ---------------------------------------------------------------------------------------------------------------------------
 
-content-trim : (s : List ℕ) (a n k : ℕ) → contentIn s a n k ≡ pick (ltb a (contentEnd s a n)) (contentEnd s a n) k
-unfolding contentIn contentEnd
-content-trim s a zero k = rw (le-ltb a a (omega arith))
-content-trim s a (suc n) k = go (isWhite s (a + n)) (content-trim s a n k)
-  where
-    next : a + n + 1 ≡ suc (a + n)
-    next = omega arith
-
-    go : (t : Bool) → contentIn s a n k ≡ pick (ltb a (contentEnd s a n)) (contentEnd s a n) k
-        → pick t (contentIn s a n k) (a + n + 1) ≡ pick (ltb a (pick t (contentEnd s a n) (suc (a + n)))) (pick t (contentEnd s a n) (suc (a + n))) k
-    go true h = h
-    go false h = next ∙ rw (lt-ltb a (suc (a + n)) (omega arith))
-
 pub content-here : (s : List ℕ) (i k : ℕ) {b : Bool} → b ≡ isInk (byteAt s i) → b ≡ true → i + 1 ≡ pick (isWhite s i) k (i + 1)
 content-here s i k p t = rw (ink-plain s i (sym p ∙ t))
 
@@ -55,20 +46,15 @@ end-fits s a e p h l m = omega (arith, end-by s a e)
 
 module _ (s : List ℕ) (a e : ℕ) (k : ℕ) where
   pub content-ink : {b : Bool} → a < e → b ≡ isInk (byteAt s (e - 1)) → b ≡ true → e ≡ contentIn s a (e - a) k
-  unfolding contentIn
-  content-ink h p t =
-      let n : e - a ≡ suc (e - 1 - a) = omega arith in
-      let m : a + (e - 1 - a) ≡ e - 1 = omega arith in
-      let l : e - 1 + 1 ≡ e = omega arith in
-      rw (n, m, ink-plain s (e - 1) (sym p ∙ t)) (sym l)
+  content-ink h p t = last-end-stop (λ i. not (isWhite s i)) a e k refl h (ap not (ink-plain s (e - 1) (sym p ∙ t)))
 
   pub content-some : {x : ℕ} → x ≡ trimEnd s a e → a < x → x ≡ contentIn s a (e - a) k
   unfolding trimEnd
-  content-some p h = sym (content-trim s a (e - a) k ∙ rw (← p, lt-ltb _ _ h))
+  content-some p h = p ∙ sym (last-end-some (λ i. not (isWhite s i)) (e - a) a k (rw p at h))
 
   pub content-none : {x : ℕ} → x ≡ trimEnd s a e → x ≤ a → k ≡ contentIn s a (e - a) k
   unfolding trimEnd
-  content-none p h = sym (content-trim s a (e - a) k ∙ rw (← p, le-ltb _ _ h))
+  content-none p h = sym (last-end-none (λ i. not (isWhite s i)) (e - a) a k (rw p at h))
 
 -- the search ------------------------------------------------------------------------------------------------------------------------
 
@@ -96,11 +82,7 @@ ordinary-by s i p h = let l = first-by (λ j. not (isOrdinary (byteAt s j))) (le
 -- all bytes before it are ordinary
 pub ordinary-before : (s : List ℕ) (i v : ℕ) → i ≤ v → v < ordinaryEnd s i → isOrdinary (byteAt s v) ≡ true
 unfolding ordinaryEnd
-ordinary-before s i v l h = go (isOrdinary (byteAt s v)) refl
-  where
-    go : (t : Bool) → isOrdinary (byteAt s v) ≡ t → t ≡ true
-    go true q = refl
-    go false q = let b = first-before (λ j. not (isOrdinary (byteAt s j))) (length s - i) i v l (ap not q) in absurd (omega arith)
+ordinary-before s i v l h = not-false _ (first-fails (λ j. not (isOrdinary (byteAt s j))) (length s - i) i v l h)
 
 -- the state after them --------------------------------------------------------------------------------------------------------------
 
@@ -118,11 +100,12 @@ module _ (s : List ℕ) (c : Scan) where
   }
 
   passing-is : (n : ℕ) → ((v : ℕ) → c .at ≤ v → v < c .at + n → isOrdinary (byteAt s v) ≡ true) → passing n s c ≡ carried n
-  unfolding passing contentIn
+  unfolding passing lastEnd
   passing-is zero h = let z : c .at + 0 ≡ c .at = omega arith in rw z
   passing-is (suc n) h =
-      let e : c .at + n + 1 ≡ c .at + suc n = omega arith in
-      rw (passing-is n (λ v l k. h v l (omega arith)), read-past s (c .at + n) (carried n .reads) (h (c .at + n) (omega arith) (omega arith)), ne-eqb (suc n) 0 (omega arith), e)
+      let e : c .at + n + 1 ≡ suc (c .at + n) = omega arith in
+      let f : c .at + suc n ≡ suc (c .at + n) = omega arith in
+      rw (passing-is n (λ v l k. h v l (omega arith)), read-past s (c .at + n) (carried n .reads) (h (c .at + n) (omega arith) (omega arith)), ne-eqb (suc n) 0 (omega arith), e, f, pick-not (isWhite s (c .at + n)))
 
   pub skip-none : {e : ℕ} → e ≡ ordinaryEnd s (c .at) → e ≤ c .at → c ≡ skipped s c
   unfolding skipped passing
@@ -150,8 +133,7 @@ unfolding unread
 turn-here s c f = ltb-true _ _ (f .goes)
 
 pub turn-by : (s : List ℕ) (c : Scan) (outer : Bracket) {p : Plan} → p ≡ scanPlan s c outer → c .at < length s → p .next .at ≤ length s
-unfolding scanPlan nextScan
-turn-by s c outer e h = rw e (omega arith)
+turn-by s c outer e h = rw e (omega (arith, plan-at s c outer))
 
 pub turn-is : (s : List ℕ) (c : Scan) (outer : Bracket) {p : Plan} {n : Scan} → p ≡ scanPlan s c outer → n ≡ skipped s (p .next)
     → record { next = n; slot = p .slot; top = p .top; place = p .place; mark = p .mark } ≡ turnOf s c outer

@@ -1,6 +1,6 @@
 -- A build as the code does it: it clears the index, takes the turns of the scan, and clears the records. A turn is that of one byte, and goes
 -- on over the ordinary bytes after it, which change nothing but what was read.
-use Prim.Native.Nat.{ℕ, zero, suc, _+_, _-_, _≤_}
+use Prim.Native.Nat.{ℕ, zero, suc, _-_, _≤_}
 use mathlib.Core.List.{List}
 use mathlib.Core.Bool.{Bool, true, _&&_, _||_, not}
 use mathlib.Core.Path.{_≡_}
@@ -9,6 +9,7 @@ use lib.Dec.{eqb, ltb}
 use Rattle.base.specs.Pick.{pick}
 use Rattle.base.specs.Lists.{byteAt}
 use Rattle.base.specs.First.{first}
+use Rattle.base.specs.Last.{lastEnd}
 use Rattle.white.specs.White.{isWhite}
 use Rattle.index.specs.declared.Bracket.{Bracket}
 use Rattle.index.specs.declared.Scan.{Scan}
@@ -25,9 +26,8 @@ unfoldable pub ordinaryEnd : List ℕ → ℕ → ℕ
 ordinaryEnd s i = first (λ j. not (isOrdinary (byteAt s j))) (length s - i) i
 
 -- where the content ends after the `n` bytes from `a` on; it ended at `content` before them
-unfoldable pub contentIn : List ℕ → ℕ → ℕ → ℕ → ℕ
-contentIn s a zero content = content
-contentIn s a (suc n) content = pick (isWhite s (a + n)) (contentIn s a n content) (a + n + 1)
+abbrev pub contentIn : List ℕ → ℕ → ℕ → ℕ → ℕ
+contentIn s a n content = lastEnd (λ i. not (isWhite s i)) n a content
 
 -- the state after an ordinary byte
 abbrev pub passed : List ℕ → Scan → Scan

@@ -4,14 +4,15 @@ use mathlib.Core.List.{[], _∷_}
 use mathlib.Core.Bool.{true, false}
 use Rattle.base.specs.Ascii.{ascii}
 use Rattle.base.specs.First.{first}
+use Rattle.base.specs.Last.{lastEnd}
 use Rattle.base.specs.Spans.{span, missing, spanOf}
 use Rattle.text.specs.Escape.{escapedAt, slashes}
 use Rattle.white.specs.White.{spaceWidth, isWhite}
-use Rattle.text.specs.Trim.{trimStart, trimEnd, contentEnd}
-use Rattle.key.specs.Keys.{isFirst, isMark, isKey, keyRun, runEnd, keyEnd}
+use Rattle.text.specs.Trim.{trimStart, trimEnd}
+use Rattle.key.specs.Keys.{isFirst, isMark, isKey, runEnd, keyEnd}
 use Rattle.locator.specs.declared.Locator.the-variants.{Nothing, Plain, Labelled}
 use Rattle.locator.specs.Matchers.{matchers}
-use Rattle.locator.specs.Locators.{locatorOf, locatorFrom, labelled, valued, valueEnd, strip, isLoose, valueRun, isValue, labelOf, orPage, matchIn, stands, mayFollow, fits, lower, skipBlanks}
+use Rattle.locator.specs.Locators.{locatorOf, locatorFrom, labelled, valued, valueEnd, isLoose, valueRun, isValue, labelOf, orPage, matchIn, stands, mayFollow, fits, lower, skipBlanks}
 use Rattle.item.specs.declared.Parsed.the-variants.{Good, Bad}
 use Rattle.item.specs.declared.Judged.the-variants.{Good as AllGood, Bad as FirstBad}
 use Rattle.item.specs.Items.{itemOf, itemIn, itemAt, locatorStart, prefixEnd, suppresses, winner, wins, keyServes, atSign}
@@ -22,42 +23,42 @@ use Rattle.item.specs.Judge.{judgedOf, judgedIn, firstBad}
 page-three : itemOf (ascii "[x -@a, p. 3]") 1 12
     ≡ Good (record { prefix = span 1 1; key = span 5 1; whole = span 8 4; locator = Labelled 9 (span 11 1) missing; suppressed = true })
 unfolding itemOf itemIn itemAt locatorStart prefixEnd suppresses winner wins keyServes atSign
-    locatorOf locatorFrom labelled valued valueEnd strip isLoose valueRun isValue labelOf orPage matchIn stands mayFollow
-    fits lower skipBlanks matchers isFirst isMark isKey keyRun runEnd keyEnd
-    spaceWidth isWhite trimStart trimEnd contentEnd escapedAt slashes first spanOf ascii
+    locatorOf locatorFrom labelled valued valueEnd isLoose valueRun isValue labelOf orPage matchIn stands mayFollow
+    fits lower skipBlanks matchers isFirst isMark isKey runEnd keyEnd
+    spaceWidth isWhite trimStart trimEnd escapedAt slashes first lastEnd spanOf ascii
 page-three = refl
 
 -- "`[@a,]` has no locator."
 comma : itemOf (ascii "[@a,]") 1 4
     ≡ Good (record { prefix = missing; key = span 2 1; whole = missing; locator = Nothing; suppressed = false })
 unfolding itemOf itemIn itemAt locatorStart prefixEnd suppresses winner wins keyServes atSign
-    locatorOf locatorFrom labelled valued valueEnd strip isLoose valueRun isValue labelOf orPage matchIn stands mayFollow
-    fits lower skipBlanks matchers isFirst isMark isKey keyRun runEnd keyEnd
-    spaceWidth isWhite trimStart trimEnd contentEnd escapedAt slashes first spanOf ascii
+    locatorOf locatorFrom labelled valued valueEnd isLoose valueRun isValue labelOf orPage matchIn stands mayFollow
+    fits lower skipBlanks matchers isFirst isMark isKey runEnd keyEnd
+    spaceWidth isWhite trimStart trimEnd escapedAt slashes first lastEnd spanOf ascii
 comma = refl
 
 alone : itemOf (ascii "[ @a ]") 1 5
     ≡ Good (record { prefix = missing; key = span 3 1; whole = missing; locator = Nothing; suppressed = false })
 unfolding itemOf itemIn itemAt locatorStart prefixEnd suppresses winner wins keyServes atSign
-    locatorOf locatorFrom labelled valued valueEnd strip isLoose valueRun isValue labelOf orPage matchIn stands mayFollow
-    fits lower skipBlanks matchers isFirst isMark isKey keyRun runEnd keyEnd
-    spaceWidth isWhite trimStart trimEnd contentEnd escapedAt slashes first spanOf ascii
+    locatorOf locatorFrom labelled valued valueEnd isLoose valueRun isValue labelOf orPage matchIn stands mayFollow
+    fits lower skipBlanks matchers isFirst isMark isKey runEnd keyEnd
+    spaceWidth isWhite trimStart trimEnd escapedAt slashes first lastEnd spanOf ascii
 alone = refl
 
 -- "The first .. wins": `[@a, @b]` has the key `a`
 first-wins : itemOf (ascii "[@a, @b]") 1 7
     ≡ Good (record { prefix = missing; key = span 2 1; whole = span 5 2; locator = Plain (span 5 2); suppressed = false })
 unfolding itemOf itemIn itemAt locatorStart prefixEnd suppresses winner wins keyServes atSign
-    locatorOf locatorFrom labelled valued valueEnd strip isLoose valueRun isValue labelOf orPage matchIn stands mayFollow
-    fits lower skipBlanks matchers isFirst isMark isKey keyRun runEnd keyEnd
-    spaceWidth isWhite trimStart trimEnd contentEnd escapedAt slashes first spanOf ascii
+    locatorOf locatorFrom labelled valued valueEnd isLoose valueRun isValue labelOf orPage matchIn stands mayFollow
+    fits lower skipBlanks matchers isFirst isMark isKey runEnd keyEnd
+    spaceWidth isWhite trimStart trimEnd escapedAt slashes first lastEnd spanOf ascii
 first-wins = refl
 
 -- "`[\@a]` 5"
 escaped : itemOf (ascii "[\\@a]") 1 4 ≡ Bad
 unfolding itemOf itemIn itemAt locatorStart prefixEnd suppresses winner wins keyServes atSign
-    isFirst isMark isKey keyRun runEnd keyEnd
-    spaceWidth isWhite trimStart trimEnd contentEnd escapedAt slashes first spanOf ascii
+    isFirst isMark isKey runEnd keyEnd
+    spaceWidth isWhite trimStart trimEnd escapedAt slashes first lastEnd spanOf ascii
 escaped = refl
 
 -- `[+@a;]`: two pieces, the second empty
@@ -69,20 +70,20 @@ two-pieces = refl
 both-good : judgedOf (ascii "[+@a;@b]") 0 7 ≡ AllGood 2
 unfolding judgedOf judgedIn firstBad allGood parsed piecesOf pieces piecesIn semicolonAt itemsStart integralAt
     itemOf itemIn itemAt locatorStart prefixEnd suppresses winner wins keyServes atSign
-    isFirst isMark isKey keyRun runEnd keyEnd
-    spaceWidth isWhite trimStart trimEnd contentEnd escapedAt slashes first spanOf ascii
+    isFirst isMark isKey runEnd keyEnd
+    spaceWidth isWhite trimStart trimEnd escapedAt slashes first lastEnd spanOf ascii
 both-good = refl
 
 second-bad : judgedOf (ascii "[@a;b;]") 0 6 ≡ FirstBad 1
 unfolding judgedOf judgedIn firstBad allGood parsed piecesOf pieces piecesIn semicolonAt itemsStart integralAt
     itemOf itemIn itemAt locatorStart prefixEnd suppresses winner wins keyServes atSign
-    isFirst isMark isKey keyRun runEnd keyEnd
-    spaceWidth isWhite trimStart trimEnd contentEnd escapedAt slashes first spanOf ascii
+    isFirst isMark isKey runEnd keyEnd
+    spaceWidth isWhite trimStart trimEnd escapedAt slashes first lastEnd spanOf ascii
 second-bad = refl
 
 only-plus : judgedOf (ascii "[+]") 0 2 ≡ FirstBad 0
 unfolding judgedOf judgedIn firstBad allGood parsed piecesOf pieces piecesIn semicolonAt itemsStart integralAt
     itemOf itemIn itemAt locatorStart prefixEnd suppresses winner wins keyServes atSign
-    isFirst isMark isKey keyRun runEnd keyEnd
-    spaceWidth isWhite trimStart trimEnd contentEnd escapedAt slashes first spanOf ascii
+    isFirst isMark isKey runEnd keyEnd
+    spaceWidth isWhite trimStart trimEnd escapedAt slashes first lastEnd spanOf ascii
 only-plus = refl

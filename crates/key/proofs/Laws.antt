@@ -1,19 +1,18 @@
 -- Keys: the run unrolled at a place, each law in the form of a need (`b` is what a call of a test gave, `e` what the loop's invariant speaks
 -- of); and where a key ends.
-use Prim.Native.Nat.{ℕ, suc, _+_, _≤_, _<_}
-use native.Mathlib.Numerals.{add-one}
+use Prim.Native.Nat.{ℕ, _+_, _-_, _≤_, _<_}
 use native.Mathlib.Omega.{arith}
-use mathlib.Core.Path.{_≡_, refl, sym, _∙_}
-use mathlib.Core.List.{List, [], _∷_}
-use mathlib.Core.Bool.{Bool, true, false, _||_}
-use lib.ListN.{length, drop, drop-of-length-le, length-drop}
-use lib.Seq.{drop-cons}
+use mathlib.Core.Path.{_≡_, refl, sym, _∙_, ap}
+use mathlib.Core.List.{List}
+use mathlib.Core.Bool.{Bool, true, false, _||_, not}
+use lib.ListN.{length}
 use lib.Dec.{ltb}
 use borrow.Author.Tests.{lt-ltb, le-ltb, ltb-true}
 use Rattle.base.specs.Pick.{pick}
 use Rattle.base.specs.Lists.{byteAt}
 use Rattle.base.proofs.Bools.{and-left}
-use Rattle.key.specs.Keys.{isFirst, isMark, isKey, keyRun, runEnd, startsKey, keyEnd}
+use Rattle.base.proofs.Searches.{first-by, first-out, first-stop, first-more}
+use Rattle.key.specs.Keys.{isFirst, isMark, isKey, runEnd, startsKey, keyEnd}
 
 pub key-or : (b : ℕ) {f m : Bool} → f ≡ isFirst b → m ≡ isMark b → f || m ≡ isKey b
 unfolding isKey
@@ -21,16 +20,16 @@ key-or b p q = rw (p, q)
 
 module _ (s : List ℕ) (i : ℕ) where
   pub run-out : {e : ℕ} → e ≡ runEnd s i → length s ≤ i → i ≡ e
-  unfolding runEnd keyRun
-  run-out p h = sym (p ∙ rw (drop-of-length-le s h) (omega arith))
+  unfolding runEnd
+  run-out = first-out (λ j. not (isKey (byteAt s j))) i (length s)
 
   pub run-stop : {e : ℕ} {b : Bool} → e ≡ runEnd s i → i < length s → b ≡ isKey (byteAt s i) → b ≡ false → i ≡ e
-  unfolding runEnd keyRun
-  run-stop p h q f = sym (p ∙ rw (drop-cons s i 0 h, sym q ∙ f) (omega arith))
+  unfolding runEnd
+  run-stop p h q f = first-stop (λ j. not (isKey (byteAt s j))) i (length s) p h (ap not (sym q ∙ f))
 
   pub run-more : {e : ℕ} {b : Bool} → e ≡ runEnd s i → i < length s → b ≡ isKey (byteAt s i) → b ≡ true → e ≡ runEnd s (i + 1)
-  unfolding runEnd keyRun
-  run-more p h q t = p ∙ rw (add-one, drop-cons s i 0 h, sym q ∙ t) (omega arith)
+  unfolding runEnd
+  run-more p h q t = first-more (λ j. not (isKey (byteAt s j))) i (length s) p h (ap not (sym q ∙ t))
 
   pub key-out : length s ≤ i → i ≡ keyEnd s i
   unfolding keyEnd
@@ -48,20 +47,10 @@ pub ruleset laws = (key-or, run-out, run-stop, run-more, key-out, key-not, key-y
 
 -- where a key ends ---------------------------------------------------------------------------------------------------------------
 
-run-fits : (l : List ℕ) → keyRun l ≤ length l
-unfolding keyRun
-run-fits [] = omega arith
-run-fits (x ∷ xs) = go (isKey x) (run-fits xs)
-  where
-    go : (t : Bool) → keyRun xs ≤ length xs → pick t (suc (keyRun xs)) 0 ≤ suc (length xs)
-    go true h = omega arith
-    go false h = omega arith
-
 pub run-by : (s : List ℕ) (i : ℕ) → i ≤ length s → runEnd s i ≤ length s
 unfolding runEnd
-run-by s i h = omega (arith, run-fits (drop i s), length-drop i s)
+run-by s i h = omega (arith, first-by (λ j. not (isKey (byteAt s j))) (length s - i) i)
 
--- and in the text
 pub key-by : (s : List ℕ) (i : ℕ) → i ≤ length s → keyEnd s i ≤ length s
 unfolding keyEnd
 key-by s i h = go (startsKey s i) refl

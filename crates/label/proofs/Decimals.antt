@@ -1,7 +1,7 @@
 -- A number in decimal has no white byte, so trims leave it as it is.
 use Prim.Native.Nat.{ℕ, zero, suc, _+_, _-_, _/_, _%_, _≤_, _<_}
 use native.Mathlib.Omega.{arith}
-use mathlib.Core.Path.{_≡_, refl, _∙_}
+use mathlib.Core.Path.{_≡_, refl, sym, _∙_}
 use mathlib.Core.List.{List, [], _∷_, _++_}
 use mathlib.Core.Logic.{_⊎_, inl, inr}
 use mathlib.Core.Bool.{Bool, true, false, and-false}
@@ -10,12 +10,12 @@ use lib.Seq.{getD-at}
 use lib.Dec.{leb, ltb}
 use borrow.Author.Tests.{ltb-true, ltb-false, ne-eqb, lt-leb}
 use Rattle.base.specs.Pick.{pick}
-use Rattle.base.specs.First.{first}
 use Rattle.base.specs.Lists.{byteAt}
 use Rattle.base.proofs.Bools.{split}
 use Rattle.white.specs.White.{isWhite}
-use Rattle.text.specs.Trim.{trimStart, contentEnd, trimEnd}
+use Rattle.text.specs.Trim.{trimStart, trimEnd}
 use Rattle.white.proofs.Whites.{white-ascii}
+use Rattle.text.proofs.Laws.{start-stop, end-stop}
 use Rattle.pool.specs.Numbers.{signed}
 use Rattle.decimal.specs.Decimal.{digitCount, countIn, lastDigits, decimal}
 use Rattle.decimal.proofs.Laws.{decimal-length}
@@ -71,15 +71,10 @@ signed-some false m = omega (arith, decimal-length m, count-some 19 m)
 -- bytes none of which is white
 module _ (s : List ℕ) (plain : (i : ℕ) → i < length s → isWhite s i ≡ false) (h : 0 < length s) where
   plain-start : trimStart s 0 (length s) ≡ 0
-  unfolding trimStart first
-  plain-start = let z : length s - 0 ≡ suc (length s - 1) = omega arith in rw (z, plain 0 h) refl
+  plain-start = sym (start-stop s 0 (length s) refl h refl (plain 0 h))
 
   plain-end : trimEnd s 0 (length s) ≡ length s
-  unfolding trimEnd contentEnd
-  plain-end =
-      let z : length s - 0 ≡ suc (length s - 1) = omega arith in
-      let y : 0 + (length s - 1) ≡ length s - 1 = omega arith in
-      rw (z, y, plain (length s - 1) (omega arith)) (omega arith)
+  plain-end = sym (end-stop s 0 (length s) refl h refl (plain (length s - 1) (omega arith)))
 
 pub signed-start : (n : Bool) (m : ℕ) → trimStart (signedDecimal (signed n m)) 0 (length (signedDecimal (signed n m))) ≡ 0
 signed-start n m = plain-start (signedDecimal (signed n m)) (signed-plain n m) (signed-some n m)

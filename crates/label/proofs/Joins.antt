@@ -1,7 +1,6 @@
 -- Two lists of bytes joined by a space: which bytes are white, and where the whole begins and ends, trimmed.
 use Prim.Native.Nat.{ℕ, zero, suc, _+_, _-_, _≤_, _<_}
 use native.Mathlib.Omega.{arith}
-use native.Mathlib.Numerals.{add-one}
 use mathlib.Core.Path.{_≡_, refl, sym, _∙_, ap}
 use mathlib.Core.List.{List, _∷_, _++_}
 use mathlib.Core.Logic.{_⊎_, inl, inr}
@@ -16,9 +15,10 @@ use Rattle.base.proofs.Bools.{split}
 use Rattle.base.proofs.Searches.{first-near, first-far, first-shift}
 use Rattle.base.proofs.Parts.{byte-past, part-is}
 use Rattle.white.specs.White.{spaceWidth, isWhite}
-use Rattle.text.specs.Trim.{trimStart, contentEnd, trimEnd, trim}
+use Rattle.text.specs.Trim.{trimStart, trimEnd, trim}
 use Rattle.white.proofs.Whites.{widthBy, width-is, width-second, width-third, second-by, white-ascii}
-use Rattle.text.proofs.Trims.{start-by, end-from, end-by, content-after, content-before, content-shift}
+use Rattle.text.proofs.Laws.{end-more}
+use Rattle.text.proofs.Trims.{start-by, end-from, end-by, end-in-second, end-in-first, end-shift}
 
 -- the tests of `isWhite` at the start of a list, where the places before stop at 0
 test-first : (w : ℕ) → (ltb 0 w || ltb 1 w || ltb 2 w) ≡ ltb 0 w
@@ -147,49 +147,34 @@ module _ (A Y : List ℕ) where
       ∙ sym (first-shift (λ i. not (isWhite Y i)) (λ i. not (isWhite (Join A Y) i)) (length A + 1) (length Y) 0 (λ j l. ap not (right j)))
       ∙ omega arith)
 
-  -- where the second list's content ends, seen in the whole
-  content-right : (x n : ℕ) → contentEnd (Join A Y) (length A + 1 + x) n ≡ length A + 1 + contentEnd Y x n
-  content-right x n =
+  -- where the second list's content from `x` on ends, seen in the whole
+  end-right : (x : ℕ) → x ≤ length Y → trimEnd (Join A Y) (length A + 1 + x) (length (Join A Y)) ≡ length A + 1 + trimEnd Y x (length Y)
+  end-right x h =
       let z : length A + 1 + x ≡ x + (length A + 1) = omega arith in
-      rw z (sym (content-shift (Join A Y) Y (length A + 1) x n (λ j l. right j)) ∙ omega arith)
+      let y : length (Join A Y) ≡ length Y + (length A + 1) = omega (arith, join-length A Y) in
+      rw (z, y) (sym (end-shift (Join A Y) Y (length A + 1) x (length Y) h (λ j l. right j)) ∙ omega arith)
 
-  -- the content of the first list from `k` on, with the space
-  content-left : (k : ℕ) → k ≤ length A → contentEnd (Join A Y) k (length A - k + 1) ≡ contentEnd A k (length A - k)
-  unfolding contentEnd
-  content-left k h =
-      let p : k + (length A - k) ≡ length A = omega arith in
+  -- the first list's from `k` on, with the space
+  end-left : (k : ℕ) → k ≤ length A → trimEnd (Join A Y) k (length A + 1) ≡ trimEnd A k (length A)
+  end-left k h =
+      let p : length A + 0 ≡ length A = omega arith in
       let q : k + 0 ≡ k = omega arith in
-      let r = content-shift (Join A Y) A 0 k (length A - k) (λ j l. left j (omega arith)) in
-      rw (add-one, p, white-space A Y) (sym (rw q at r) ∙ omega arith)
+      let m : length A + 1 - 1 ≡ length A = omega arith in
+      let r = end-shift (Join A Y) A 0 k (length A) h left in
+      end-more (Join A Y) k (length A + 1) refl (omega arith) refl (rw m (white-space A Y)) ∙ rw m (sym (rw (p, q) at r) ∙ omega arith)
 
   module _ (k : ℕ) (h : k ≤ length A) where
-    whole : length (Join A Y) - k ≡ length A - k + 1 + length Y
-    whole = omega (arith, join-length A Y)
+    rest : trimEnd (Join A Y) (length A + 1) (length (Join A Y)) ≡ length A + 1 + trimEnd Y 0 (length Y)
+    rest = let z : length A + 1 ≡ length A + 1 + 0 = omega arith in ap (λ x. trimEnd (Join A Y) x (length (Join A Y))) z ∙ end-right 0 (omega arith)
 
-    past : k + (length A - k + 1) ≡ length A + 1 + 0
-    past = omega arith
+    past : length A + 1 ≤ length (Join A Y)
+    past = omega (arith, join-length A Y)
 
     end-second : 0 < trimEnd Y 0 (length Y) → trimEnd (Join A Y) k (length (Join A Y)) ≡ length A + 1 + trimEnd Y 0 (length Y)
-    unfolding trimEnd
-    end-second q =
-        let y : length Y - 0 ≡ length Y = omega arith in
-        let c : contentEnd (Join A Y) (k + (length A - k + 1)) (length Y) ≡ length A + 1 + contentEnd Y 0 (length Y) = rw past (content-right 0 (length Y)) in
-        let g : 0 < contentEnd Y 0 (length Y) = rw y at q in
-        rw (whole, y) (content-after (Join A Y) k (length A - k + 1) (length Y) (omega arith) ∙ c)
+    end-second q = end-in-second (Join A Y) k (length A + 1) (length (Join A Y)) (omega arith) past (rw rest (omega arith)) ∙ rest
 
     end-first : trimEnd Y 0 (length Y) ≤ 0 → trimEnd (Join A Y) k (length (Join A Y)) ≡ trimEnd A k (length A)
-    unfolding trimEnd
-    end-first q =
-        let y : length Y - 0 ≡ length Y = omega arith in
-        let c : contentEnd (Join A Y) (k + (length A - k + 1)) (length Y) ≡ length A + 1 + contentEnd Y 0 (length Y) = rw past (content-right 0 (length Y)) in
-        let g : contentEnd Y 0 (length Y) ≤ 0 = rw y at q in
-        rw whole (content-before (Join A Y) k (length A - k + 1) (length Y) (omega arith) ∙ content-left k h)
-
-  end-right : (x : ℕ) → x ≤ length Y → trimEnd (Join A Y) (length A + 1 + x) (length (Join A Y)) ≡ length A + 1 + trimEnd Y x (length Y)
-  unfolding trimEnd
-  end-right x h =
-      let z : length (Join A Y) - (length A + 1 + x) ≡ length Y - x = omega (arith, join-length A Y) in
-      rw z (content-right x (length Y - x))
+    end-first q = end-in-first (Join A Y) k (length A + 1) (length (Join A Y)) (omega arith) past (rw rest (omega arith)) ∙ end-left k h
 
 -- parts of the whole
 module _ (A Y : List ℕ) where

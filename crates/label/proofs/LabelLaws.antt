@@ -9,12 +9,12 @@ use lib.ListN.{length, take, drop, length-append, length-drop}
 use lib.Dec.{ltb}
 use lib.Seq.{take-all, take-length, length-take-le}
 use borrow.Author.Tests.{eq-eqb, ne-eqb, ltb-true, ltb-false}
+use Rattle.base.specs.Last.{lastEnd}
 use Rattle.base.specs.Lists.{part}
 use Rattle.base.specs.declared.Span.{Span}
 use Rattle.base.proofs.Parts.{part-is, part-length}
-use Rattle.white.specs.White.{isWhite}
-use Rattle.text.specs.Trim.{trimStart, contentEnd, trimEnd, trim}
-use Rattle.text.proofs.Trims.{start-by, start-plain, end-from, end-by, content-behind}
+use Rattle.text.specs.Trim.{trimStart, trimEnd, trim}
+use Rattle.text.proofs.Trims.{start-by, start-plain, end-from, end-by, end-behind}
 use Rattle.pool.specs.Numbers.{signed}
 use Rattle.source.specs.Entry.{isEmpty}
 use Rattle.decimal.specs.Decimal.{decimal}
@@ -43,10 +43,7 @@ some-left (x ∷ xs) h = refl
 -- bytes that are not all white, trimmed
 module _ (s : List ℕ) {k : ℕ} (p : k ≡ trimStart s 0 (length s)) (h : k < length s) where
   content-from : k < trimEnd s k (length s)
-  unfolding trimEnd
-  content-from =
-      let w : isWhite s k ≡ false = rw p (start-plain s 0 (length s) (rw p at h)) in
-      content-behind s k (length s - k) k (omega arith) (omega arith) w
+  content-from = end-behind s k (length s) k (omega arith) h (rw p (start-plain s 0 (length s) (rw p at h)))
 
   trimmed-is : part s (trimStart s 0 (length s)) (trimEnd s (trimStart s 0 (length s)) (length s)) ≡ part s k (trimEnd s k (length s))
   trimmed-is = rw (← p) refl
@@ -98,7 +95,7 @@ module _ (n : ℕ) (A Y : List ℕ) where
     second-is h q g = left-is (trim-second A Y (rw p at h) ∙ trimmed-is Y q g) (trimmed-some Y q g)
 
     none-is : {y : ℕ} → length A ≤ k → y ≡ trimStart Y 0 (length Y) → length Y ≤ y → decimal n ≡ authorYear n A Y
-    unfolding authorYear orNumber trimEnd contentEnd
+    unfolding authorYear orNumber trimEnd lastEnd
     none-is {y} h q g =
         let z : trimStart Y 0 (length Y) ≡ length Y = omega (arith, start-by Y 0 (length Y)) in
         let d : length Y - length Y ≡ 0 = omega arith in

@@ -23,7 +23,7 @@ use Rattle.item.specs.Pieces.{stretch, semicolonAt, endsPiece, piecesIn, pieces
 use Rattle.item.proofs.Parts.{wins-by}
 use Rattle.index.specs.Entries.{opensAt}
 use Rattle.base.proofs.Searches.{first-from, first-holds}
-use Rattle.text.proofs.Trims.{content-by}
+use Rattle.text.proofs.Trims.{end-by}
 use Rattle.resolve.specs.Groups.{GroupAnswer, Found, NoGroup, groupAccepted, judge, groupAt}
 use Rattle.item.specs.Group.{Group, groupOf}
 use Rattle.close.proofs.Laws.{close-there}
@@ -76,10 +76,10 @@ kept-keys s a e n rest h = go (ltb (winner s a e) e) refl (itemAt s a e (winner 
 
 -- the same before white space is trimmed
 item-keys : (s : List ℕ) (a e : ℕ) (rest : List Item) → keysIn (kept (itemOf s a e) rest) ≤ e - a + 1 + keysIn rest
-unfolding itemOf trimStart trimEnd
+unfolding itemOf trimStart
 item-keys s a e rest =
     let y = first-from (λ i. not (isWhite s i)) (e - a) a in
-    let z = content-by s (trimStart s a e) (e - trimStart s a e) in
+    let z = end-by s (trimStart s a e) e in
     kept-keys s (trimStart s a e) (trimEnd s (trimStart s a e) e) (e - a) rest (omega arith)
 
 -- the items of a bracket ---------------------------------------------------------------------------------------------------------

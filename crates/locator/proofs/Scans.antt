@@ -1,13 +1,13 @@
 -- The loops of the code at a place, in the form of the needs: `r` is what the invariant speaks of, `b` what a test of a byte gave.
-use Prim.Native.Nat.{ℕ, zero, suc, _+_, _-_, _≤_, _<_}
-use native.Mathlib.Omega.{arith}
-use mathlib.Core.Path.{_≡_, refl, sym, _∙_, ap}
+use Prim.Native.Nat.{ℕ, _+_, _-_, _≤_, _<_}
+use mathlib.Core.Path.{_≡_, sym, _∙_, ap}
 use mathlib.Core.List.{List}
 use mathlib.Core.Bool.{Bool, true, false, not}
 use Rattle.base.specs.First.{first}
 use Rattle.base.specs.Lists.{byteAt}
 use Rattle.base.proofs.Searches.{first-out, first-stop, first-more}
-use Rattle.locator.specs.Locators.{isBlank, skipBlanks, isValue, valueRun, isLoose, strip}
+use Rattle.base.proofs.Lasts.{last-end-out, last-end-stop, last-end-more}
+use Rattle.locator.specs.Locators.{isBlank, skipBlanks, isValue, valueRun, isLoose, valueEnd}
 
 -- the end of a run of bytes that pass a test
 abbrev runOf : (ℕ → Bool) → List ℕ → ℕ → ℕ → ℕ
@@ -49,29 +49,17 @@ module _ (s : List ℕ) (i e : ℕ) where
   run-out q h = out isValue s i e q h
 
 -- the loose bytes at the end of a run, from the back
-module _ (s : List ℕ) (v : ℕ) where
-  loose : (n : ℕ) → 0 < n → isLoose (byteAt s (v + n - 1)) ≡ true → strip s v n ≡ strip s v (n - 1)
-  unfolding strip
-  loose zero h t = absurd (omega arith)
-  loose (suc n) h t =
-      let p : v + suc n - 1 ≡ v + n = omega arith in
-      let q : suc n - 1 ≡ n = omega arith in
-      rw (q, rw p at t) refl
+module _ (s : List ℕ) (v i : ℕ) {r : ℕ} (q : r ≡ valueEnd s v i) where
+  pub value-stop : {b : Bool} → v < i → b ≡ isLoose (byteAt s (i - 1)) → b ≡ false → i ≡ r
+  unfolding valueEnd
+  value-stop h t f = last-end-stop (λ k. not (isLoose (byteAt s k))) v i v q h (ap not (sym t ∙ f))
 
-  kept : (n : ℕ) → 0 < n → isLoose (byteAt s (v + n - 1)) ≡ false → v + n ≡ strip s v n
-  unfolding strip
-  kept zero h t = absurd (omega arith)
-  kept (suc n) h t = let p : v + suc n - 1 ≡ v + n = omega arith in rw (rw p at t) (omega arith)
+  pub value-more : {b : Bool} → v < i → b ≡ isLoose (byteAt s (i - 1)) → b ≡ true → r ≡ valueEnd s v (i - 1)
+  unfolding valueEnd
+  value-more h t f = last-end-more (λ k. not (isLoose (byteAt s k))) v i v q h (ap not (sym t ∙ f))
 
-  module _ (n : ℕ) where
-    pub strip-more : {r : ℕ} {b : Bool} → r ≡ strip s v n → 0 < n → b ≡ isLoose (byteAt s (v + n - 1)) → b ≡ true → r ≡ strip s v (n - 1)
-    strip-more q h t f = q ∙ loose n h (sym t ∙ f)
+  pub value-out : i ≤ v → v ≡ r
+  unfolding valueEnd
+  value-out = last-end-out (λ k. not (isLoose (byteAt s k))) v i v q
 
-    pub strip-stop : {r : ℕ} {b : Bool} → r ≡ strip s v n → 0 < n → b ≡ isLoose (byteAt s (v + n - 1)) → b ≡ false → v + n ≡ r
-    strip-stop q h t f = kept n h (sym t ∙ f) ∙ sym q
-
-    pub strip-out : {r : ℕ} → r ≡ strip s v n → n ≤ 0 → v ≡ r
-    unfolding strip
-    strip-out q h = let z : n ≡ 0 = omega arith in sym (q ∙ rw z refl)
-
-pub ruleset scans = (skip-stop, skip-more, skip-out, run-stop, run-more, run-out, strip-more, strip-stop, strip-out)
+pub ruleset scans = (skip-stop, skip-more, skip-out, run-stop, run-more, run-out, value-stop, value-more, value-out)

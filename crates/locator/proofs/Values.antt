@@ -1,5 +1,5 @@
 -- Value, suffix and the whole locator, in the form of the needs: `r` is what a call gave.
-use Prim.Native.Nat.{ℕ, _-_, _≤_, _<_}
+use Prim.Native.Nat.{ℕ, _≤_, _<_}
 use native.Mathlib.Omega.{arith}
 use mathlib.Core.Path.{_≡_, refl}
 use mathlib.Core.List.{List}
@@ -10,7 +10,7 @@ use Rattle.base.specs.Spans.{missing, spanOf}
 use Rattle.locator.specs.declared.Label.{Label}
 use Rattle.locator.specs.declared.Locator.{Locator}
 use Rattle.locator.specs.declared.Locator.the-variants.{Nothing, Plain, Labelled}
-use Rattle.locator.specs.Locators.{skipBlanks, valueRun, strip, valueEnd, valued, labelOf, labelled, locatorFrom, locatorOf}
+use Rattle.locator.specs.Locators.{skipBlanks, valueRun, valueEnd, valued, labelOf, labelled, locatorFrom, locatorOf}
 use Rattle.locator.specs.Answers.{codeOf, valueOf, suffixOf}
 use Rattle.locator.proofs.Parts.{run-from, run-by, skip-by}
 use Rattle.locator.proofs.Labels.{label-by}
@@ -23,9 +23,9 @@ module _ (s : List ℕ) (v e : ℕ) where
   run-within q h g = omega (arith, q, run-by s v e)
 
   pub valued-by
-      : (code : ℕ) {run stop next : ℕ} {value suffix : Span} → run ≡ valueRun s v e → stop ≡ strip s v (run - v) → value ≡ spanOf v stop
+      : (code : ℕ) {run stop next : ℕ} {value suffix : Span} → run ≡ valueRun s v e → stop ≡ valueEnd s v run → value ≡ spanOf v stop
       → next ≡ skipBlanks s run e → suffix ≡ spanOf next e → Labelled code value suffix ≡ valued s code v e
-  unfolding valued valueEnd
+  unfolding valued
   valued-by code p q r t u = rw (r, u, q, t, p) refl
 
 -- the stretch from `a` to `e`, which begins at `i` after leading blanks

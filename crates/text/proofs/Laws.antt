@@ -10,9 +10,10 @@ use borrow.Author.Tests.{eq-eqb, ne-eqb, eqb-true, eqb-false}
 use Rattle.base.specs.Pick.{pick}
 use Rattle.base.specs.Lists.{byteAt}
 use Rattle.base.proofs.Searches.{first-out, first-stop, first-more}
+use Rattle.base.proofs.Lasts.{last-end-out, last-end-stop, last-end-more}
 use Rattle.text.specs.Escape.{slashes, escapedAt}
 use Rattle.white.specs.White.{isWhite}
-use Rattle.text.specs.Trim.{trimStart, contentEnd, trimEnd}
+use Rattle.text.specs.Trim.{trimStart, trimEnd}
 
 -- escape -------------------------------------------------------------------------------------------------------------------------
 
@@ -78,21 +79,15 @@ module _ (s : List ℕ) (i e : ℕ) {w : ℕ} (p : w ≡ trimStart s i e) where
 
 module _ (s : List ℕ) (a i : ℕ) {w : ℕ} (p : w ≡ trimEnd s a i) where
   pub end-out : i ≤ a → a ≡ w
-  unfolding trimEnd contentEnd
-  end-out h = let z : i - a ≡ 0 = omega arith in sym (p ∙ rw z)
-
-  fewer : a < i → i - a ≡ suc (i - 1 - a)
-  fewer h = omega arith
-
-  before : a < i → a + (i - 1 - a) ≡ i - 1
-  before h = omega arith
+  unfolding trimEnd
+  end-out = last-end-out (λ k. not (isWhite s k)) a i a p
 
   pub end-stop : {b : Bool} → a < i → b ≡ isWhite s (i - 1) → b ≡ false → i ≡ w
-  unfolding trimEnd contentEnd
-  end-stop h q f = sym (p ∙ rw (fewer h, before h, sym q ∙ f) (omega arith))
+  unfolding trimEnd
+  end-stop h q f = last-end-stop (λ k. not (isWhite s k)) a i a p h (ap not (sym q ∙ f))
 
   pub end-more : {b : Bool} → a < i → b ≡ isWhite s (i - 1) → b ≡ true → w ≡ trimEnd s a (i - 1)
-  unfolding trimEnd contentEnd
-  end-more h q t = p ∙ rw (fewer h, before h, sym q ∙ t)
+  unfolding trimEnd
+  end-more h q t = last-end-more (λ k. not (isWhite s k)) a i a p h (ap not (sym q ∙ t))
 
 pub ruleset trim-laws = (start-out, start-stop, start-more, end-out, end-stop, end-more)

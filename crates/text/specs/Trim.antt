@@ -1,11 +1,11 @@
 -- Trimming: a stretch of a text without the white space at its ends.
-use Prim.Native.Nat.{ℕ, zero, suc, _+_, _-_}
+use Prim.Native.Nat.{ℕ, _-_}
 use mathlib.Core.List.{List}
 use mathlib.Core.Bool.{not}
 use lib.ListN.{length}
-use Rattle.base.specs.Pick.{pick}
 use Rattle.base.specs.Lists.{part}
 use Rattle.base.specs.First.{first}
+use Rattle.base.specs.Last.{lastEnd}
 use Rattle.white.specs.White.{isWhite}
 
 -- "Trims Unicode white space": the stretch from `a` to `e` begins, trimmed, at its first byte that is not white;
@@ -13,14 +13,9 @@ use Rattle.white.specs.White.{isWhite}
 unfoldable pub trimStart : List ℕ → ℕ → ℕ → ℕ
 trimStart s a e = first (λ i. not (isWhite s i)) (e - a) a
 
--- the end of the last byte that is not white among the `n` from `a` on; `a` where all are
-unfoldable pub contentEnd : List ℕ → ℕ → ℕ → ℕ
-contentEnd s a zero = a
-contentEnd s a (suc n) = pick (isWhite s (a + n)) (contentEnd s a n) (suc (a + n))
-
--- where the stretch from `a` to `e` ends, trimmed; `a` where it has no byte that is not white
+-- where the stretch from `a` to `e` ends, trimmed: after its last byte that is not white; `a` where it has none
 unfoldable pub trimEnd : List ℕ → ℕ → ℕ → ℕ
-trimEnd s a e = contentEnd s a (e - a)
+trimEnd s a e = lastEnd (λ i. not (isWhite s i)) (e - a) a a
 
 -- a whole list of bytes, both ends trimmed
 unfoldable pub trim : List ℕ → List ℕ

@@ -9,7 +9,7 @@ use Rattle.attributes.proofs.end_without.Statement.{statement}
 use Rattle.attributes.proofs.end_without.Tie as tie
 
 abbrev Inv-loop : tie.InvT-loop
-Inv-loop s b a e i₀ i = (i ≤ e) × (endWithout b s a (e - a) ≡ endWithout b s a (i - a))
+Inv-loop s b a e i₀ i = (i ≤ e) × (endWithout b s a e ≡ endWithout b s a i)
 
 abbrev μ-loop : tie.MeasureT-loop
 μ-loop s b a e i₀ i = i - a
