@@ -11,7 +11,7 @@ use borrow.Author.Tests.{leb-true, lt-ltb, eqb-true}
 use Rattle.base.specs.Pick.{pick}
 use Rattle.pool.specs.declared.Found.{Found}
 use Rattle.pool.specs.Numbers.{leAt, signedOf}
-use Rattle.pool.specs.Fields.{Field, fieldsOf, fill, follows, contentGood, fieldsGood, entryGood}
+use Rattle.pool.specs.Fields.{Field, fieldsOf, fill, follows, contentGood, fieldsGood, goodFrom, entryGood}
 use Rattle.pool.specs.Entries.{fieldWith, inName, nameAfter, yearIn, Entry, entryOf}
 use Rattle.pool.specs.Layout.{countOf, offsetOf, endOf, entriesGood, laidOut, wellFormed, entriesIn, entriesOf}
 use Rattle.pool.specs.Places.{Reads, ReadsName, EntryIn}
@@ -145,7 +145,7 @@ year-long last (f ∷ fs) b g h =
     go false e k g rec = rec (g .2) k
 
 pub year-eight : (s : List ℕ) (at e : ℕ) {p : Span} → EntryIn s at e → Reads s (At p) (fieldWith 6 (fieldsOf s at e)) → p .len ≡ 8
-unfolding entryGood
+unfolding goodFrom
 year-eight s at e {p} g r =
     let l = year-long 0 (fieldsOf s at e) _ (and-right (fill s at e) _ (g .good)) (sym (r .bytes)) in
     let n = part-length s (p .at) (p .at + p .len) (omega arith) (r .inside) in
