@@ -6,7 +6,7 @@ use mathlib.Core.List.{List, []}
 use mathlib.Core.Option.{none}
 use lib.ListN.{length}
 use borrow.Author.Tests.{lt-ltb, le-ltb}
-use Rattle.pool.specs.Layout.{countOf}
+use Rattle.pool.specs.Layout.{countOf, entryAt}
 use Rattle.source.specs.Entry.{authorOf, yearOf}
 use Rattle.definition.specs.declared.Author.{Author}
 use Rattle.definition.specs.declared.Author.the-variants.{Missing}
@@ -21,7 +21,7 @@ use Rattle.defined.specs.declared.Defined.the-variants.{Line, Entry as E
 use Rattle.defined.specs.Definitions.{lineIn, lineDefIn, definitionIn}
 use Rattle.records.specs.Records.{closeOfRecord, nextIn}
 use Rattle.defined.specs.Defined.{definedAs, foundIn, DefinedIn}
-use Rattle.entries.specs.Entries.{entryAt, entryIn, GivesAuthor, GivesYear}
+use Rattle.entries.specs.Entries.{entryIn, GivesAuthor, GivesYear}
 use Rattle.entries.proofs.EntryLaws.{entry-given, entry-not}
 use Rattle.defined.proofs.Clips.{attributes-past, attributes-clip}
 

@@ -4,13 +4,13 @@ use mathlib.Core.List.{List, []}
 use mathlib.Core.Option.{Option, none, some}
 use lib.Dec.{ltb}
 use Rattle.base.specs.Pick.{pick}
-use Rattle.pool.specs.Layout.{countOf}
+use Rattle.pool.specs.Layout.{countOf, entryAt}
 use Rattle.definition.specs.Defs.{Def, entryDef}
 use Rattle.defined.specs.declared.Defined.{Defined}
 use Rattle.defined.specs.declared.Defined.the-variants.{Line, Entry as EntryOf, Nothing}
 use Rattle.defined.specs.Definitions.{lineIn, lineDefIn}
 use Rattle.records.specs.Records.{groupField, keyIn}
-use Rattle.entries.specs.Entries.{entryAt, entryIn}
+use Rattle.entries.specs.Entries.{entryIn}
 
 -- the definition that was found
 unfoldable pub definedAs : List ℕ → List ℕ → List ℕ → ℕ → Defined → Option Def

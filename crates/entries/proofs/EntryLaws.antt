@@ -1,8 +1,9 @@
 -- Entries of the pool, in the form of the needs.
 use Prim.Native.Nat.{ℕ, zero, suc, _+_, _-_, _≤_, _<_}
+use native.Mathlib.Numerals.{add-one}
 use native.Mathlib.Omega.{arith}
 use mathlib.Core.Path.{_≡_, refl, sym, _∙_, ap}
-use mathlib.Core.List.{List, [], _∷_}
+use mathlib.Core.List.{List, [], _∷_, map}
 use mathlib.Core.Bool.{Bool, true, false, not, _&&_}
 use mathlib.Core.Option.{Option, none, some, Option·getD}
 use lib.ListN.{length, take, drop}
@@ -10,14 +11,14 @@ use lib.Dec.{leb, ltb}
 use borrow.Author.Tests.{lt-ltb, le-ltb, eq-eqb, ne-eqb}
 use Rattle.base.specs.Pick.{pick}
 use Rattle.base.specs.First.{first}
-use Rattle.base.specs.Lists.{byteAt, part, same}
+use Rattle.base.specs.Lists.{byteAt, part, same, upFrom}
 use Rattle.base.specs.declared.Span.{Span}
 use Rattle.pool.specs.declared.Found.{Found}
 use Rattle.pool.specs.declared.Found.the-variants.{At, Missing}
 use Rattle.pool.specs.declared.NameParts.{NameParts}
 use Rattle.pool.specs.Fields.{fieldAt, fieldEnd, fieldsOf}
 use Rattle.pool.specs.Entries.{Name, fieldWith, nameAfter, nameAt, namesIn, entryOf}
-use Rattle.pool.specs.Layout.{countOf, offsetOf, endOf, wellFormed, entriesIn, entriesOf}
+use Rattle.pool.specs.Layout.{countOf, offsetOf, endOf, wellFormed, entryAt, entriesOf}
 use Rattle.pool.specs.Places.{Reads, ReadsName, FieldsIn, EntryIn}
 use Rattle.pool.proofs.FieldLaws.{fields-next, fields-end}
 use Rattle.pool.proofs.ReaderLaws.{fields-of-entry}
@@ -32,7 +33,7 @@ use Rattle.definition.specs.declared.Year.the-variants.{InPool as YearInPool, N
 use Rattle.definition.specs.Parts.{authorBytes, yearBytes}
 use Rattle.definition.specs.Defs.{Def, entryDef, entryDefines, firstEntry}
 use Rattle.base.proofs.Searches.{first-out, first-stop, first-more}
-use Rattle.entries.specs.Entries.{entryAt, entryHas, entryIn, GivesAuthor, GivesYear}
+use Rattle.entries.specs.Entries.{entryHas, entryIn, GivesAuthor, GivesYear}
 
 -- ids ----------------------------------------------------------------------------------------------------------------------------
 
@@ -110,18 +111,19 @@ pub ruleset entry-laws = (entry-start, entry-out, entry-stop, entry-more)
 unfoldable entryGiven : List ℕ → ℕ → ℕ → Option Def
 entryGiven s e i = pick (ltb i e) (some (entryDef i (entryAt s i))) none
 
-first-given : (s key : List ℕ) (n i : ℕ) → firstEntry key i (entriesIn n s i) ≡ entryGiven s (i + n) (first (entryHas s key) n i)
-unfolding entriesIn firstEntry first entryGiven entryHas entryAt
+first-given : (s key : List ℕ) (n i : ℕ) → firstEntry key i (map (entryAt s) (upFrom i n)) ≡ entryGiven s (i + n) (first (entryHas s key) n i)
+unfolding upFrom firstEntry first entryGiven entryHas
 first-given s key zero i = rw (le-ltb i (i + 0) (omega arith)) refl
-first-given s key (suc n) i = go (entryHas s key i) refl (first-given s key n (i + 1))
+first-given s key (suc n) i = go (entryHas s key i) refl
+    (ap (λ (k : ℕ). firstEntry key (i + 1) (map (entryAt s) (upFrom k n))) (sym (add-one i)) ∙ first-given s key n (i + 1))
   where
     z : i + 1 + n ≡ i + suc n
     z = omega arith
 
     go : (t : Bool) → entryHas s key i ≡ t
-        → firstEntry key (i + 1) (entriesIn n s (i + 1)) ≡ entryGiven s (i + 1 + n) (first (entryHas s key) n (i + 1))
-        → pick (entryDefines key (entryOf (fieldsOf s (offsetOf s i) (endOf s i)))) (some (entryDef i (entryOf (fieldsOf s (offsetOf s i) (endOf s i)))))
-        (firstEntry key (i + 1) (entriesIn n s (i + 1)))
+        → firstEntry key (i + 1) (map (entryAt s) (upFrom (suc i) n)) ≡ entryGiven s (i + 1 + n) (first (entryHas s key) n (i + 1))
+        → pick (entryDefines key (entryAt s i)) (some (entryDef i (entryAt s i)))
+        (firstEntry key (i + 1) (map (entryAt s) (upFrom (suc i) n)))
         ≡ entryGiven s (i + suc n) (pick (entryHas s key i) i (first (entryHas s key) n (i + 1)))
     go true q rec = rw (q, lt-ltb i (i + suc n) (omega arith)) refl
     go false q rec = rw (q, ← z) rec

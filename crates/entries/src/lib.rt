@@ -9,10 +9,10 @@ ghost use Prim.Native.Nat.{_+_, _<_};
 ghost use Rattle.base.specs.Lists.{part};
 ghost use Rattle.pool.specs.Fields.{fieldsOf};
 ghost use Rattle.pool.specs.Entries.{namesIn, nameAfter};
-ghost use Rattle.pool.specs.Layout.{countOf, wellFormed};
+ghost use Rattle.pool.specs.Layout.{countOf, wellFormed, entryAt};
 ghost use Rattle.pool.specs.Places.{FieldsIn};
 ghost use Rattle.source.specs.Entry.{orBytes, authorBy, authorOf, yearOf};
-ghost use Rattle.entries.specs.Entries.{entryAt, entryHas, entryIn, GivesAuthor, GivesYear};
+ghost use Rattle.entries.specs.Entries.{entryHas, entryIn, GivesAuthor, GivesYear};
 
 // The id of entry `i`.
 pub fn entry_id(pool: &[u8], i: usize) -> &[u8]

@@ -15,7 +15,7 @@ use Rattle.base.specs.Sorted.{Each}
 use Rattle.base.proofs.Searches.{first-holds}
 use Rattle.base.proofs.Sames.{same-true}
 use Rattle.base.proofs.Bools.{and-right}
-use Rattle.pool.specs.Layout.{countOf}
+use Rattle.pool.specs.Layout.{countOf, entryAt}
 use Rattle.source.specs.Entry.{isEmpty}
 use Rattle.base.proofs.Areas.{written-front, written-none, written-byte, written-over}
 use Rattle.definition.specs.Defs.{isDefined, entryDefines}
@@ -24,7 +24,7 @@ use Rattle.defined.specs.declared.Defined.the-variants.{Line, Entry as EntryOf,
 use Rattle.defined.specs.Definitions.{definesIn, definesKeyIn, lineIn, definitionIn}
 use Rattle.records.specs.Records.{keyIn, groupField}
 use Rattle.defined.specs.Defined.{definedAs, foundIn, definitionNumber, definitionAt, keyBy, DefinedIn}
-use Rattle.entries.specs.Entries.{entryAt, entryHas, entryIn}
+use Rattle.entries.specs.Entries.{entryHas, entryIn}
 use Rattle.order.specs.Order.{less}
 use Rattle.order.specs.References.{sourceKeyIn, rankIn, numberOfKey, SourcesKnown}
 use Rattle.order.specs.Ordered.{rankBy, definitionOf, sourceBy, insertBy, insertedFrom, SortedBy}

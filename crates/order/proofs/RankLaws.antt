@@ -13,7 +13,7 @@ use Rattle.base.specs.First.{first}
 use Rattle.base.specs.Lists.{part}
 use Rattle.base.specs.declared.Span.{Span}
 use Rattle.base.proofs.Searches.{first-by, first-out, first-stop, first-more}
-use Rattle.pool.specs.Layout.{countOf, wellFormed}
+use Rattle.pool.specs.Layout.{countOf, wellFormed, entryAt}
 use Rattle.pool.proofs.PoolLaws.{laid-out, count-bytes}
 use Rattle.definition.specs.declared.Author.{Author}
 use Rattle.definition.specs.declared.Author.the-variants.{InText, InPool, Missing}
@@ -24,7 +24,6 @@ use Rattle.defined.specs.declared.Defined.the-variants.{Line, Entry as EntryOf,
 use Rattle.records.specs.Records.{itemField, groupField, keyIn}
 use Rattle.uses.specs.Uses.{usedAt}
 use Rattle.defined.specs.Defined.{definedAs, foundIn, definitionNumber, definitionAt, keyBy, DefinedIn}
-use Rattle.entries.specs.Entries.{entryAt}
 use Rattle.order.specs.References.{firstWith, sourceKeyIn, numberOfKey}
 use Rattle.order.specs.Ordered.{hasNumber, rankBy, definitionOf, sourceBy}
 use Rattle.entries.proofs.EntryLaws.{part-none}

@@ -15,8 +15,8 @@ ghost use Rattle.source_text.specs.Values.{sourceTextValues, sourceTextN
 ghost use Rattle.source_text.specs.Room.{Wrote, Fit, NameFits, NextFits};
 ghost use Rattle.base.specs.Fold.{fold};
 ghost use Rattle.pool.specs.Fields.{fieldsOf};
-ghost use Rattle.pool.specs.Entries.{fieldWith, nameAt};
-ghost use Rattle.pool.specs.Places.{nameAtParts, FieldsIn, EntryIn, entryFrom};
+ghost use Rattle.pool.specs.Entries.{fieldWith, nameAt, entryFrom};
+ghost use Rattle.pool.specs.Places.{nameAtParts, FieldsIn, EntryIn};
 
 // The answer of the source text call; a definition (specs/Values) gives the paper's numbers for each case.
 pub enum SourceText {
