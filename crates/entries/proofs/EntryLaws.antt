@@ -5,7 +5,7 @@ use native.Mathlib.Omega.{arith}
 use mathlib.Core.Path.{_≡_, refl, sym, _∙_, ap}
 use mathlib.Core.List.{List, [], _∷_, map}
 use mathlib.Core.Bool.{Bool, true, false, not, _&&_}
-use mathlib.Core.Option.{Option, none, some, Option·getD}
+use mathlib.Core.Option.{Option, none, some, orElse, Option·getD}
 use lib.ListN.{length, take, drop}
 use lib.Dec.{leb, ltb}
 use borrow.Author.Tests.{lt-ltb, le-ltb, eq-eqb, ne-eqb}
@@ -26,7 +26,7 @@ use Rattle.pool.proofs.PoolLaws.{pair-there, entry-there}
 use Rattle.source.specs.declared.Year.{Year as SourceYear}
 use Rattle.source.specs.declared.Year.the-variants.{Number as SourceNumber, At as SourceAt, Missing as SourceMissing}
 use Rattle.source.specs.Years.{yearBytes as yearTextOf, ReadsYear}
-use Rattle.source.specs.Entry.{isEmpty, orBytes, authorBy, authorOf, yearOf}
+use Rattle.source.specs.Entry.{isEmpty, authorBy, authorOf, yearOf}
 use Rattle.definition.specs.declared.Author.{Author}
 use Rattle.definition.specs.declared.Author.the-variants.{InPool, Missing as NoAuthor}
 use Rattle.definition.specs.declared.Year.the-variants.{InPool as YearInPool, Number, Missing as NoYear}
@@ -144,23 +144,23 @@ entry-not s key {i} {m} p q h =
 -- authors ------------------------------------------------------------------------------------------------------------------------
 
 module _ (s : List ℕ) {r : NameParts} {n : Name} (g : ReadsName s r n) where
-  pub by-literal : {v : Span} → r .literal ≡ At v → GivesAuthor s (InPool v) (orBytes (n .literal) (n .family))
-  unfolding authorBytes
+  pub by-literal : {v : Span} → r .literal ≡ At v → GivesAuthor s (InPool v) (orElse (n .literal) (n .family))
+  unfolding orElse authorBytes
   by-literal p = record { bytes = λ text. rw (← g .name, p) refl }
 
-  pub by-family : {v : Span} → r .literal ≡ Missing → r .family ≡ At v → GivesAuthor s (InPool v) (orBytes (n .literal) (n .family))
-  unfolding authorBytes
+  pub by-family : {v : Span} → r .literal ≡ Missing → r .family ≡ At v → GivesAuthor s (InPool v) (orElse (n .literal) (n .family))
+  unfolding orElse authorBytes
   by-family p q = record { bytes = λ text. rw (← g .name, p, q) refl }
 
-  pub by-none : r .literal ≡ Missing → r .family ≡ Missing → GivesAuthor s NoAuthor (orBytes (n .literal) (n .family))
-  unfolding authorBytes
+  pub by-none : r .literal ≡ Missing → r .family ≡ Missing → GivesAuthor s NoAuthor (orElse (n .literal) (n .family))
+  unfolding orElse authorBytes
   by-none p q = record { bytes = λ text. rw (← g .name, p, q) refl }
 
 pub ruleset name-laws = (by-literal, by-family, by-none)
 
 module _ (s : List ℕ) (i e : ℕ) {o : Option (List ℕ)} (p : o ≡ authorBy (namesIn (fieldsOf s i e))) where
   pub author-here : {k : ℕ} {r : Author} → i < e → k ≡ fieldEnd s i → byteAt s i ≡ 2
-      → GivesAuthor s r (orBytes (nameAfter (fieldsOf s k e) .literal) (nameAfter (fieldsOf s k e) .family)) → GivesAuthor s r o
+      → GivesAuthor s r (orElse (nameAfter (fieldsOf s k e) .literal) (nameAfter (fieldsOf s k e) .family)) → GivesAuthor s r o
   unfolding namesIn nameAt fieldAt authorBy
   author-here h q t g = record { bytes = λ text. g .bytes text ∙ sym (p ∙ rw (fields-next s i e h, eq-eqb _ 2 t, ← q) refl) }
 

@@ -4,7 +4,7 @@ use native.Mathlib.Omega.{arith}
 use mathlib.Core.Path.{_≡_, refl, sym, _∙_, ap}
 use mathlib.Core.List.{List, [], _∷_, _++_, map, append-assoc}
 use mathlib.Core.Bool.{Bool, true, false, _&&_, not}
-use mathlib.Core.Option.{Option, none, some}
+use mathlib.Core.Option.{Option, none, some, orElse}
 use lib.ListN.{length, length-append}
 use lib.Dec.{eqb, ltb}
 use borrow.Author.Tests.{lt-ltb, le-ltb, ne-eqb}
@@ -19,7 +19,7 @@ use Rattle.rows.proofs.RowLaws.{rows-length}
 use Rattle.pool.specs.Layout.{entriesOf}
 use Rattle.standing.specs.Rows.{Placed, groupWidth, groupRow, groupRows, sweptFrom, itemRows}
 use Rattle.definition_line.specs.Lines.{startsLine, colonAfter, bareItem, onlyKey, defines, inLine, groupEnd, nextOpen, keyOf, definedKey}
-use Rattle.definition.specs.Defs.{Def, lineDef, definesKey, lastLine, firstEntry, orDef, defOf}
+use Rattle.definition.specs.Defs.{Def, lineDef, definesKey, lastLine, firstEntry, defOf}
 use Rattle.defined.specs.Definitions.{definesIn, definesKeyIn, lineIn, LinesBelow, lineDefIn, definitionIn}
 use Rattle.records.specs.Records.{groupField, keyIn, suppressedIn, bareIn, closeOfRecord, nextIn}
 use Rattle.base.proofs.Lasts.{lastFrom, last-from, last-same}
@@ -229,8 +229,8 @@ module _ (text groups items : List ℕ) (n : ℕ) (key : List ℕ) where
 pub definition-placed : (text groups items : List ℕ) (ps : List Placed) (ga ia pool key : List ℕ) → LieAt groups items 0 0 ps [] ga [] ia
     → Each (λ (p : Placed). Closes (p .group)) ps
     → definitionIn text groups items (length ps) pool key ≡ defOf text (groupsOf ps) pool key
-unfolding definitionIn lineIn defOf last
-definition-placed text groups items ps ga ia pool key l c = go (ltb found n) refl ∙ ap (λ (d : Option Def). orDef d pooled) (sym lines)
+unfolding definitionIn lineIn defOf orElse last
+definition-placed text groups items ps ga ia pool key l c = go (ltb found n) refl ∙ ap (λ (d : Option Def). orElse d pooled) (sym lines)
   where
     n : ℕ
     n = length ps
@@ -255,7 +255,7 @@ definition-placed text groups items ps ga ia pool key l c = go (ltb found n) ref
         ∙ ap (given text groups items n key) up
 
     go : (t : Bool) → ltb found n ≡ t
-        → pick t (some (lineDefIn text groups n found)) pooled ≡ orDef (pick (ltb found n) (some (lineDefIn text groups n found)) none) pooled
+        → pick t (some (lineDefIn text groups n found)) pooled ≡ orElse (pick (ltb found n) (some (lineDefIn text groups n found)) none) pooled
     go true q = rw q
     go false q = rw q
 
