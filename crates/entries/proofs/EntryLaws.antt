@@ -25,7 +25,7 @@ use Rattle.pool.proofs.ReaderLaws.{fields-of-entry}
 use Rattle.pool.proofs.PoolLaws.{pair-there, entry-there}
 use Rattle.source.specs.declared.Year.{Year as SourceYear}
 use Rattle.source.specs.declared.Year.the-variants.{Number as SourceNumber, At as SourceAt, Missing as SourceMissing}
-use Rattle.source.specs.Years.{yearBytes as yearTextOf, ReadsYear}
+use Rattle.source.specs.Years.{writtenYear, ReadsYear}
 use Rattle.source.specs.Entry.{isEmpty, authorBy, authorOf, yearOf}
 use Rattle.definition.specs.declared.Author.{Author}
 use Rattle.definition.specs.declared.Author.the-variants.{InPool, Missing as NoAuthor}
@@ -180,7 +180,7 @@ module _ (s : List ℕ) (i : ℕ) {at e : ℕ} (p : at ≡ offsetOf s i) (q : e 
   author-entry g = record { bytes = λ text. g .bytes text ∙ rw (p, q) refl }
 
   module _ {y : SourceYear} (g : ReadsYear s y (yearOf (entryOf (fieldsOf s at e)))) where
-    given : yearTextOf s y ≡ yearOf (entryAt s i)
+    given : writtenYear s y ≡ yearOf (entryAt s i)
     unfolding entryAt
     given = g .bytes ∙ rw (p, q) refl
 

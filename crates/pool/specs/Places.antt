@@ -5,7 +5,7 @@ use mathlib.Core.List.{List}
 use mathlib.Core.Bool.{true}
 use mathlib.Core.Option.{Option, none, some}
 use lib.ListN.{length}
-use Rattle.base.specs.Lists.{part}
+use Rattle.base.specs.Spans.{bytesOf}
 use Rattle.pool.specs.declared.Found.{Found}
 use Rattle.pool.specs.declared.Found.the-variants.{At, Missing}
 use Rattle.pool.specs.declared.NameParts.{NameParts}
@@ -14,7 +14,7 @@ use Rattle.pool.specs.Entries.{Name}
 
 -- the bytes of a field, if it is there
 abbrev pub bytesAt : List ℕ → Found → Option (List ℕ)
-bytesAt s (At p) = some (part s (p .at) (p .at + p .len))
+bytesAt s (At p) = some (bytesOf s p)
 bytesAt s Missing = none
 
 -- a part that was found lies in the bytes

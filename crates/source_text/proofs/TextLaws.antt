@@ -21,7 +21,7 @@ use Rattle.source.specs.Entry.{yearOf}
 use Rattle.source_parts.specs.Parens.{inParens, yearLen, parensLen}
 use Rattle.source_text.specs.Lengths.{besideLen, bodyOf}
 use Rattle.source_parts.specs.Names.{lenOf}
-use Rattle.source.specs.Years.{yearBytes, YearInside, ReadsYear}
+use Rattle.source.specs.Years.{writtenYear, YearInside, ReadsYear}
 use Rattle.source_text.specs.Room.{Fit}
 use Rattle.source_parts.proofs.NameLaws.{found-length}
 use Rattle.source_parts.proofs.ParensLaws.{parens-length, parens-at-most}
@@ -41,7 +41,7 @@ module _ (s : List ℕ) (y : Year) (o : Option (List ℕ)) where
   pub year-long : {m : ℕ} → ReadsYear s y o → m ≡ parensLen y → m ≡ length (inParens o)
   year-long r e = e ∙ parens-length s y (r .inside) ∙ rw (r .bytes) refl
 
-  pub year-there : {out : List ℕ} (area : List ℕ) → ReadsYear s y o → out ≡ written (inParens (yearBytes s y)) area → out ≡ written (inParens o) area
+  pub year-there : {out : List ℕ} (area : List ℕ) → ReadsYear s y o → out ≡ written (inParens (writtenYear s y)) area → out ≡ written (inParens o) area
   year-there area r e = rw (r .bytes) at e
 
   pub year-in : ReadsYear s y o → YearInside s y
