@@ -21,8 +21,8 @@ use Rattle.decimal.proofs.Laws.{decimal-short}
 use Rattle.decimal.specs.Decimal.{decimal}
 use Rattle.source.specs.Decimal.{signedDecimal}
 use Rattle.source.specs.Entry.{isEmpty, yearBy, yearOf}
-use Rattle.source_text.specs.Text.{beside, addName, namesOf, headOf, ended, sourceTextOf}
-use Rattle.source_parts.specs.Names.{nameBy, nameOf}
+use Rattle.source_text.specs.Text.{beside, addName, namesOf, headOf, ended, bodyOf, sourceTextOf}
+use Rattle.source_parts.specs.Names.{givenPart, familyPart, nameBy, nameOf}
 use Rattle.source_parts.specs.Parens.{inParens}
 use Rattle.source_text.specs.Call.{sourceRefused, sourceWritten, sourceTextCall}
 use Rattle.source_text.specs.Values.{sourceTextNumbers}
@@ -82,10 +82,10 @@ in-name-short t (f ∷ fs) h = go (eqb (f .tag) t) (within 3 5 (f .tag)) (in-nam
     go false false k = omega arith
 
 by-short : (l f g : Option (List ℕ)) → length (Option·getD l []) ≤ 32768 → length (Option·getD f []) ≤ 32768 → length (Option·getD g []) ≤ 32768 → length (nameBy l f g) ≤ 65538
-unfolding nameBy
+unfolding nameBy familyPart givenPart
 by-short (some l) f g a b c = omega arith
 by-short none (some f) (some g) a b c = simp length-append (omega arith)
-by-short none (some f) none a b c = omega arith
+by-short none (some f) none a b c = simp length-append (omega arith)
 by-short none none g a b c = omega arith
 
 name-short : (fs : List Field) → Each Short fs → length (nameOf (nameAfter fs)) ≤ 65538
@@ -167,12 +167,12 @@ module _ (s : List ℕ) (at e : ℕ) (small : length s ≤ 32768) (inside : e �
       omega arith
 
   text-by : length (sourceTextOf entry) < 4294967296
-  unfolding sourceTextOf entryOf
+  unfolding sourceTextOf bodyOf entryOf
   text-by =
       let h = head-by in
       let t = tagged-short 8 (fieldsOf s at e) all-short in
       let b = beside-short (46 ∷ 32 ∷ []) (headOf entry) (Option·getD (entry .title) []) in
-      let d = ended-short (beside (46 ∷ 32 ∷ []) (headOf entry) (Option·getD (entry .title) [])) in
+      let d = ended-short (bodyOf entry) in
       omega arith
 
 entry-text-by : (p : List ℕ) (i : ℕ) → wellFormed p ≡ true → i < countOf p → length (sourceTextOf (entryAt p i)) < 4294967296

@@ -12,8 +12,8 @@ use Rattle.pool.specs.Entries.{fieldWith, inName, nameAfter, nameAt, namesIn, y
 use Rattle.pool.specs.Layout.{entriesGood, laidOut, wellFormed, entryAt}
 use Rattle.decimal.specs.Decimal.{countIn, lastDigits, decimal}
 use Rattle.source.specs.Decimal.{signedDecimal}
-use Rattle.source_text.specs.Text.{beside, addName, namesOf, headOf, ended, sourceTextOf}
-use Rattle.source_parts.specs.Names.{nameBy, nameOf}
+use Rattle.source_text.specs.Text.{beside, addName, namesOf, headOf, ended, bodyOf, sourceTextOf}
+use Rattle.source_parts.specs.Names.{givenPart, familyPart, nameBy, nameOf}
 use Rattle.source.specs.Entry.{yearBy, yearOf}
 use Rattle.source_parts.specs.Parens.{inParens}
 use Rattle.source_text.specs.Call.{sourceRefused, sourceWritten, sourceTextCall}
@@ -35,12 +35,12 @@ ants-good = refl
 -- `Ant, A. (-44). T.`
 ants-text : sourceTextCall ants 0 (7 ∷ 7 ∷ 7 ∷ 7 ∷ 7 ∷ 7 ∷ 7 ∷ 7 ∷ 7 ∷ 7 ∷ 7 ∷ 7 ∷ 7 ∷ 7 ∷ 7 ∷ 7 ∷ 7 ∷ 7 ∷ [])
     ≡ record { number = 0; bytes = 17; area = 65 ∷ 110 ∷ 116 ∷ 44 ∷ 32 ∷ 65 ∷ 46 ∷ 32 ∷ 40 ∷ 45 ∷ 52 ∷ 52 ∷ 41 ∷ 46 ∷ 32 ∷ 84 ∷ 46 ∷ 7 ∷ [] }
-unfolding wellFormed laidOut entriesGood goodFrom fill fillIn fieldsOf fieldsIn fieldsGood fieldAt fieldEnd follows contentGood utf8 utf8In charWidth part leAt sourceTextCall sourceWritten entryAt entryOf fieldWith namesIn nameAt nameAfter inName yearIn signedOf sourceTextOf headOf namesOf addName nameOf nameBy beside yearOf yearBy inParens ended signedDecimal decimal lastDigits countIn fold written
+unfolding wellFormed laidOut entriesGood goodFrom fill fillIn fieldsOf fieldsIn fieldsGood fieldAt fieldEnd follows contentGood utf8 utf8In charWidth part leAt sourceTextCall sourceWritten entryAt entryOf fieldWith namesIn nameAt nameAfter inName yearIn signedOf sourceTextOf bodyOf headOf namesOf addName nameOf nameBy familyPart givenPart beside yearOf yearBy inParens ended signedDecimal decimal lastDigits countIn fold written
 ants-text = refl
 
 -- 10, 8, 7, and 8 with no pool
 ants-short : sourceTextCall ants 0 (7 ∷ []) ≡ sourceRefused 10 (7 ∷ [])
-unfolding wellFormed laidOut entriesGood goodFrom fill fillIn fieldsOf fieldsIn fieldsGood fieldAt fieldEnd follows contentGood utf8 utf8In charWidth part leAt sourceTextCall sourceWritten entryAt entryOf fieldWith namesIn nameAt nameAfter inName yearIn signedOf sourceTextOf headOf namesOf addName nameOf nameBy beside yearOf yearBy inParens ended signedDecimal decimal lastDigits countIn fold written
+unfolding wellFormed laidOut entriesGood goodFrom fill fillIn fieldsOf fieldsIn fieldsGood fieldAt fieldEnd follows contentGood utf8 utf8In charWidth part leAt sourceTextCall sourceWritten entryAt entryOf fieldWith namesIn nameAt nameAfter inName yearIn signedOf sourceTextOf bodyOf headOf namesOf addName nameOf nameBy familyPart givenPart beside yearOf yearBy inParens ended signedDecimal decimal lastDigits countIn fold written
 ants-short = refl
 
 ants-one : sourceTextCall ants 1 [] ≡ sourceRefused 8 []
