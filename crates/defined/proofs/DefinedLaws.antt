@@ -18,31 +18,16 @@ use Rattle.definition.specs.Parts.{authorBytes, yearBytes}
 use Rattle.definition.specs.Defs.{lineDef, entryDef, defAuthor, defYear}
 use Rattle.defined.specs.declared.Defined.{Defined}
 use Rattle.defined.specs.declared.Defined.the-variants.{Line, Entry as EntryOf, Nothing}
-use Rattle.defined.specs.Definitions.{lineIn, lineDefIn, definitionIn}
+use Rattle.defined.specs.Lines.{lineIn, lineDefIn}
+use Rattle.defined.specs.Definitions.{definitionIn}
 use Rattle.records.specs.Records.{closeOfRecord, nextIn}
 use Rattle.defined.specs.Defined.{definedAs, foundIn, DefinedIn}
 use Rattle.entries.specs.Entries.{entryIn, GivesAuthor, GivesYear}
-use Rattle.entries.proofs.EntryLaws.{entry-given, entry-not}
 use Rattle.defined.proofs.Clips.{attributes-past, attributes-clip}
 
 -- the definition of a key --------------------------------------------------------------------------------------------------------
 
-module _ (text pool groups items key : List ℕ) (n : ℕ) {g : ℕ} (p : g ≡ lineIn text groups items n key) where
-  pub find-line : g < n → definedAs text pool groups n (Line g) ≡ definitionIn text groups items n pool key
-  unfolding definedAs definitionIn
-  find-line h = rw (← p, lt-ltb g n h) refl
-
-  pub find-entry : {i m : ℕ} → n ≤ g → i ≡ entryIn pool key → m ≡ countOf pool → i < m
-      → definedAs text pool groups n (EntryOf i) ≡ definitionIn text groups items n pool key
-  unfolding definedAs definitionIn
-  find-entry h q r l = rw (← p, le-ltb g n h) (sym (entry-given pool key q r l))
-
-  pub find-nothing : {i m : ℕ} → n ≤ g → i ≡ entryIn pool key → m ≡ countOf pool → m ≤ i
-      → definedAs text pool groups n Nothing ≡ definitionIn text groups items n pool key
-  unfolding definedAs definitionIn
-  find-nothing h q r l = rw (← p, le-ltb g n h) (sym (entry-not pool key q r l))
-
--- and which it is
+-- which it is
 module _ (text pool groups items key : List ℕ) (n : ℕ) {g : ℕ} (p : g ≡ lineIn text groups items n key) where
   pub found-line : g < n → Line g ≡ foundIn text pool groups items n key
   unfolding foundIn
@@ -57,10 +42,16 @@ module _ (text pool groups items key : List ℕ) (n : ℕ) {g : ℕ} (p : g ≡ 
     unfolding foundIn
     found-nothing l = rw (← p, le-ltb g n h, ← q, ← r, le-ltb i m l) refl
 
+-- and what it is then
+pub find-is : (text pool groups items key : List ℕ) (n : ℕ) {d : Defined} → d ≡ foundIn text pool groups items n key
+    → definedAs text pool groups n d ≡ definitionIn text groups items n pool key
+unfolding definitionIn
+find-is text pool groups items key n p = rw p refl
+
 pub below-count : (pool : List ℕ) {i m : ℕ} → m ≡ countOf pool → i < m → i < countOf pool
 below-count pool p h = omega arith
 
-pub ruleset find-laws = (find-line, find-entry, find-nothing, found-line, found-entry, found-nothing, below-count)
+pub ruleset find-laws = (find-is, found-line, found-entry, found-nothing, below-count)
 
 -- the author and the year of a line ----------------------------------------------------------------------------------------------
 

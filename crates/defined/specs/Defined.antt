@@ -8,7 +8,7 @@ use Rattle.pool.specs.Layout.{countOf, entryAt}
 use Rattle.definition.specs.Defs.{Def, entryDef}
 use Rattle.defined.specs.declared.Defined.{Defined}
 use Rattle.defined.specs.declared.Defined.the-variants.{Line, Entry as EntryOf, Nothing}
-use Rattle.defined.specs.Definitions.{lineIn, lineDefIn}
+use Rattle.defined.specs.Lines.{lineIn, lineDefIn}
 use Rattle.records.specs.Records.{groupField, keyIn}
 use Rattle.entries.specs.Entries.{entryIn}
 

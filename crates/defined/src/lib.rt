@@ -11,7 +11,8 @@ ghost use Prim.Native.Nat.{ℕ, _<_};
 ghost use Rattle.pool.specs.Layout.{wellFormed};
 ghost use Rattle.definition.specs.Defs.{defAuthor, defYear};
 ghost use Rattle.definition.specs.Parts.{authorBytes, yearBytes};
-ghost use Rattle.defined.specs.Definitions.{definitionIn, lineDefIn, LinesBelow};
+ghost use Rattle.defined.specs.Lines.{lineDefIn};
+ghost use Rattle.defined.specs.Definitions.{definitionIn, LinesBelow};
 ghost use Rattle.defined.specs.Defined.{definedAs, foundIn, DefinedIn};
 
 // What defines a key: the line that a group starts, by the group's number, or an entry of the pool, by its number.

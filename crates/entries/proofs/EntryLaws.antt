@@ -128,18 +128,10 @@ first-given s key (suc n) i = go (entryHas s key i) refl
     go true q rec = rw (q, lt-ltb i (i + suc n) (omega arith)) refl
     go false q rec = rw (q, ← z) rec
 
-pub entry-given : (s key : List ℕ) {i m : ℕ} → i ≡ entryIn s key → m ≡ countOf s → i < m
-    → firstEntry key 0 (entriesOf s) ≡ some (entryDef i (entryAt s i))
+pub first-entry : (s key : List ℕ)
+    → firstEntry key 0 (entriesOf s) ≡ pick (ltb (entryIn s key) (countOf s)) (some (entryDef (entryIn s key) (entryAt s (entryIn s key)))) none
 unfolding entryIn entriesOf entryGiven
-entry-given s key {i} {m} p q h =
-    let z : 0 + countOf s ≡ countOf s = omega arith in
-    first-given s key (countOf s) 0 ∙ rw (z, ← p, ← q, lt-ltb i m h) refl
-
-pub entry-not : (s key : List ℕ) {i m : ℕ} → i ≡ entryIn s key → m ≡ countOf s → m ≤ i → firstEntry key 0 (entriesOf s) ≡ none
-unfolding entryIn entriesOf entryGiven
-entry-not s key {i} {m} p q h =
-    let z : 0 + countOf s ≡ countOf s = omega arith in
-    first-given s key (countOf s) 0 ∙ rw (z, ← p, ← q, le-ltb i m h) refl
+first-entry s key = let z : 0 + countOf s ≡ countOf s = omega arith in rw z at (first-given s key (countOf s) 0)
 
 -- authors ------------------------------------------------------------------------------------------------------------------------
 
