@@ -29,22 +29,22 @@ use Rattle.defined.proofs.Clips.{attributes-past, attributes-clip}
 
 -- which it is
 module _ (text pool groups items key : List ℕ) (n : ℕ) {g : ℕ} (p : g ≡ lineIn text groups items n key) where
-  pub found-line : g < n → Line g ≡ foundIn text pool groups items n key
+  pub found-line : g < n → Line g ≡ foundIn text groups items n pool key
   unfolding foundIn
   found-line h = rw (← p, lt-ltb g n h) refl
 
   module _ {i m : ℕ} (h : n ≤ g) (q : i ≡ entryIn pool key) (r : m ≡ countOf pool) where
-    pub found-entry : i < m → EntryOf i ≡ foundIn text pool groups items n key
+    pub found-entry : i < m → EntryOf i ≡ foundIn text groups items n pool key
     unfolding foundIn
     found-entry l = rw (← p, le-ltb g n h, ← q, ← r, lt-ltb i m l) refl
 
-    pub found-nothing : m ≤ i → Nothing ≡ foundIn text pool groups items n key
+    pub found-nothing : m ≤ i → Nothing ≡ foundIn text groups items n pool key
     unfolding foundIn
     found-nothing l = rw (← p, le-ltb g n h, ← q, ← r, le-ltb i m l) refl
 
 -- and what it is then
-pub find-is : (text pool groups items key : List ℕ) (n : ℕ) {d : Defined} → d ≡ foundIn text pool groups items n key
-    → definedAs text pool groups n d ≡ definitionIn text groups items n pool key
+pub find-is : (text pool groups items key : List ℕ) (n : ℕ) {d : Defined} → d ≡ foundIn text groups items n pool key
+    → definedAs text groups n pool d ≡ definitionIn text groups items n pool key
 unfolding definitionIn
 find-is text pool groups items key n p = rw p refl
 
@@ -113,30 +113,30 @@ module _ (text pool groups : List ℕ) (n : ℕ) {d : Defined} where
   entry-there w p = rw p at w
 
   pub author-of-line : {g : ℕ} (r : Author) → d ≡ Line g → ((pool : List ℕ) → authorBytes text pool r ≡ lineDefIn text groups n g .author)
-      → authorBytes text pool r ≡ defAuthor (definedAs text pool groups n d)
+      → authorBytes text pool r ≡ defAuthor (definedAs text groups n pool d)
   unfolding definedAs
   author-of-line r p a = rw p (a pool)
 
   pub author-of-entry : {i : ℕ} {r : Author} → d ≡ EntryOf i → GivesAuthor pool r (authorOf (entryAt pool i))
-      → authorBytes text pool r ≡ defAuthor (definedAs text pool groups n d)
+      → authorBytes text pool r ≡ defAuthor (definedAs text groups n pool d)
   unfolding definedAs entryDef
   author-of-entry p a = rw p (a .bytes text)
 
-  pub author-of-nothing : d ≡ Nothing → authorBytes text pool Missing ≡ defAuthor (definedAs text pool groups n d)
+  pub author-of-nothing : d ≡ Nothing → authorBytes text pool Missing ≡ defAuthor (definedAs text groups n pool d)
   unfolding definedAs authorBytes
   author-of-nothing p = rw p refl
 
   pub year-of-line : {g : ℕ} (r : Year) → d ≡ Line g → ((pool : List ℕ) → yearBytes text pool r ≡ lineDefIn text groups n g .year)
-      → yearBytes text pool r ≡ defYear (definedAs text pool groups n d)
+      → yearBytes text pool r ≡ defYear (definedAs text groups n pool d)
   unfolding definedAs
   year-of-line r p a = rw p (a pool)
 
   pub year-of-entry : {i : ℕ} {r : Year} → d ≡ EntryOf i → GivesYear pool r (yearOf (entryAt pool i))
-      → yearBytes text pool r ≡ defYear (definedAs text pool groups n d)
+      → yearBytes text pool r ≡ defYear (definedAs text groups n pool d)
   unfolding definedAs entryDef
   year-of-entry p a = rw p (a .bytes text)
 
-  pub year-of-nothing : d ≡ Nothing → yearBytes text pool NoYear ≡ defYear (definedAs text pool groups n d)
+  pub year-of-nothing : d ≡ Nothing → yearBytes text pool NoYear ≡ defYear (definedAs text groups n pool d)
   unfolding definedAs yearBytes
   year-of-nothing p = rw p refl
 

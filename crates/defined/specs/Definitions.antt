@@ -10,7 +10,7 @@ use Rattle.defined.specs.Defined.{definedAs, foundIn}
 
 -- "The last definition line of a key wins; else the first pool entry with that id; an empty id defines nothing."
 unfoldable pub definitionIn : List ℕ → List ℕ → List ℕ → ℕ → List ℕ → List ℕ → Option Def
-definitionIn text groups items n pool key = definedAs text pool groups n (foundIn text pool groups items n key)
+definitionIn text groups items n pool key = definedAs text groups n pool (foundIn text groups items n pool key)
 
 -- Of the first `n` group records, all that start a definition line lie below `lines`: the search for the last of a key may begin there.
 pub record LinesBelow (text groups items : List ℕ) (n lines : ℕ) : Type 0 where

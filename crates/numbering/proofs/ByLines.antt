@@ -70,7 +70,7 @@ module _ (text groups otherGroups items otherItems : List ℕ) (h : SameGroups g
   unfolding lineDefIn nextIn
   line-same n g = rw (close-same groups otherGroups g h, h (g + 1) 0 (omega arith))
 
-  as-same : (n : ℕ) (pool : List ℕ) (d : Defined) → definedAs text pool groups n d ≡ definedAs text pool otherGroups n d
+  as-same : (n : ℕ) (pool : List ℕ) (d : Defined) → definedAs text groups n pool d ≡ definedAs text otherGroups n pool d
   unfolding definedAs
   as-same n pool (Line g) = rw (line-same n g) refl
   as-same n pool (EntryOf i) = refl
@@ -81,7 +81,7 @@ module _ (text groups otherGroups items otherItems : List ℕ) (h : SameGroups g
   unfolding definitionIn foundIn lineIn
   definition-same n pool key =
       let e = last-same (definesKeyIn text groups items key) (definesKeyIn text otherGroups otherItems key) n n (λ j l. defines-same key j) in
-      rw e (as-same n pool (foundIn text pool otherGroups otherItems n key))
+      rw e (as-same n pool (foundIn text otherGroups otherItems n pool key))
 
 -- one item and one group -------------------------------------------------------------------------------------------------------------
 
@@ -272,7 +272,7 @@ definition-placed text groups items ps ga ia pool key l c =
     entry = entryIn pool key
 
     go : (t : Bool) → ltb found n ≡ t → (u : Bool)
-        → definedAs text pool groups n (pick t (Line found) (pick u (EntryOf entry) Nothing))
+        → definedAs text groups n pool (pick t (Line found) (pick u (EntryOf entry) Nothing))
         ≡ orElse (pick (ltb found n) (some (lineDefIn text groups n found)) none) (pick u (some (entryDef entry (entryAt pool entry))) none)
     go true q u = rw q
     go false q true = rw q

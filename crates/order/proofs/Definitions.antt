@@ -43,7 +43,7 @@ module _ (text pool groups items key : List ℕ) (n : ℕ) where
   entry = entryIn pool key
 
   abbrev found : Defined
-  found = foundIn text pool groups items n key
+  found = foundIn text groups items n pool key
 
   -- one of three
   found-by : (P : Defined → Type 0) → (line < n → P (Line line)) → (n ≤ line → entry < countOf pool → P (EntryOf entry))
@@ -75,7 +75,7 @@ module _ (text pool groups items key : List ℕ) (n : ℕ) where
   found-key : isDefined (definitionIn text groups items n pool key) ≡ true → keyBy text pool groups items found ≡ key
   unfolding definitionIn definedAs
   found-key =
-      found-by (λ d. isDefined (definedAs text pool groups n d) ≡ true → keyBy text pool groups items d ≡ key)
+      found-by (λ d. isDefined (definedAs text groups n pool d) ≡ true → keyBy text pool groups items d ≡ key)
       (λ h t. line-key h) (λ h l t. entry-key l) (λ h l t. absurd (true≢false (sym t)))
 
 -- the definition that has the number of one
@@ -109,7 +109,7 @@ module _ (text pool groups items : List ℕ) (n m : ℕ) where
   K = sourceKeyIn text pool groups items n m
 
   -- the definition of a source
-  its-definition : (k : ℕ) → definitionAt pool n (D k) ≡ foundIn text pool groups items n (K k)
+  its-definition : (k : ℕ) → definitionAt pool n (D k) ≡ foundIn text groups items n pool (K k)
   unfolding definitionOf
   its-definition k = at-number pool n (found text pool groups items (K k) n) (found-there text pool groups items (K k) n)
 
