@@ -6,7 +6,7 @@ use mathlib.Core.List.{List, []}
 use mathlib.Core.Option.{none}
 use lib.ListN.{length}
 use borrow.Author.Tests.{lt-ltb, le-ltb}
-use Rattle.pool.specs.Layout.{countOf}
+use Rattle.pool.specs.Layout.{countOf, entryAt}
 use Rattle.source.specs.Entry.{authorOf, yearOf}
 use Rattle.definition.specs.declared.Author.{Author}
 use Rattle.definition.specs.declared.Author.the-variants.{Missing}
@@ -18,49 +18,40 @@ use Rattle.definition.specs.Parts.{authorBytes, yearBytes}
 use Rattle.definition.specs.Defs.{lineDef, entryDef, defAuthor, defYear}
 use Rattle.defined.specs.declared.Defined.{Defined}
 use Rattle.defined.specs.declared.Defined.the-variants.{Line, Entry as EntryOf, Nothing}
-use Rattle.defined.specs.Definitions.{lineIn, lineDefIn, definitionIn}
+use Rattle.defined.specs.Lines.{lineIn, lineDefIn}
+use Rattle.defined.specs.Definitions.{definitionIn}
 use Rattle.records.specs.Records.{closeOfRecord, nextIn}
 use Rattle.defined.specs.Defined.{definedAs, foundIn, DefinedIn}
-use Rattle.entries.specs.Entries.{entryAt, entryIn, GivesAuthor, GivesYear}
-use Rattle.entries.proofs.EntryLaws.{entry-given, entry-not}
+use Rattle.entries.specs.Entries.{entryIn, GivesAuthor, GivesYear}
 use Rattle.defined.proofs.Clips.{attributes-past, attributes-clip}
 
 -- the definition of a key --------------------------------------------------------------------------------------------------------
 
+-- which it is
 module _ (text pool groups items key : List ℕ) (n : ℕ) {g : ℕ} (p : g ≡ lineIn text groups items n key) where
-  pub find-line : g < n → definedAs text pool groups n (Line g) ≡ definitionIn text groups items n pool key
-  unfolding definedAs definitionIn
-  find-line h = rw (← p, lt-ltb g n h) refl
-
-  pub find-entry : {i m : ℕ} → n ≤ g → i ≡ entryIn pool key → m ≡ countOf pool → i < m
-      → definedAs text pool groups n (EntryOf i) ≡ definitionIn text groups items n pool key
-  unfolding definedAs definitionIn
-  find-entry h q r l = rw (← p, le-ltb g n h) (sym (entry-given pool key q r l))
-
-  pub find-nothing : {i m : ℕ} → n ≤ g → i ≡ entryIn pool key → m ≡ countOf pool → m ≤ i
-      → definedAs text pool groups n Nothing ≡ definitionIn text groups items n pool key
-  unfolding definedAs definitionIn
-  find-nothing h q r l = rw (← p, le-ltb g n h) (sym (entry-not pool key q r l))
-
--- and which it is
-module _ (text pool groups items key : List ℕ) (n : ℕ) {g : ℕ} (p : g ≡ lineIn text groups items n key) where
-  pub found-line : g < n → Line g ≡ foundIn text pool groups items n key
+  pub found-line : g < n → Line g ≡ foundIn text groups items n pool key
   unfolding foundIn
   found-line h = rw (← p, lt-ltb g n h) refl
 
   module _ {i m : ℕ} (h : n ≤ g) (q : i ≡ entryIn pool key) (r : m ≡ countOf pool) where
-    pub found-entry : i < m → EntryOf i ≡ foundIn text pool groups items n key
+    pub found-entry : i < m → EntryOf i ≡ foundIn text groups items n pool key
     unfolding foundIn
     found-entry l = rw (← p, le-ltb g n h, ← q, ← r, lt-ltb i m l) refl
 
-    pub found-nothing : m ≤ i → Nothing ≡ foundIn text pool groups items n key
+    pub found-nothing : m ≤ i → Nothing ≡ foundIn text groups items n pool key
     unfolding foundIn
     found-nothing l = rw (← p, le-ltb g n h, ← q, ← r, le-ltb i m l) refl
+
+-- and what it is then
+pub find-is : (text pool groups items key : List ℕ) (n : ℕ) {d : Defined} → d ≡ foundIn text groups items n pool key
+    → definedAs text groups n pool d ≡ definitionIn text groups items n pool key
+unfolding definitionIn
+find-is text pool groups items key n p = rw p refl
 
 pub below-count : (pool : List ℕ) {i m : ℕ} → m ≡ countOf pool → i < m → i < countOf pool
 below-count pool p h = omega arith
 
-pub ruleset find-laws = (find-line, find-entry, find-nothing, found-line, found-entry, found-nothing, below-count)
+pub ruleset find-laws = (find-is, found-line, found-entry, found-nothing, below-count)
 
 -- the author and the year of a line ----------------------------------------------------------------------------------------------
 
@@ -122,30 +113,30 @@ module _ (text pool groups : List ℕ) (n : ℕ) {d : Defined} where
   entry-there w p = rw p at w
 
   pub author-of-line : {g : ℕ} (r : Author) → d ≡ Line g → ((pool : List ℕ) → authorBytes text pool r ≡ lineDefIn text groups n g .author)
-      → authorBytes text pool r ≡ defAuthor (definedAs text pool groups n d)
+      → authorBytes text pool r ≡ defAuthor (definedAs text groups n pool d)
   unfolding definedAs
   author-of-line r p a = rw p (a pool)
 
   pub author-of-entry : {i : ℕ} {r : Author} → d ≡ EntryOf i → GivesAuthor pool r (authorOf (entryAt pool i))
-      → authorBytes text pool r ≡ defAuthor (definedAs text pool groups n d)
+      → authorBytes text pool r ≡ defAuthor (definedAs text groups n pool d)
   unfolding definedAs entryDef
   author-of-entry p a = rw p (a .bytes text)
 
-  pub author-of-nothing : d ≡ Nothing → authorBytes text pool Missing ≡ defAuthor (definedAs text pool groups n d)
+  pub author-of-nothing : d ≡ Nothing → authorBytes text pool Missing ≡ defAuthor (definedAs text groups n pool d)
   unfolding definedAs authorBytes
   author-of-nothing p = rw p refl
 
   pub year-of-line : {g : ℕ} (r : Year) → d ≡ Line g → ((pool : List ℕ) → yearBytes text pool r ≡ lineDefIn text groups n g .year)
-      → yearBytes text pool r ≡ defYear (definedAs text pool groups n d)
+      → yearBytes text pool r ≡ defYear (definedAs text groups n pool d)
   unfolding definedAs
   year-of-line r p a = rw p (a pool)
 
   pub year-of-entry : {i : ℕ} {r : Year} → d ≡ EntryOf i → GivesYear pool r (yearOf (entryAt pool i))
-      → yearBytes text pool r ≡ defYear (definedAs text pool groups n d)
+      → yearBytes text pool r ≡ defYear (definedAs text groups n pool d)
   unfolding definedAs entryDef
   year-of-entry p a = rw p (a .bytes text)
 
-  pub year-of-nothing : d ≡ Nothing → yearBytes text pool NoYear ≡ defYear (definedAs text pool groups n d)
+  pub year-of-nothing : d ≡ Nothing → yearBytes text pool NoYear ≡ defYear (definedAs text groups n pool d)
   unfolding definedAs yearBytes
   year-of-nothing p = rw p refl
 

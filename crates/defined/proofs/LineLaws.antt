@@ -12,7 +12,8 @@ use Rattle.base.specs.Last.{last}
 use Rattle.base.specs.Lists.{same}
 use Rattle.definition_line.specs.Lines.{startsLine, colonAfter}
 use Rattle.definition_line.proofs.Laws.{colon-cut}
-use Rattle.defined.specs.Definitions.{definesIn, definesKeyIn, lineIn, LinesBelow}
+use Rattle.defined.specs.Lines.{definesIn, definesKeyIn, lineIn}
+use Rattle.defined.specs.Definitions.{LinesBelow}
 use Rattle.records.specs.Records.{groupField, keyIn, bareIn, closeOfRecord}
 use Rattle.base.proofs.Bools.{split}
 use Rattle.base.proofs.Lasts.{last-out, last-stop, last-more}

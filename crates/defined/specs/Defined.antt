@@ -4,19 +4,19 @@ use mathlib.Core.List.{List, []}
 use mathlib.Core.Option.{Option, none, some}
 use lib.Dec.{ltb}
 use Rattle.base.specs.Pick.{pick}
-use Rattle.pool.specs.Layout.{countOf}
+use Rattle.pool.specs.Layout.{countOf, entryAt}
 use Rattle.definition.specs.Defs.{Def, entryDef}
 use Rattle.defined.specs.declared.Defined.{Defined}
 use Rattle.defined.specs.declared.Defined.the-variants.{Line, Entry as EntryOf, Nothing}
-use Rattle.defined.specs.Definitions.{lineIn, lineDefIn}
+use Rattle.defined.specs.Lines.{lineIn, lineDefIn}
 use Rattle.records.specs.Records.{groupField, keyIn}
-use Rattle.entries.specs.Entries.{entryAt, entryIn}
+use Rattle.entries.specs.Entries.{entryIn}
 
 -- the definition that was found
-unfoldable pub definedAs : List ℕ → List ℕ → List ℕ → ℕ → Defined → Option Def
-definedAs text pool groups n (Line g) = some (lineDefIn text groups n g)
-definedAs text pool groups n (EntryOf i) = some (entryDef i (entryAt pool i))
-definedAs text pool groups n Nothing = none
+unfoldable pub definedAs : List ℕ → List ℕ → ℕ → List ℕ → Defined → Option Def
+definedAs text groups n pool (Line g) = some (lineDefIn text groups n g)
+definedAs text groups n pool (EntryOf i) = some (entryDef i (entryAt pool i))
+definedAs text groups n pool Nothing = none
 
 -- it is one of `n` groups, or of the pool's entries
 abbrev pub DefinedIn : List ℕ → ℕ → Defined → Type 0
@@ -25,8 +25,8 @@ DefinedIn pool n (EntryOf i) = i < countOf pool
 DefinedIn pool n Nothing = Unit {0}
 
 -- "The last definition line of a key wins; else the first pool entry with that id": what the key is defined by
-unfoldable pub foundIn : List ℕ → List ℕ → List ℕ → List ℕ → ℕ → List ℕ → Defined
-foundIn text pool groups items n key =
+unfoldable pub foundIn : List ℕ → List ℕ → List ℕ → ℕ → List ℕ → List ℕ → Defined
+foundIn text groups items n pool key =
     pick (ltb (lineIn text groups items n key) n)
     (Line (lineIn text groups items n key))
     (pick (ltb (entryIn pool key) (countOf pool)) (EntryOf (entryIn pool key)) Nothing)

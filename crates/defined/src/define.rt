@@ -2,7 +2,8 @@
 ghost use mathlib.Core.Path.{_≡_};
 ghost use Prim.Native.Nat.{_<_};
 ghost use Rattle.definition_line.specs.Lines.{startsLine, colonAfter};
-ghost use Rattle.defined.specs.Definitions.{definesIn, definesKeyIn, lineIn, LinesBelow};
+ghost use Rattle.defined.specs.Lines.{definesIn, definesKeyIn, lineIn};
+ghost use Rattle.defined.specs.Definitions.{LinesBelow};
 
 // Whether a line starts at the place `at`, which may lie past the text.
 fn starts(text: &[u8], at: usize) -> bool

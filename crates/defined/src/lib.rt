@@ -11,7 +11,8 @@ ghost use Prim.Native.Nat.{ℕ, _<_};
 ghost use Rattle.pool.specs.Layout.{wellFormed};
 ghost use Rattle.definition.specs.Defs.{defAuthor, defYear};
 ghost use Rattle.definition.specs.Parts.{authorBytes, yearBytes};
-ghost use Rattle.defined.specs.Definitions.{definitionIn, lineDefIn, LinesBelow};
+ghost use Rattle.defined.specs.Lines.{lineDefIn};
+ghost use Rattle.defined.specs.Definitions.{definitionIn, LinesBelow};
 ghost use Rattle.defined.specs.Defined.{definedAs, foundIn, DefinedIn};
 
 // What defines a key: the line that a group starts, by the group's number, or an entry of the pool, by its number.
@@ -32,9 +33,9 @@ pub fn find(
     key: &[u8],
 ) -> Defined
     requires { ⌜ (n < 4294967296) × (wellFormed (now pool) ≡ true) × LinesBelow (now text) (now groups) (now items) n lines ⌝ }
-    ensures { λ r. ⌜ definedAs (now (text .entry)) (now (pool .entry)) (now (groups .entry)) n r ≡ definitionIn (now (text .entry)) (now (groups .entry)) (now (items .entry)) n (now (pool .entry)) (now (key .entry)) ⌝ }
+    ensures { λ r. ⌜ definedAs (now (text .entry)) (now (groups .entry)) n (now (pool .entry)) r ≡ definitionIn (now (text .entry)) (now (groups .entry)) (now (items .entry)) n (now (pool .entry)) (now (key .entry)) ⌝ }
     ensures within { λ r. ⌜ DefinedIn (now (pool .entry)) n r ⌝ }
-    ensures found { λ r. ⌜ r ≡ foundIn (now (text .entry)) (now (pool .entry)) (now (groups .entry)) (now (items .entry)) n (now (key .entry)) ⌝ }
+    ensures found { λ r. ⌜ r ≡ foundIn (now (text .entry)) (now (groups .entry)) (now (items .entry)) n (now (pool .entry)) (now (key .entry)) ⌝ }
 {
     let group = define::line_in(text, groups, items, n, lines, key);
     if group < n {
@@ -86,7 +87,7 @@ fn line_year(text: &[u8], groups: &[u16], n: usize, g: usize) -> Year
 // The author by what was found.
 pub fn author_in(text: &[u8], pool: &[u8], groups: &[u16], n: usize, d: Defined) -> Author
     requires { ⌜ (n < 4294967296) × (wellFormed (now pool) ≡ true) × DefinedIn (now pool) n d ⌝ }
-    ensures { λ r. ⌜ authorBytes (now (text .entry)) (now (pool .entry)) r ≡ defAuthor (definedAs (now (text .entry)) (now (pool .entry)) (now (groups .entry)) n d) ⌝ }
+    ensures { λ r. ⌜ authorBytes (now (text .entry)) (now (pool .entry)) r ≡ defAuthor (definedAs (now (text .entry)) (now (groups .entry)) n (now (pool .entry)) d) ⌝ }
 {
     match d {
         Defined::Line { group } => line_author(text, groups, n, group),
@@ -98,7 +99,7 @@ pub fn author_in(text: &[u8], pool: &[u8], groups: &[u16], n: usize, d: Defined)
 // The year by what was found.
 pub fn year_in(text: &[u8], pool: &[u8], groups: &[u16], n: usize, d: Defined) -> Year
     requires { ⌜ (n < 4294967296) × (wellFormed (now pool) ≡ true) × DefinedIn (now pool) n d ⌝ }
-    ensures { λ r. ⌜ yearBytes (now (text .entry)) (now (pool .entry)) r ≡ defYear (definedAs (now (text .entry)) (now (pool .entry)) (now (groups .entry)) n d) ⌝ }
+    ensures { λ r. ⌜ yearBytes (now (text .entry)) (now (pool .entry)) r ≡ defYear (definedAs (now (text .entry)) (now (groups .entry)) n (now (pool .entry)) d) ⌝ }
 {
     match d {
         Defined::Line { group } => line_year(text, groups, n, group),

@@ -1,38 +1,39 @@
 -- Entries of the pool, in the form of the needs.
 use Prim.Native.Nat.{ℕ, zero, suc, _+_, _-_, _≤_, _<_}
+use native.Mathlib.Numerals.{add-one}
 use native.Mathlib.Omega.{arith}
 use mathlib.Core.Path.{_≡_, refl, sym, _∙_, ap}
-use mathlib.Core.List.{List, [], _∷_}
+use mathlib.Core.List.{List, [], _∷_, map}
 use mathlib.Core.Bool.{Bool, true, false, not, _&&_}
-use mathlib.Core.Option.{Option, none, some, Option·getD}
+use mathlib.Core.Option.{Option, none, some, orElse, Option·getD}
 use lib.ListN.{length, take, drop}
 use lib.Dec.{leb, ltb}
 use borrow.Author.Tests.{lt-ltb, le-ltb, eq-eqb, ne-eqb}
 use Rattle.base.specs.Pick.{pick}
 use Rattle.base.specs.First.{first}
-use Rattle.base.specs.Lists.{byteAt, part, same}
+use Rattle.base.specs.Lists.{byteAt, part, same, upFrom}
 use Rattle.base.specs.declared.Span.{Span}
 use Rattle.pool.specs.declared.Found.{Found}
 use Rattle.pool.specs.declared.Found.the-variants.{At, Missing}
 use Rattle.pool.specs.declared.NameParts.{NameParts}
 use Rattle.pool.specs.Fields.{fieldAt, fieldEnd, fieldsOf}
 use Rattle.pool.specs.Entries.{Name, fieldWith, nameAfter, nameAt, namesIn, entryOf}
-use Rattle.pool.specs.Layout.{countOf, offsetOf, endOf, wellFormed, entriesIn, entriesOf}
+use Rattle.pool.specs.Layout.{countOf, offsetOf, endOf, wellFormed, entryAt, entriesOf}
 use Rattle.pool.specs.Places.{Reads, ReadsName, FieldsIn, EntryIn}
 use Rattle.pool.proofs.FieldLaws.{fields-next, fields-end}
 use Rattle.pool.proofs.ReaderLaws.{fields-of-entry}
 use Rattle.pool.proofs.PoolLaws.{pair-there, entry-there}
 use Rattle.source.specs.declared.Year.{Year as SourceYear}
 use Rattle.source.specs.declared.Year.the-variants.{Number as SourceNumber, At as SourceAt, Missing as SourceMissing}
-use Rattle.source.specs.Years.{yearBytes as yearTextOf, ReadsYear}
-use Rattle.source.specs.Entry.{isEmpty, orBytes, authorBy, authorOf, yearOf}
+use Rattle.source.specs.Years.{writtenYear, ReadsYear}
+use Rattle.source.specs.Entry.{isEmpty, authorBy, authorOf, yearOf}
 use Rattle.definition.specs.declared.Author.{Author}
 use Rattle.definition.specs.declared.Author.the-variants.{InPool, Missing as NoAuthor}
 use Rattle.definition.specs.declared.Year.the-variants.{InPool as YearInPool, Number, Missing as NoYear}
 use Rattle.definition.specs.Parts.{authorBytes, yearBytes}
 use Rattle.definition.specs.Defs.{Def, entryDef, entryDefines, firstEntry}
 use Rattle.base.proofs.Searches.{first-out, first-stop, first-more}
-use Rattle.entries.specs.Entries.{entryAt, entryHas, entryIn, GivesAuthor, GivesYear}
+use Rattle.entries.specs.Entries.{entryHas, entryIn, GivesAuthor, GivesYear}
 
 -- ids ----------------------------------------------------------------------------------------------------------------------------
 
@@ -110,55 +111,48 @@ pub ruleset entry-laws = (entry-start, entry-out, entry-stop, entry-more)
 unfoldable entryGiven : List ℕ → ℕ → ℕ → Option Def
 entryGiven s e i = pick (ltb i e) (some (entryDef i (entryAt s i))) none
 
-first-given : (s key : List ℕ) (n i : ℕ) → firstEntry key i (entriesIn n s i) ≡ entryGiven s (i + n) (first (entryHas s key) n i)
-unfolding entriesIn firstEntry first entryGiven entryHas entryAt
+first-given : (s key : List ℕ) (n i : ℕ) → firstEntry key i (map (entryAt s) (upFrom i n)) ≡ entryGiven s (i + n) (first (entryHas s key) n i)
+unfolding upFrom firstEntry first entryGiven entryHas
 first-given s key zero i = rw (le-ltb i (i + 0) (omega arith)) refl
-first-given s key (suc n) i = go (entryHas s key i) refl (first-given s key n (i + 1))
+first-given s key (suc n) i = go (entryHas s key i) refl
+    (ap (λ (k : ℕ). firstEntry key (i + 1) (map (entryAt s) (upFrom k n))) (sym (add-one i)) ∙ first-given s key n (i + 1))
   where
     z : i + 1 + n ≡ i + suc n
     z = omega arith
 
     go : (t : Bool) → entryHas s key i ≡ t
-        → firstEntry key (i + 1) (entriesIn n s (i + 1)) ≡ entryGiven s (i + 1 + n) (first (entryHas s key) n (i + 1))
-        → pick (entryDefines key (entryOf (fieldsOf s (offsetOf s i) (endOf s i)))) (some (entryDef i (entryOf (fieldsOf s (offsetOf s i) (endOf s i)))))
-        (firstEntry key (i + 1) (entriesIn n s (i + 1)))
+        → firstEntry key (i + 1) (map (entryAt s) (upFrom (suc i) n)) ≡ entryGiven s (i + 1 + n) (first (entryHas s key) n (i + 1))
+        → pick (entryDefines key (entryAt s i)) (some (entryDef i (entryAt s i)))
+        (firstEntry key (i + 1) (map (entryAt s) (upFrom (suc i) n)))
         ≡ entryGiven s (i + suc n) (pick (entryHas s key i) i (first (entryHas s key) n (i + 1)))
     go true q rec = rw (q, lt-ltb i (i + suc n) (omega arith)) refl
     go false q rec = rw (q, ← z) rec
 
-pub entry-given : (s key : List ℕ) {i m : ℕ} → i ≡ entryIn s key → m ≡ countOf s → i < m
-    → firstEntry key 0 (entriesOf s) ≡ some (entryDef i (entryAt s i))
+pub first-entry : (s key : List ℕ)
+    → firstEntry key 0 (entriesOf s) ≡ pick (ltb (entryIn s key) (countOf s)) (some (entryDef (entryIn s key) (entryAt s (entryIn s key)))) none
 unfolding entryIn entriesOf entryGiven
-entry-given s key {i} {m} p q h =
-    let z : 0 + countOf s ≡ countOf s = omega arith in
-    first-given s key (countOf s) 0 ∙ rw (z, ← p, ← q, lt-ltb i m h) refl
-
-pub entry-not : (s key : List ℕ) {i m : ℕ} → i ≡ entryIn s key → m ≡ countOf s → m ≤ i → firstEntry key 0 (entriesOf s) ≡ none
-unfolding entryIn entriesOf entryGiven
-entry-not s key {i} {m} p q h =
-    let z : 0 + countOf s ≡ countOf s = omega arith in
-    first-given s key (countOf s) 0 ∙ rw (z, ← p, ← q, le-ltb i m h) refl
+first-entry s key = let z : 0 + countOf s ≡ countOf s = omega arith in rw z at (first-given s key (countOf s) 0)
 
 -- authors ------------------------------------------------------------------------------------------------------------------------
 
 module _ (s : List ℕ) {r : NameParts} {n : Name} (g : ReadsName s r n) where
-  pub by-literal : {v : Span} → r .literal ≡ At v → GivesAuthor s (InPool v) (orBytes (n .literal) (n .family))
-  unfolding authorBytes
+  pub by-literal : {v : Span} → r .literal ≡ At v → GivesAuthor s (InPool v) (orElse (n .literal) (n .family))
+  unfolding orElse authorBytes
   by-literal p = record { bytes = λ text. rw (← g .name, p) refl }
 
-  pub by-family : {v : Span} → r .literal ≡ Missing → r .family ≡ At v → GivesAuthor s (InPool v) (orBytes (n .literal) (n .family))
-  unfolding authorBytes
+  pub by-family : {v : Span} → r .literal ≡ Missing → r .family ≡ At v → GivesAuthor s (InPool v) (orElse (n .literal) (n .family))
+  unfolding orElse authorBytes
   by-family p q = record { bytes = λ text. rw (← g .name, p, q) refl }
 
-  pub by-none : r .literal ≡ Missing → r .family ≡ Missing → GivesAuthor s NoAuthor (orBytes (n .literal) (n .family))
-  unfolding authorBytes
+  pub by-none : r .literal ≡ Missing → r .family ≡ Missing → GivesAuthor s NoAuthor (orElse (n .literal) (n .family))
+  unfolding orElse authorBytes
   by-none p q = record { bytes = λ text. rw (← g .name, p, q) refl }
 
 pub ruleset name-laws = (by-literal, by-family, by-none)
 
 module _ (s : List ℕ) (i e : ℕ) {o : Option (List ℕ)} (p : o ≡ authorBy (namesIn (fieldsOf s i e))) where
   pub author-here : {k : ℕ} {r : Author} → i < e → k ≡ fieldEnd s i → byteAt s i ≡ 2
-      → GivesAuthor s r (orBytes (nameAfter (fieldsOf s k e) .literal) (nameAfter (fieldsOf s k e) .family)) → GivesAuthor s r o
+      → GivesAuthor s r (orElse (nameAfter (fieldsOf s k e) .literal) (nameAfter (fieldsOf s k e) .family)) → GivesAuthor s r o
   unfolding namesIn nameAt fieldAt authorBy
   author-here h q t g = record { bytes = λ text. g .bytes text ∙ sym (p ∙ rw (fields-next s i e h, eq-eqb _ 2 t, ← q) refl) }
 
@@ -178,7 +172,7 @@ module _ (s : List ℕ) (i : ℕ) {at e : ℕ} (p : at ≡ offsetOf s i) (q : e 
   author-entry g = record { bytes = λ text. g .bytes text ∙ rw (p, q) refl }
 
   module _ {y : SourceYear} (g : ReadsYear s y (yearOf (entryOf (fieldsOf s at e)))) where
-    given : yearTextOf s y ≡ yearOf (entryAt s i)
+    given : writtenYear s y ≡ yearOf (entryAt s i)
     unfolding entryAt
     given = g .bytes ∙ rw (p, q) refl
 

@@ -1,23 +1,17 @@
--- The entries of a pool by their numbers, and what one of them gives.
+-- The first entry of a pool that defines a key, and what an entry gives.
 use Prim.Native.Nat.{ℕ}
 use mathlib.Core.Path.{_≡_}
 use mathlib.Core.List.{List}
 use mathlib.Core.Bool.{Bool}
 use mathlib.Core.Option.{Option}
 use Rattle.base.specs.First.{first}
-use Rattle.pool.specs.Fields.{fieldsOf}
-use Rattle.pool.specs.Entries.{Entry, entryOf}
-use Rattle.pool.specs.Layout.{countOf, offsetOf, endOf}
+use Rattle.pool.specs.Layout.{countOf, entryAt}
 use Rattle.definition.specs.declared.Author.{Author}
 use Rattle.definition.specs.declared.Year.{Year}
 use Rattle.definition.specs.Parts.{authorBytes, yearBytes}
 use Rattle.definition.specs.Defs.{entryDefines}
 
--- entry number `i` of a pool
-unfoldable pub entryAt : List ℕ → ℕ → Entry
-entryAt pool i = entryOf (fieldsOf pool (offsetOf pool i) (endOf pool i))
-
--- it defines the key
+-- entry number `i` of a pool defines the key
 unfoldable pub entryHas : List ℕ → List ℕ → ℕ → Bool
 entryHas pool key i = entryDefines key (entryAt pool i)
 

@@ -5,14 +5,15 @@ use definition::Year;
 use pool::Found;
 ghost use mathlib.Core.Path.{_≡_};
 ghost use mathlib.Core.Bool.{true};
+ghost use mathlib.Core.Option.{orElse};
 ghost use Prim.Native.Nat.{_+_, _<_};
 ghost use Rattle.base.specs.Lists.{part};
 ghost use Rattle.pool.specs.Fields.{fieldsOf};
 ghost use Rattle.pool.specs.Entries.{namesIn, nameAfter};
-ghost use Rattle.pool.specs.Layout.{countOf, wellFormed};
+ghost use Rattle.pool.specs.Layout.{countOf, wellFormed, entryAt};
 ghost use Rattle.pool.specs.Places.{FieldsIn};
-ghost use Rattle.source.specs.Entry.{orBytes, authorBy, authorOf, yearOf};
-ghost use Rattle.entries.specs.Entries.{entryAt, entryHas, entryIn, GivesAuthor, GivesYear};
+ghost use Rattle.source.specs.Entry.{authorBy, authorOf, yearOf};
+ghost use Rattle.entries.specs.Entries.{entryHas, entryIn, GivesAuthor, GivesYear};
 
 // The id of entry `i`.
 pub fn entry_id(pool: &[u8], i: usize) -> &[u8]
@@ -63,7 +64,7 @@ pub fn entry_in(pool: &[u8], key: &[u8]) -> usize
 // The author by the name whose field 2 ends at `at`: its literal, else its family.
 fn name_author(pool: &[u8], at: usize, e: usize) -> Author
     requires { ⌜ FieldsIn (now pool) at e ⌝ }
-    ensures { λ r. ⌜ GivesAuthor (now (pool .entry)) r (orBytes (nameAfter (fieldsOf (now (pool .entry)) at e) .literal) (nameAfter (fieldsOf (now (pool .entry)) at e) .family)) ⌝ }
+    ensures { λ r. ⌜ GivesAuthor (now (pool .entry)) r (orElse (nameAfter (fieldsOf (now (pool .entry)) at e) .literal) (nameAfter (fieldsOf (now (pool .entry)) at e) .family)) ⌝ }
 {
     let name = pool::name_after(pool, at, e);
     let literal = name.literal;

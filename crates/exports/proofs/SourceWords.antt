@@ -14,17 +14,17 @@ use Rattle.base.specs.Lists.{part, within, written}
 use Rattle.base.specs.Sorted.{Each}
 use Rattle.pool.specs.Numbers.{Signed}
 use Rattle.pool.specs.Fields.{Field, fieldEnd, fieldAt, fieldsIn, fieldsOf}
-use Rattle.pool.specs.Entries.{Entry, noEntry, fieldWith, inName, nameAfter, nameAt, namesIn, entryOf}
-use Rattle.pool.specs.Layout.{countOf, offsetOf, endOf, wellFormed, entriesOf}
-use Rattle.pool.proofs.PoolLaws.{entry-there, count-is, entry-is}
+use Rattle.pool.specs.Entries.{Entry, fieldWith, inName, nameAfter, nameAt, namesIn, entryOf}
+use Rattle.pool.specs.Layout.{countOf, offsetOf, endOf, wellFormed, entryAt}
+use Rattle.pool.proofs.PoolLaws.{entry-there}
 use Rattle.decimal.proofs.Laws.{decimal-short}
 use Rattle.decimal.specs.Decimal.{decimal}
 use Rattle.source.specs.Decimal.{signedDecimal}
 use Rattle.source.specs.Entry.{isEmpty, yearBy, yearOf}
-use Rattle.source_text.specs.Text.{beside, addName, namesOf, headOf, ended, sourceTextOf}
-use Rattle.source_parts.specs.Names.{nameBy, nameOf}
+use Rattle.source_text.specs.Text.{beside, addName, namesOf, headOf, ended, bodyOf, sourceTextOf}
+use Rattle.source_parts.specs.Names.{givenPart, familyPart, nameBy, nameOf}
 use Rattle.source_parts.specs.Parens.{inParens}
-use Rattle.source_text.specs.Call.{sourceRefused, entryAt, sourceWritten, sourceTextCall}
+use Rattle.source_text.specs.Call.{sourceRefused, sourceWritten, sourceTextCall}
 use Rattle.source_text.specs.Values.{sourceTextNumbers}
 use Rattle.answers.specs.Words.{Words}
 
@@ -82,10 +82,10 @@ in-name-short t (f ∷ fs) h = go (eqb (f .tag) t) (within 3 5 (f .tag)) (in-nam
     go false false k = omega arith
 
 by-short : (l f g : Option (List ℕ)) → length (Option·getD l []) ≤ 32768 → length (Option·getD f []) ≤ 32768 → length (Option·getD g []) ≤ 32768 → length (nameBy l f g) ≤ 65538
-unfolding nameBy
+unfolding nameBy familyPart givenPart
 by-short (some l) f g a b c = omega arith
 by-short none (some f) (some g) a b c = simp length-append (omega arith)
-by-short none (some f) none a b c = omega arith
+by-short none (some f) none a b c = simp length-append (omega arith)
 by-short none none g a b c = omega arith
 
 name-short : (fs : List Field) → Each Short fs → length (nameOf (nameAfter fs)) ≤ 65538
@@ -167,25 +167,23 @@ module _ (s : List ℕ) (at e : ℕ) (small : length s ≤ 32768) (inside : e �
       omega arith
 
   text-by : length (sourceTextOf entry) < 4294967296
-  unfolding sourceTextOf entryOf
+  unfolding sourceTextOf bodyOf entryOf
   text-by =
       let h = head-by in
       let t = tagged-short 8 (fieldsOf s at e) all-short in
       let b = beside-short (46 ∷ 32 ∷ []) (headOf entry) (Option·getD (entry .title) []) in
-      let d = ended-short (beside (46 ∷ 32 ∷ []) (headOf entry) (Option·getD (entry .title) [])) in
+      let d = ended-short (bodyOf entry) in
       omega arith
 
-entry-text-by : (p : List ℕ) (i : ℕ) → wellFormed p ≡ true → i < length (entriesOf p) → length (sourceTextOf (entryAt p i)) < 4294967296
+entry-text-by : (p : List ℕ) (i : ℕ) → wellFormed p ≡ true → i < countOf p → length (sourceTextOf (entryAt p i)) < 4294967296
 unfolding entryAt
 entry-text-by p i w h =
-    let l = count-is p in
-    let b : i < countOf p = omega arith in
-    let t = entry-there p i w b in
-    rw (entry-is p i noEntry b) (text-by p (offsetOf p i) (endOf p i) (t .small) (t .inside))
+    let t = entry-there p i w h in
+    text-by p (offsetOf p i) (endOf p i) (t .small) (t .inside)
 
 pub source-words : (p : List ℕ) (i : ℕ) (area : List ℕ) → Words (sourceTextNumbers (sourceTextCall p i area))
 unfolding sourceTextCall sourceTextNumbers sourceWritten Words
-source-words p i area = go (wellFormed p) refl (ltb i (length (entriesOf p))) refl
+source-words p i area = go (wellFormed p) refl (ltb i (countOf p)) refl
   where
     out : List ℕ
     out = sourceTextOf (entryAt p i)
@@ -194,8 +192,8 @@ source-words p i area = go (wellFormed p) refl (ltb i (length (entriesOf p))) re
     full true h = (omega arith, (omega arith, tt))
     full false h = (omega arith, (h, tt))
 
-    go : (w : Bool) → wellFormed p ≡ w → (b : Bool) → ltb i (length (entriesOf p)) ≡ b
+    go : (w : Bool) → wellFormed p ≡ w → (b : Bool) → ltb i (countOf p) ≡ b
         → Words (sourceTextNumbers (pick (not w) (sourceRefused 7 area) (pick (not b) (sourceRefused 8 area) (sourceWritten out area))))
     go false q b r = (omega arith, (omega arith, tt))
     go true q false r = (omega arith, (omega arith, tt))
-    go true q true r = full (ltb (length area) (length out)) (entry-text-by p i q (ltb-true i (length (entriesOf p)) r))
+    go true q true r = full (ltb (length area) (length out)) (entry-text-by p i q (ltb-true i (countOf p) r))

@@ -4,7 +4,7 @@ use native.Mathlib.Omega.{arith}
 use mathlib.Core.Path.{_≡_, refl, sym, _∙_, ap}
 use mathlib.Core.List.{List, [], _∷_, _++_, map, append-assoc}
 use mathlib.Core.Bool.{Bool, true, false, _&&_, not}
-use mathlib.Core.Option.{Option, none, some}
+use mathlib.Core.Option.{Option, none, some, orElse}
 use lib.ListN.{length, length-append}
 use lib.Dec.{eqb, ltb}
 use borrow.Author.Tests.{lt-ltb, le-ltb, ne-eqb}
@@ -16,11 +16,17 @@ use Rattle.item.specs.declared.Item.{Item}
 use Rattle.item.specs.Group.{Group}
 use Rattle.rows.specs.Rows.{itemWidth, marksOf, recordOf, rowOf, rowsIn, rowsOf, rowsLength}
 use Rattle.rows.proofs.RowLaws.{rows-length}
-use Rattle.pool.specs.Layout.{entriesOf}
+use Rattle.pool.specs.Layout.{countOf, entryAt, entriesOf}
 use Rattle.standing.specs.Rows.{Placed, groupWidth, groupRow, groupRows, sweptFrom, itemRows}
 use Rattle.definition_line.specs.Lines.{startsLine, colonAfter, bareItem, onlyKey, defines, inLine, groupEnd, nextOpen, keyOf, definedKey}
-use Rattle.definition.specs.Defs.{Def, lineDef, definesKey, lastLine, firstEntry, orDef, defOf}
-use Rattle.defined.specs.Definitions.{definesIn, definesKeyIn, lineIn, LinesBelow, lineDefIn, definitionIn}
+use Rattle.definition.specs.Defs.{Def, lineDef, entryDef, definesKey, lastLine, firstEntry, defOf}
+use Rattle.defined.specs.Lines.{definesIn, definesKeyIn, lineIn, lineDefIn}
+use Rattle.defined.specs.declared.Defined.{Defined}
+use Rattle.defined.specs.declared.Defined.the-variants.{Line, Entry as EntryOf, Nothing}
+use Rattle.defined.specs.Defined.{definedAs, foundIn}
+use Rattle.defined.specs.Definitions.{definitionIn, LinesBelow}
+use Rattle.entries.specs.Entries.{entryIn}
+use Rattle.entries.proofs.EntryLaws.{first-entry}
 use Rattle.records.specs.Records.{groupField, keyIn, suppressedIn, bareIn, closeOfRecord, nextIn}
 use Rattle.base.proofs.Lasts.{lastFrom, last-from, last-same}
 use Rattle.standing.proofs.Swept.{swept-length}
@@ -64,12 +70,18 @@ module _ (text groups otherGroups items otherItems : List ℕ) (h : SameGroups g
   unfolding lineDefIn nextIn
   line-same n g = rw (close-same groups otherGroups g h, h (g + 1) 0 (omega arith))
 
+  as-same : (n : ℕ) (pool : List ℕ) (d : Defined) → definedAs text groups n pool d ≡ definedAs text otherGroups n pool d
+  unfolding definedAs
+  as-same n pool (Line g) = rw (line-same n g) refl
+  as-same n pool (EntryOf i) = refl
+  as-same n pool Nothing = refl
+
   pub definition-same : (n : ℕ) (pool key : List ℕ)
       → definitionIn text groups items n pool key ≡ definitionIn text otherGroups otherItems n pool key
-  unfolding definitionIn lineIn
+  unfolding definitionIn foundIn lineIn
   definition-same n pool key =
       let e = last-same (definesKeyIn text groups items key) (definesKeyIn text otherGroups otherItems key) n n (λ j l. defines-same key j) in
-      rw (e, line-same n (last (definesKeyIn text otherGroups otherItems key) n n))
+      rw e (as-same n pool (foundIn text otherGroups otherItems n pool key))
 
 -- one item and one group -------------------------------------------------------------------------------------------------------------
 
@@ -229,8 +241,10 @@ module _ (text groups items : List ℕ) (n : ℕ) (key : List ℕ) where
 pub definition-placed : (text groups items : List ℕ) (ps : List Placed) (ga ia pool key : List ℕ) → LieAt groups items 0 0 ps [] ga [] ia
     → Each (λ (p : Placed). Closes (p .group)) ps
     → definitionIn text groups items (length ps) pool key ≡ defOf text (groupsOf ps) pool key
-unfolding definitionIn lineIn defOf last
-definition-placed text groups items ps ga ia pool key l c = go (ltb found n) refl ∙ ap (λ (d : Option Def). orDef d pooled) (sym lines)
+unfolding definitionIn definedAs foundIn lineIn defOf orElse last
+definition-placed text groups items ps ga ia pool key l c =
+    go (ltb found n) refl (ltb entry (countOf pool)) ∙ ap (orElse (given text groups items n key found)) (sym (first-entry pool key))
+    ∙ ap (λ (d : Option Def). orElse d pooled) (sym lines)
   where
     n : ℕ
     n = length ps
@@ -254,10 +268,15 @@ definition-placed text groups items ps ga ia pool key l c = go (ltb found n) ref
         ∙ lines-agree text groups items n key ps 0 0 n [] ga [] ia l (omega arith) c
         ∙ ap (given text groups items n key) up
 
-    go : (t : Bool) → ltb found n ≡ t
-        → pick t (some (lineDefIn text groups n found)) pooled ≡ orDef (pick (ltb found n) (some (lineDefIn text groups n found)) none) pooled
-    go true q = rw q
-    go false q = rw q
+    entry : ℕ
+    entry = entryIn pool key
+
+    go : (t : Bool) → ltb found n ≡ t → (u : Bool)
+        → definedAs text groups n pool (pick t (Line found) (pick u (EntryOf entry) Nothing))
+        ≡ orElse (pick (ltb found n) (some (lineDefIn text groups n found)) none) (pick u (some (entryDef entry (entryAt pool entry))) none)
+    go true q u = rw q
+    go false q true = rw q
+    go false q false = rw q
 
 -- the records that a sweep leaves ----------------------------------------------------------------------------------------------------
 

@@ -14,8 +14,8 @@ use Rattle.defined.specs.Defined.{definedAs}
 use Rattle.numbering.specs.Progress.{keyDefined, keysDefined}
 
 module _ (text pool groups items : List ℕ) (n k : ℕ) (d : Defined) {key : List ℕ} (p : key ≡ keyIn text items k)
-    (q : definedAs text pool groups n d ≡ definitionIn text groups items n pool key) where
-  defined-is : isDefined (definedAs text pool groups n d) ≡ keyDefined text pool groups items n k
+    (q : definedAs text groups n pool d ≡ definitionIn text groups items n pool key) where
+  defined-is : isDefined (definedAs text groups n pool d) ≡ keyDefined text pool groups items n k
   unfolding keyDefined
   defined-is = ap isDefined q ∙ rw p refl
 

@@ -45,9 +45,9 @@ module _ (text pool groups items : List ℕ) (mode n k number : ℕ) where
 
   -- by what was found
   module _ (d : Defined) (a : Author) (y : Year) {key : List ℕ} {b : Bool} (p : key ≡ keyIn text items k)
-      (q : definedAs text pool groups n d ≡ definitionIn text groups items n pool key)
-      (f : authorBytes text pool a ≡ defAuthor (definedAs text pool groups n d))
-      (g : yearBytes text pool y ≡ defYear (definedAs text pool groups n d)) (e : b ≡ suppressedIn items k) where
+      (q : definedAs text groups n pool d ≡ definitionIn text groups items n pool key)
+      (f : authorBytes text pool a ≡ defAuthor (definedAs text groups n pool d))
+      (g : yearBytes text pool y ≡ defYear (definedAs text groups n pool d)) (e : b ≡ suppressedIn items k) where
     named : labelBy mode b number (authorGiven text pool a) (yearBytes text pool y) ≡ L
     unfolding labelText authorGiven
     named = rw (f, g, q, e, p) refl

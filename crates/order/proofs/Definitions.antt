@@ -15,21 +15,21 @@ use Rattle.base.specs.Sorted.{Each}
 use Rattle.base.proofs.Searches.{first-holds}
 use Rattle.base.proofs.Sames.{same-true}
 use Rattle.base.proofs.Bools.{and-right}
-use Rattle.pool.specs.Layout.{countOf}
+use Rattle.pool.specs.Layout.{countOf, entryAt}
 use Rattle.source.specs.Entry.{isEmpty}
 use Rattle.base.proofs.Areas.{written-front, written-none, written-byte, written-over}
 use Rattle.definition.specs.Defs.{isDefined, entryDefines}
 use Rattle.defined.specs.declared.Defined.{Defined}
 use Rattle.defined.specs.declared.Defined.the-variants.{Line, Entry as EntryOf, Nothing}
-use Rattle.defined.specs.Definitions.{definesIn, definesKeyIn, lineIn, definitionIn}
+use Rattle.defined.specs.Lines.{definesIn, definesKeyIn, lineIn}
+use Rattle.defined.specs.Definitions.{definitionIn}
 use Rattle.records.specs.Records.{keyIn, groupField}
 use Rattle.defined.specs.Defined.{definedAs, foundIn, definitionNumber, definitionAt, keyBy, DefinedIn}
-use Rattle.entries.specs.Entries.{entryAt, entryHas, entryIn}
+use Rattle.entries.specs.Entries.{entryHas, entryIn}
 use Rattle.order.specs.Order.{less}
 use Rattle.order.specs.References.{sourceKeyIn, rankIn, numberOfKey, SourcesKnown}
 use Rattle.order.specs.Ordered.{rankBy, definitionOf, sourceBy, insertBy, insertedFrom, SortedBy}
 use Rattle.base.proofs.Lasts.{last-holds}
-use Rattle.defined.proofs.DefinedLaws.{find-line, find-entry, find-nothing}
 use Rattle.order.proofs.OrderLaws.{inserted-next, inserted-count}
 use Rattle.order.proofs.Sorting.{insert-each, insert-sorted}
 
@@ -43,7 +43,7 @@ module _ (text pool groups items key : List ℕ) (n : ℕ) where
   entry = entryIn pool key
 
   abbrev found : Defined
-  found = foundIn text pool groups items n key
+  found = foundIn text groups items n pool key
 
   -- one of three
   found-by : (P : Defined → Type 0) → (line < n → P (Line line)) → (n ≤ line → entry < countOf pool → P (EntryOf entry))
@@ -59,13 +59,6 @@ module _ (text pool groups items key : List ℕ) (n : ℕ) where
   found-there : DefinedIn pool n found
   found-there = found-by (DefinedIn pool n) (λ h. h) (λ h l. l) (λ h l. tt)
 
-  found-is : definedAs text pool groups n found ≡ definitionIn text groups items n pool key
-  found-is =
-      found-by (λ d. definedAs text pool groups n d ≡ definitionIn text groups items n pool key)
-      (λ h. find-line text pool groups items key n refl h)
-      (λ h l. find-entry text pool groups items key n refl h refl refl l)
-      (λ h l. find-nothing text pool groups items key n refl h refl refl l)
-
   line-key : line < n → keyBy text pool groups items (Line line) ≡ key
   unfolding keyBy lineIn definesKeyIn
   line-key h =
@@ -80,10 +73,10 @@ module _ (text pool groups items key : List ℕ) (n : ℕ) where
 
   -- it has the key
   found-key : isDefined (definitionIn text groups items n pool key) ≡ true → keyBy text pool groups items found ≡ key
-  unfolding definedAs
-  found-key t =
-      found-by (λ d. keyBy text pool groups items d ≡ key) line-key (λ h l. entry-key l)
-      (λ h l. absurd (true≢false (sym t ∙ ap isDefined (sym (find-nothing text pool groups items key n refl h refl refl l)))))
+  unfolding definitionIn definedAs
+  found-key =
+      found-by (λ d. isDefined (definedAs text groups n pool d) ≡ true → keyBy text pool groups items d ≡ key)
+      (λ h t. line-key h) (λ h l t. entry-key l) (λ h l t. absurd (true≢false (sym t)))
 
 -- the definition that has the number of one
 at-number : (pool : List ℕ) (n : ℕ) (d : Defined) → DefinedIn pool n d → definitionAt pool n (definitionNumber pool n d) ≡ d
@@ -116,14 +109,14 @@ module _ (text pool groups items : List ℕ) (n m : ℕ) where
   K = sourceKeyIn text pool groups items n m
 
   -- the definition of a source
-  its-definition : (k : ℕ) → definitionAt pool n (D k) ≡ foundIn text pool groups items n (K k)
+  its-definition : (k : ℕ) → definitionAt pool n (D k) ≡ foundIn text groups items n pool (K k)
   unfolding definitionOf
   its-definition k = at-number pool n (found text pool groups items (K k) n) (found-there text pool groups items (K k) n)
 
   module _ (k : ℕ) (t : isDefined (definitionIn text groups items n pool (K k)) ≡ true) where
     its-rank : B (D k) ≡ R k
-    unfolding rankBy rankIn
-    its-rank = rw (its-definition k, found-is text pool groups items (K k) n, found-key text pool groups items (K k) n t) refl
+    unfolding rankBy rankIn definitionIn
+    its-rank = rw (its-definition k, found-key text pool groups items (K k) n t) refl
 
     its-source : numberOfKey text items m (K k) ≡ k → S (D k) ≡ k
     unfolding sourceBy

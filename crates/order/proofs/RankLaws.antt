@@ -13,7 +13,7 @@ use Rattle.base.specs.First.{first}
 use Rattle.base.specs.Lists.{part}
 use Rattle.base.specs.declared.Span.{Span}
 use Rattle.base.proofs.Searches.{first-by, first-out, first-stop, first-more}
-use Rattle.pool.specs.Layout.{countOf, wellFormed}
+use Rattle.pool.specs.Layout.{countOf, wellFormed, entryAt}
 use Rattle.pool.proofs.PoolLaws.{laid-out, count-bytes}
 use Rattle.definition.specs.declared.Author.{Author}
 use Rattle.definition.specs.declared.Author.the-variants.{InText, InPool, Missing}
@@ -24,7 +24,6 @@ use Rattle.defined.specs.declared.Defined.the-variants.{Line, Entry as EntryOf,
 use Rattle.records.specs.Records.{itemField, groupField, keyIn}
 use Rattle.uses.specs.Uses.{usedAt}
 use Rattle.defined.specs.Defined.{definedAs, foundIn, definitionNumber, definitionAt, keyBy, DefinedIn}
-use Rattle.entries.specs.Entries.{entryAt}
 use Rattle.order.specs.References.{firstWith, sourceKeyIn, numberOfKey}
 use Rattle.order.specs.Ordered.{hasNumber, rankBy, definitionOf, sourceBy}
 use Rattle.entries.proofs.EntryLaws.{part-none}
@@ -112,7 +111,7 @@ pub ruleset key-laws = (line-there, line-below, entry-there, key-line, key-entry
 
 -- what it is ordered by
 module _ (text pool groups items : List ℕ) (n i : ℕ) (d : Defined) (a : Author)
-    (q : d ≡ definitionAt pool n i) (g : authorBytes text pool a ≡ defAuthor (definedAs text pool groups n d)) where
+    (q : d ≡ definitionAt pool n i) (g : authorBytes text pool a ≡ defAuthor (definedAs text groups n pool d)) where
   rank-is : Option·getD (authorBytes text pool a) (keyBy text pool groups items d) ≡ rankBy text pool groups items n i
   unfolding rankBy
   rank-is = rw (g, q) refl
@@ -155,7 +154,7 @@ pub with-below : (items : List ℕ) (m k : ℕ) {j : ℕ} → j ≡ first (hasNu
 with-below items m k p h = let l = first-by (hasNumber items k) m 0 in omega arith
 
 pub definition-is : (text pool groups items : List ℕ) (n m k : ℕ) (d : Defined) {j r : ℕ} {key : List ℕ} → j ≡ first (hasNumber items k) m 0
-    → key ≡ keyIn text items j → d ≡ foundIn text pool groups items n key → r ≡ definitionNumber pool n d
+    → key ≡ keyIn text items j → d ≡ foundIn text groups items n pool key → r ≡ definitionNumber pool n d
     → r ≡ definitionOf text pool groups items n m k
 unfolding definitionOf sourceKeyIn firstWith hasNumber
 definition-is text pool groups items n m k d f p q e = e ∙ rw (q, p, f) refl

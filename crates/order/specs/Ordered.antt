@@ -18,7 +18,7 @@ use Rattle.order.specs.References.{sourceKeyIn, numberOfKey}
 module _ (text pool groups items : List ℕ) (n m : ℕ) where
   -- the number of the definition of source number `k`
   unfoldable pub definitionOf : ℕ → ℕ
-  definitionOf k = definitionNumber pool n (foundIn text pool groups items n (sourceKeyIn text pool groups items n m k))
+  definitionOf k = definitionNumber pool n (foundIn text groups items n pool (sourceKeyIn text pool groups items n m k))
 
   -- the number of the source that definition number `i` defines
   unfoldable pub sourceBy : ℕ → ℕ
@@ -27,7 +27,7 @@ module _ (text pool groups items : List ℕ) (n m : ℕ) where
 -- the bytes that the source of definition number `i` is ordered by
 unfoldable pub rankBy : List ℕ → List ℕ → List ℕ → List ℕ → ℕ → ℕ → List ℕ
 rankBy text pool groups items n i =
-    Option·getD (defAuthor (definedAs text pool groups n (definitionAt pool n i))) (keyBy text pool groups items (definitionAt pool n i))
+    Option·getD (defAuthor (definedAs text groups n pool (definitionAt pool n i))) (keyBy text pool groups items (definitionAt pool n i))
 
 -- the number `k` into those in order: before the first with a greater rank
 unfoldable pub insertBy : (ℕ → List ℕ) → List ℕ → ℕ → List ℕ

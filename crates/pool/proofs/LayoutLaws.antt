@@ -10,9 +10,9 @@ use borrow.Author.Tests.{lt-ltb, le-ltb, leb-true, le-leb, lt-leb, eq-eqb, ne-eq
 use Rattle.base.specs.Lists.{byteAt, part}
 use Rattle.base.proofs.Parts.{part-is, part-length}
 use Rattle.utf8.specs.Utf8.{utf8}
-use Rattle.pool.specs.Fields.{fieldEnd, fieldAt, fieldsOf, fill, follows, contentGood, fieldsGood, entryGood}
+use Rattle.pool.specs.Fields.{fieldEnd, fieldAt, fieldsOf, fill, follows, contentGood, fieldsGood, goodFrom, entryGood}
 use Rattle.pool.specs.Layout.{countOf, offsetOf, endOf, entriesGood, laidOut, wellFormed}
-use Rattle.pool.specs.Steps.{fieldGood, goodFrom, pairGood}
+use Rattle.pool.specs.Steps.{fieldGood, pairGood}
 use Rattle.pool.proofs.FieldLaws.{field-after, field-shrinks, fields-next, fill-next, fields-end, fill-end}
 
 -- the content of a field
@@ -99,13 +99,9 @@ module _ (s : List ℕ) (last at e : ℕ) where
   unfolding goodFrom fieldsGood
   entry-end g h l = sym (g ∙ rw (fields-end s at e l, fill-end s at e l, eq-eqb at e (omega arith)) refl)
 
-pub entry-start : (s : List ℕ) (at e : ℕ) → entryGood s at e ≡ goodFrom 0 s at e
-unfolding entryGood goodFrom
-entry-start s at e = refl
-
 pub ruleset field-laws = (field-after, field-no-head, field-past, field-order, field-content)
 
-pub ruleset entry-laws = (field-shrinks, field-ends, entry-next, entry-stop, entry-end, entry-start)
+pub ruleset entry-laws = (field-shrinks, field-ends, entry-next, entry-stop, entry-end)
 
 -- the pairs
 module _ (s : List ℕ) (i at : ℕ) where

@@ -1,19 +1,19 @@
--- What a well-formed pool has: room for its pairs, an entry at each pair, and the list of its entries.
+-- What a well-formed pool has: room for its pairs and an entry at each pair.
 use Prim.Native.Nat.{ℕ, zero, suc, _+_, _*_, _≤_, _<_}
 use native.Mathlib.Omega.{arith}
 use mathlib.Core.Path.{_≡_, refl, sym, _∙_, ap}
 use mathlib.Core.List.{List, [], _∷_}
 use mathlib.Core.Bool.{Bool, true, false, _&&_, true≢false}
 use mathlib.Core.Option.{Option, some}
-use lib.ListN.{length, getD, List·getD-eq-default}
+use lib.ListN.{length, List·getD-eq-default}
 use lib.Dec.{eqb, leb}
 use borrow.Author.Tests.{leb-true, lt-ltb, eqb-true}
 use Rattle.base.specs.Pick.{pick}
 use Rattle.pool.specs.declared.Found.{Found}
 use Rattle.pool.specs.Numbers.{leAt, signedOf}
-use Rattle.pool.specs.Fields.{Field, fieldsOf, fill, follows, contentGood, fieldsGood, entryGood}
-use Rattle.pool.specs.Entries.{fieldWith, inName, nameAfter, yearIn, Entry, entryOf}
-use Rattle.pool.specs.Layout.{countOf, offsetOf, endOf, entriesGood, laidOut, wellFormed, entriesIn, entriesOf}
+use Rattle.pool.specs.Fields.{Field, fieldsOf, fill, follows, contentGood, fieldsGood, goodFrom, entryGood}
+use Rattle.pool.specs.Entries.{fieldWith, inName, nameAfter, yearIn}
+use Rattle.pool.specs.Layout.{countOf, offsetOf, endOf, entriesGood, laidOut, wellFormed}
 use Rattle.pool.specs.Places.{Reads, ReadsName, EntryIn}
 use Rattle.base.specs.declared.Span.{Span}
 use Rattle.base.proofs.Bools.{and-right, and-three}
@@ -107,26 +107,6 @@ entry-there s i w h =
     let t : Stands s i = rw p at (each-stands (countOf s) s 0 (2 + 4 * countOf s) i (l .entries) h) in
     record { good = t .good; inside = t .inside; small = l .small }
 
--- the list of its entries
-entries-count : (n : ℕ) (s : List ℕ) (i : ℕ) → length (entriesIn n s i) ≡ n
-unfolding entriesIn
-entries-count zero s i = refl
-entries-count (suc n) s i = ap suc (entries-count n s (i + 1))
-
-entries-at : (n : ℕ) (s : List ℕ) (i j : ℕ) (d : Entry) → j < n → getD (entriesIn n s i) j d ≡ entryOf (fieldsOf s (offsetOf s (i + j)) (endOf s (i + j)))
-unfolding entriesIn
-entries-at zero s i j d h = absurd (omega arith)
-entries-at (suc n) s i zero d h = let p : i + 0 ≡ i = omega arith in rw p refl
-entries-at (suc n) s i (suc j) d h = let p : i + suc j ≡ i + 1 + j = omega arith in rw p (entries-at n s (i + 1) j d (omega arith))
-
-pub count-is : (s : List ℕ) → length (entriesOf s) ≡ countOf s
-unfolding entriesOf
-count-is s = entries-count (countOf s) s 0
-
-pub entry-is : (s : List ℕ) (i : ℕ) (d : Entry) → i < countOf s → getD (entriesOf s) i d ≡ entryOf (fieldsOf s (offsetOf s i) (endOf s i))
-unfolding entriesOf
-entry-is s i d h = let p : 0 + i ≡ i = omega arith in rw p at (entries-at (countOf s) s 0 i d h)
-
 -- a year has eight bytes
 year-long : (last : ℕ) (fs : List Field) (b : List ℕ) → fieldsGood last fs ≡ true → fieldWith 6 fs ≡ some b → length b ≡ 8
 unfolding fieldsGood fieldWith contentGood
@@ -145,7 +125,7 @@ year-long last (f ∷ fs) b g h =
     go false e k g rec = rec (g .2) k
 
 pub year-eight : (s : List ℕ) (at e : ℕ) {p : Span} → EntryIn s at e → Reads s (At p) (fieldWith 6 (fieldsOf s at e)) → p .len ≡ 8
-unfolding entryGood
+unfolding goodFrom
 year-eight s at e {p} g r =
     let l = year-long 0 (fieldsOf s at e) _ (and-right (fill s at e) _ (g .good)) (sym (r .bytes)) in
     let n = part-length s (p .at) (p .at + p .len) (omega arith) (r .inside) in

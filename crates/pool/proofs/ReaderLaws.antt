@@ -14,14 +14,14 @@ use Rattle.base.specs.Spans.{span}
 use Rattle.base.proofs.Bools.{and-left, and-three}
 use Rattle.pool.specs.declared.Found.{Found}
 use Rattle.pool.specs.declared.Found.the-variants.{At, Missing}
-use Rattle.pool.specs.Fields.{fieldEnd, fieldAt, fieldsOf, fill, entryGood}
+use Rattle.pool.specs.Fields.{fieldEnd, fieldAt, fieldsOf, fill, goodFrom}
 use Rattle.pool.specs.Entries.{fieldWith, inName}
 use Rattle.pool.specs.Places.{Reads, FieldsIn, EntryIn}
 use Rattle.pool.proofs.FieldLaws.{field-after, field-shrinks, fields-next, fill-next, fields-end, fill-end}
 
 -- an entry is made of fields
 pub fields-of-entry : (s : List ℕ) (at e : ℕ) → EntryIn s at e → FieldsIn s at e
-unfolding entryGood
+unfolding goodFrom
 fields-of-entry s at e h = record { filled = and-left (fill s at e) _ (h .good); inside = h .inside }
 
 module _ (s : List ℕ) (i e : ℕ) where

@@ -5,16 +5,16 @@ use mathlib.Core.List.{List}
 use mathlib.Core.Bool.{true}
 use mathlib.Core.Option.{Option, none, some}
 use lib.ListN.{length}
-use Rattle.base.specs.Lists.{part}
+use Rattle.base.specs.Spans.{bytesOf}
 use Rattle.pool.specs.declared.Found.{Found}
 use Rattle.pool.specs.declared.Found.the-variants.{At, Missing}
 use Rattle.pool.specs.declared.NameParts.{NameParts}
-use Rattle.pool.specs.Fields.{fieldsOf, fill, entryGood}
-use Rattle.pool.specs.Entries.{Name, Entry, entryOf}
+use Rattle.pool.specs.Fields.{fill, entryGood}
+use Rattle.pool.specs.Entries.{Name}
 
 -- the bytes of a field, if it is there
 abbrev pub bytesAt : List ℕ → Found → Option (List ℕ)
-bytesAt s (At p) = some (part s (p .at) (p .at + p .len))
+bytesAt s (At p) = some (bytesOf s p)
 bytesAt s Missing = none
 
 -- a part that was found lies in the bytes
@@ -48,7 +48,3 @@ pub record EntryIn (s : List ℕ) (at e : ℕ) : Type 0 where
   pub good : entryGood s at e ≡ true
   pub inside : e ≤ length s
   pub small : length s ≤ 32768
-
--- that entry
-abbrev pub entryFrom : List ℕ → ℕ → ℕ → Entry
-entryFrom s at e = entryOf (fieldsOf s at e)

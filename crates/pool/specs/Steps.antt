@@ -5,7 +5,7 @@ use mathlib.Core.Bool.{Bool, _&&_}
 use lib.ListN.{length}
 use lib.Dec.{eqb, leb}
 use Rattle.base.specs.Lists.{byteAt, part}
-use Rattle.pool.specs.Fields.{fieldEnd, fieldsOf, fill, follows, contentGood, fieldsGood, entryGood}
+use Rattle.pool.specs.Fields.{fieldEnd, follows, contentGood, entryGood}
 use Rattle.pool.specs.Layout.{offsetOf, endOf}
 
 -- the field at `at` is one of an entry that ends at `e`, after a field with the tag `last`
@@ -15,10 +15,6 @@ fieldGood last s at e =
     && (leb (fieldEnd s at) e
     && (follows last (byteAt s at)
     && contentGood (byteAt s at) (part s (at + 3) (fieldEnd s at))))
-
--- so are it and those after it
-unfoldable pub goodFrom : ℕ → List ℕ → ℕ → ℕ → Bool
-goodFrom last s at e = fill s at e && fieldsGood last (fieldsOf s at e)
 
 -- entry `i` begins at `at`, and is one
 unfoldable pub pairGood : List ℕ → ℕ → ℕ → Bool

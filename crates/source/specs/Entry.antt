@@ -2,7 +2,7 @@
 use Prim.Native.Nat.{ℕ}
 use mathlib.Core.List.{List, [], _∷_}
 use mathlib.Core.Bool.{Bool, true, false}
-use mathlib.Core.Option.{Option, none, some}
+use mathlib.Core.Option.{Option, none, some, orElse}
 use Rattle.pool.specs.Numbers.{Signed}
 use Rattle.pool.specs.Entries.{Name, Entry}
 use Rattle.source.specs.Decimal.{signedDecimal}
@@ -11,11 +11,6 @@ use Rattle.source.specs.Decimal.{signedDecimal}
 abbrev pub isEmpty : List ℕ → Bool
 isEmpty [] = true
 isEmpty (x ∷ xs) = false
-
--- the first of two that is there
-abbrev pub orBytes : Option (List ℕ) → Option (List ℕ) → Option (List ℕ)
-orBytes none b = b
-orBytes (some v) b = some v
 
 -- "a first date part wins over the date literal"
 unfoldable pub yearBy : Option Signed → Option (List ℕ) → Option (List ℕ)
@@ -29,7 +24,7 @@ yearOf e = yearBy (e .year) (e .date)
 -- "the label's author is the first name's literal or family, empty or not"
 unfoldable pub authorBy : List Name → Option (List ℕ)
 authorBy [] = none
-authorBy (n ∷ ns) = orBytes (n .literal) (n .family)
+authorBy (n ∷ ns) = orElse (n .literal) (n .family)
 
 -- the author of an entry, where it gives one
 unfoldable pub authorOf : Entry → Option (List ℕ)

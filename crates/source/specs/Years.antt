@@ -4,17 +4,17 @@ use mathlib.Core.Path.{_≡_}
 use mathlib.Core.List.{List}
 use mathlib.Core.Option.{Option, none, some}
 use lib.ListN.{length}
-use Rattle.base.specs.Lists.{part}
+use Rattle.base.specs.Spans.{bytesOf}
 use Rattle.pool.specs.Numbers.{signed}
 use Rattle.source.specs.declared.Year.{Year}
 use Rattle.source.specs.declared.Year.the-variants.{Number, At, Missing}
 use Rattle.source.specs.Decimal.{signedDecimal}
 
 -- how the year is written, where there is one
-abbrev pub yearBytes : List ℕ → Year → Option (List ℕ)
-yearBytes s (Number negative magnitude) = some (signedDecimal (signed negative magnitude))
-yearBytes s (At p) = some (part s (p .at) (p .at + p .len))
-yearBytes s Missing = none
+abbrev pub writtenYear : List ℕ → Year → Option (List ℕ)
+writtenYear s (Number negative magnitude) = some (signedDecimal (signed negative magnitude))
+writtenYear s (At p) = some (bytesOf s p)
+writtenYear s Missing = none
 
 -- its bytes lie in the pool
 abbrev pub YearInside : List ℕ → Year → Type 0
@@ -24,5 +24,5 @@ YearInside s Missing = Unit {0}
 
 -- a year that is written with the bytes that are said
 pub record ReadsYear (s : List ℕ) (r : Year) (o : Option (List ℕ)) : Type 0 where
-  pub bytes : yearBytes s r ≡ o
+  pub bytes : writtenYear s r ≡ o
   pub inside : YearInside s r

@@ -1,9 +1,9 @@
 -- Names: their lengths, and their bytes piece by piece.
 use Prim.Native.Nat.{ℕ, _+_, _-_, _≤_}
 use native.Mathlib.Omega.{arith}
-use mathlib.Core.Path.{_≡_, refl, sym}
-use mathlib.Core.List.{List, [], _∷_, _++_, append-nil}
-use mathlib.Core.Option.{Option, none, some, Option·getD}
+use mathlib.Core.Path.{_≡_, refl}
+use mathlib.Core.List.{List, [], _∷_, _++_}
+use mathlib.Core.Option.{Option·getD}
 use mir.Val.{Fits}
 use mir.Syntax.{w64}
 use lib.ListN.{length, take, drop, length-append}
@@ -145,16 +145,6 @@ module _ (n : NameParts) where
   unfolding nameLen nameLenBy
   names-fit h e = rw e at h
 
-by-literal : (l : List ℕ) (f g : Option (List ℕ)) → nameBy (some l) f g ≡ l
-unfolding nameBy
-by-literal l f g = refl
-
-by-family : (f g : Option (List ℕ)) → nameBy none f g ≡ familyPart f g
-unfolding nameBy familyPart givenPart
-by-family none g = refl
-by-family (some f) none = sym (append-nil f)
-by-family (some f) (some g) = refl
-
 module _ (s : List ℕ) (n : NameParts) where
   pub literal-written : {p : Span} {out : List ℕ} (area : List ℕ) → n .literal ≡ At p → out ≡ written (part s (p .at) (p .at + p .len)) area
       → out ≡ written (nameOf (nameAtParts s n)) area
@@ -163,8 +153,8 @@ module _ (s : List ℕ) (n : NameParts) where
 
   pub names-written : {out : List ℕ} (area : List ℕ) → n .literal ≡ Missing → out ≡ written (familyPart (bytesAt s (n .family)) (bytesAt s (n .given))) area
       → out ≡ written (nameOf (nameAtParts s n)) area
-  unfolding nameOf
-  names-written area e o = rw (e, by-family) o
+  unfolding nameOf nameBy
+  names-written area e o = rw e o
 
 pub ruleset name-laws = (found-inside, name-literal, name-family, literal-fits, names-fit, literal-written, names-written)
 
@@ -178,9 +168,9 @@ family-length s (At p) g b c =
 family-length s Missing g b c = refl
 
 by-length : (s : List ℕ) (l f g : Found) → Inside s l → Inside s f → Inside s g → nameLenBy l f g ≡ length (nameBy (bytesAt s l) (bytesAt s f) (bytesAt s g))
-unfolding nameLenBy
-by-length s (At p) f g a b c = let l = part-length s (p .at) (p .at + p .len) (omega arith) a in rw by-literal (omega arith)
-by-length s Missing f g a b c = rw by-family (family-length s f g b c)
+unfolding nameLenBy nameBy
+by-length s (At p) f g a b c = let l = part-length s (p .at) (p .at + p .len) (omega arith) a in omega arith
+by-length s Missing f g a b c = family-length s f g b c
 
 pub name-length : (s : List ℕ) (n : NameParts) → Inside s (n .literal) → Inside s (n .family) → Inside s (n .given) → nameLen n ≡ length (nameOf (nameAtParts s n))
 unfolding nameLen nameOf

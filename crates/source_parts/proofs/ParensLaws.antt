@@ -16,7 +16,7 @@ use Rattle.decimal.proofs.Laws.{decimal-short}
 use Rattle.source.specs.declared.Year.{Year}
 use Rattle.source.specs.declared.Year.the-variants.{Number, At as YearAt, Missing as NoYear}
 use Rattle.source.specs.Decimal.{signedDecimal}
-use Rattle.source.specs.Years.{yearBytes, YearInside}
+use Rattle.source.specs.Years.{writtenYear, YearInside}
 use Rattle.source_parts.specs.Parens.{inParens, yearLen, parensLen, yearText}
 
 signed-short : (n : Bool) (m : ℕ) → length (signedDecimal (signed n m)) ≤ 21
@@ -82,19 +82,19 @@ enclosed-length s (Number n m) i z = refl
 enclosed-length s (YearAt p) i z = let l = part-length s (p .at) (p .at + p .len) (omega arith) i in omega arith
 enclosed-length s NoYear i z = absurd (z refl)
 
-enclosed-is : (s : List ℕ) (y : Year) → (parensLen y ≡ 0 → ⊥) → inParens (yearBytes s y) ≡ (40 ∷ yearText s y) ++ (41 ∷ [])
+enclosed-is : (s : List ℕ) (y : Year) → (parensLen y ≡ 0 → ⊥) → inParens (writtenYear s y) ≡ (40 ∷ yearText s y) ++ (41 ∷ [])
 unfolding parensLen inParens
 enclosed-is s (Number n m) z = refl
 enclosed-is s (YearAt p) z = refl
 enclosed-is s NoYear z = absurd (z refl)
 
-missing-is : (s : List ℕ) (y : Year) → parensLen y ≡ 0 → inParens (yearBytes s y) ≡ []
+missing-is : (s : List ℕ) (y : Year) → parensLen y ≡ 0 → inParens (writtenYear s y) ≡ []
 unfolding parensLen inParens
 missing-is s (Number n m) z = absurd (omega arith)
 missing-is s (YearAt p) z = absurd (omega arith)
 missing-is s NoYear z = refl
 
-pub parens-length : (s : List ℕ) (y : Year) → YearInside s y → parensLen y ≡ length (inParens (yearBytes s y))
+pub parens-length : (s : List ℕ) (y : Year) → YearInside s y → parensLen y ≡ length (inParens (writtenYear s y))
 unfolding parensLen inParens
 parens-length s (Number n m) i = rw length-append (omega arith)
 parens-length s (YearAt p) i =
@@ -109,7 +109,7 @@ parens-at-most s (YearAt p) h i = omega arith
 parens-at-most s NoYear h i = omega arith
 
 module _ (s : List ℕ) (y : Year) (n : ℕ) where
-  pub parens-missing : (area : List ℕ) → n ≡ parensLen y → n ≡ 0 → area ≡ written (inParens (yearBytes s y)) area
+  pub parens-missing : (area : List ℕ) → n ≡ parensLen y → n ≡ 0 → area ≡ written (inParens (writtenYear s y)) area
   parens-missing area e z = rw (missing-is s y (sym e ∙ z)) (written-none area)
 
   inner : YearInside s y → n ≡ parensLen y → (n ≡ 0 → ⊥) → n ≡ 2 + length (yearText s y)
@@ -130,7 +130,7 @@ module _ (s : List ℕ) (y : Year) (n : ℕ) where
 
   pub parens-written : (area one : List ℕ) {rest : List ℕ} → YearInside s y → n ≡ parensLen y → (n ≡ 0 → ⊥) → n ≤ length area
       → one ≡ written (40 ∷ yearText s y) area → rest ≡ written (41 ∷ []) (take (length one - (n - 1)) (drop (n - 1) one))
-      → take (n - 1) one ++ (rest ++ drop (length one - (n - 1)) (drop (n - 1) one)) ≡ written (inParens (yearBytes s y)) area
+      → take (n - 1) one ++ (rest ++ drop (length one - (n - 1)) (drop (n - 1) one)) ≡ written (inParens (writtenYear s y)) area
   parens-written area one {rest} i e z h o g =
       let l = inner i e z in
       rw (enclosed-is s y (λ q. z (e ∙ q))) (written-after area one (40 ∷ yearText s y) (41 ∷ []) rest (n - 1) o (omega arith) (omega arith) g)

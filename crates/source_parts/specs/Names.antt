@@ -35,9 +35,7 @@ familyLen Missing given = 0
 -- "A present literal wins even if empty. Family with an empty given name gives `Ant, `." A given name alone gives nothing.
 unfoldable pub nameBy : Option (List ℕ) → Option (List ℕ) → Option (List ℕ) → List ℕ
 nameBy (some literal) family given = literal
-nameBy none (some family) (some given) = family ++ (44 ∷ 32 ∷ given)
-nameBy none (some family) none = family
-nameBy none none given = []
+nameBy none family given = familyPart family given
 
 -- a name as it is written
 unfoldable pub nameOf : Name → List ℕ

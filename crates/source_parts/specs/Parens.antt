@@ -7,7 +7,7 @@ use Rattle.pool.specs.Numbers.{signed}
 use Rattle.source.specs.declared.Year.{Year}
 use Rattle.source.specs.declared.Year.the-variants.{Number, At, Missing}
 use Rattle.source.specs.Decimal.{signedDecimal}
-use Rattle.source.specs.Years.{yearBytes}
+use Rattle.source.specs.Years.{writtenYear}
 
 -- "the year, even an empty one, in parentheses"
 unfoldable pub inParens : Option (List ℕ) → List ℕ
@@ -16,7 +16,7 @@ inParens (some year) = 40 ∷ (year ++ (41 ∷ []))
 
 -- the bytes of a year; none where it is missing
 abbrev pub yearText : List ℕ → Year → List ℕ
-yearText s y = Option·getD (yearBytes s y) []
+yearText s y = Option·getD (writtenYear s y) []
 
 -- how many bytes of the pool it has
 abbrev pub yearLen : Year → ℕ

@@ -11,7 +11,7 @@ ghost use lib.ListN.{length};
 ghost use Rattle.base.specs.Lists.{part, written};
 ghost use Rattle.source_parts.specs.Names.{lenOf, givenPart, givenLen, familyPart, familyLen, nameLen, nameOf};
 ghost use Rattle.source_parts.specs.Parens.{inParens, yearLen, parensLen, yearText};
-ghost use Rattle.source.specs.Years.{YearInside, yearBytes};
+ghost use Rattle.source.specs.Years.{YearInside, writtenYear};
 ghost use Rattle.pool.specs.Places.{bytesAt, Inside, nameAtParts};
 
 // How many bytes were found.
@@ -190,7 +190,7 @@ fn write_opening(pool: &[u8], year: Year, out: &mut [u8])
 // A year in parentheses, `n` bytes, at the front of `out`; nothing where it is missing.
 pub fn write_parens(pool: &[u8], year: Year, n: usize, out: &mut [u8])
     requires { ⌜ YearInside (now pool) year × (n ≡ parensLen year) × (n ≤ length (now out)) ⌝ }
-    ensures { λ _. ⌜ now (out .exit) ≡ written (inParens (yearBytes (now (pool .entry)) year)) (now (out .entry)) ⌝ }
+    ensures { λ _. ⌜ now (out .exit) ≡ written (inParens (writtenYear (now (pool .entry)) year)) (now (out .entry)) ⌝ }
 {
     if n == 0 {
         return;

@@ -8,13 +8,13 @@ use lib.ListN.{length}
 use borrow.Author.Tests.{lt-ltb, le-ltb}
 use Rattle.base.specs.Lists.{written}
 use Rattle.pool.specs.Fields.{fieldsOf}
-use Rattle.pool.specs.Entries.{entryOf, noEntry}
-use Rattle.pool.specs.Layout.{countOf, offsetOf, endOf, wellFormed, entriesOf}
+use Rattle.pool.specs.Entries.{entryOf}
+use Rattle.pool.specs.Layout.{countOf, offsetOf, endOf, wellFormed, entryAt}
 use Rattle.pool.specs.Places.{EntryIn}
-use Rattle.pool.proofs.PoolLaws.{pair-there, entry-there, count-is, entry-is}
+use Rattle.pool.proofs.PoolLaws.{pair-there, entry-there}
 use Rattle.source_text.specs.declared.SourceText.the-variants.{Accepted, Refused}
 use Rattle.source_text.specs.Text.{sourceTextOf}
-use Rattle.source_text.specs.Call.{sourceRefused, entryAt, sourceWritten, sourceTextCall}
+use Rattle.source_text.specs.Call.{sourceRefused, sourceWritten, sourceTextCall}
 use Rattle.source_text.specs.Values.{sourceTextValues, sourceTextNumbers, sourceTextAnswer}
 
 pub call-formed : (p : List ℕ) {w : Bool} → w ≡ wellFormed p → w ≡ true → wellFormed p ≡ true
@@ -40,7 +40,7 @@ module _ (p : List ℕ) (i : ℕ) (area : List ℕ) where
   -- 8
   past : {w : Bool} {n : ℕ} → w ≡ wellFormed p → w ≡ true → n ≡ countOf p → n ≤ i → sourceTextCall p i area ≡ sourceRefused 8 area
   unfolding sourceTextCall
-  past e t c h = let l = count-is p in rw (← e, t, le-ltb i (length (entriesOf p)) (omega arith)) refl
+  past e t c h = rw (← e, t, le-ltb i (countOf p) (omega arith)) refl
 
   pub past-answer : {w : Bool} {n : ℕ} → w ≡ wellFormed p → w ≡ true → n ≡ countOf p → n ≤ i
       → Refused 8 ≡ sourceTextAnswer (sourceTextCall p i area)
@@ -81,9 +81,7 @@ module _ (p : List ℕ) (i at e : ℕ) (area : List ℕ) where
   there : Named p i at e → sourceTextCall p i area ≡ sourceWritten (sourceTextOf (entryOf (fieldsOf p at e))) area
   unfolding sourceTextCall entryAt
   there q =
-      let l = count-is p in
-      let b = q .below in
-      rw (q .formed, lt-ltb i (length (entriesOf p)) (omega arith), entry-is p i noEntry b, q .start, q .end) refl
+      rw (q .formed, lt-ltb i (countOf p) (q .below), q .start, q .end) refl
 
   -- 10
   small : (n : ℕ) → Named p i at e → n ≡ length (sourceTextOf (entryOf (fieldsOf p at e))) → length area < n → sourceTextCall p i area ≡ sourceRefused 10 area

@@ -16,12 +16,12 @@ use Rattle.pool.specs.Entries.{fieldWith, entryOf}
 use Rattle.pool.specs.Places.{bytesAt, Inside, Reads, EntryIn}
 use Rattle.source.specs.declared.Year.{Year}
 use Rattle.source.specs.declared.Year.the-variants.{Number, At as YearAt, Missing as NoYear}
-use Rattle.source_text.specs.Text.{beside, namesOf, headOf, ended, sourceTextOf}
+use Rattle.source_text.specs.Text.{beside, namesOf, headOf, ended, bodyOf, sourceTextOf}
 use Rattle.source.specs.Entry.{yearOf}
 use Rattle.source_parts.specs.Parens.{inParens, yearLen, parensLen}
-use Rattle.source_text.specs.Lengths.{besideLen, bodyOf}
+use Rattle.source_text.specs.Lengths.{besideLen}
 use Rattle.source_parts.specs.Names.{lenOf}
-use Rattle.source.specs.Years.{yearBytes, YearInside, ReadsYear}
+use Rattle.source.specs.Years.{writtenYear, YearInside, ReadsYear}
 use Rattle.source_text.specs.Room.{Fit}
 use Rattle.source_parts.proofs.NameLaws.{found-length}
 use Rattle.source_parts.proofs.ParensLaws.{parens-length, parens-at-most}
@@ -41,7 +41,7 @@ module _ (s : List ℕ) (y : Year) (o : Option (List ℕ)) where
   pub year-long : {m : ℕ} → ReadsYear s y o → m ≡ parensLen y → m ≡ length (inParens o)
   year-long r e = e ∙ parens-length s y (r .inside) ∙ rw (r .bytes) refl
 
-  pub year-there : {out : List ℕ} (area : List ℕ) → ReadsYear s y o → out ≡ written (inParens (yearBytes s y)) area → out ≡ written (inParens o) area
+  pub year-there : {out : List ℕ} (area : List ℕ) → ReadsYear s y o → out ≡ written (inParens (writtenYear s y)) area → out ≡ written (inParens o) area
   year-there area r e = rw (r .bytes) at e
 
   pub year-in : ReadsYear s y o → YearInside s y
@@ -155,12 +155,9 @@ ended-more [] = omega arith
 ended-more (x ∷ xs) = simp length-append (omega arith)
 
 module _ (s : List ℕ) (at e : ℕ) (area : List ℕ) where
-  text-is : sourceTextOf (entryOf (fieldsOf s at e)) ≡ ended (bodyOf (entryOf (fieldsOf s at e)))
-  unfolding sourceTextOf bodyOf
-  text-is = refl
-
   pub text-body : length (sourceTextOf (entryOf (fieldsOf s at e))) ≤ length area → length (bodyOf (entryOf (fieldsOf s at e))) ≤ length area
-  text-body h = omega (arith, ended-more (bodyOf (entryOf (fieldsOf s at e))), rw text-is at h)
+  unfolding sourceTextOf
+  text-body h = omega (arith, ended-more (bodyOf (entryOf (fieldsOf s at e))), h)
 
   module _ (one : List ℕ) (k : ℕ) (p : k ≡ length (bodyOf (entryOf (fieldsOf s at e)))) (o : one ≡ written (bodyOf (entryOf (fieldsOf s at e))) area) where
     body-front : take k one ≡ bodyOf (entryOf (fieldsOf s at e))
@@ -173,13 +170,14 @@ module _ (s : List ℕ) (at e : ℕ) (area : List ℕ) where
     text-front h = omega (arith, long-as h, text-body h)
 
     pub text-room : length (sourceTextOf (entryOf (fieldsOf s at e))) ≤ length area → length (ended (take k one)) ≤ length one
-    text-room h = rw body-front (omega (arith, long-as h, rw text-is at h))
+    unfolding sourceTextOf
+    text-room h = rw body-front (omega (arith, long-as h, h))
 
     pub text-written : {out : List ℕ} → out ≡ written (ended (take k one)) one → out ≡ written (sourceTextOf (entryOf (fieldsOf s at e))) area
+    unfolding sourceTextOf
     text-written h =
-        rw text-is
-        (rw body-front at h ∙ ap (written (ended (bodyOf (entryOf (fieldsOf s at e))))) o
-        ∙ written-over (bodyOf (entryOf (fieldsOf s at e))) (ended (bodyOf (entryOf (fieldsOf s at e)))) area (ended-more (bodyOf (entryOf (fieldsOf s at e)))))
+        rw body-front at h ∙ ap (written (ended (bodyOf (entryOf (fieldsOf s at e))))) o
+        ∙ written-over (bodyOf (entryOf (fieldsOf s at e))) (ended (bodyOf (entryOf (fieldsOf s at e)))) area (ended-more (bodyOf (entryOf (fieldsOf s at e))))
 
 pub ruleset text-laws = (text-body, text-front, text-room, text-written)
 
@@ -223,14 +221,16 @@ module _ (s : List ℕ) (at e : ℕ) (f : Found) where
 
   pub text-none : (n m k : ℕ) → Reads s f (fieldWith 8 (fieldsOf s at e)) → n ≡ length (headOf (entryOf (fieldsOf s at e))) → m ≡ lenOf f
       → k ≡ besideLen n 2 m → k ≡ 0 → 0 ≡ length (sourceTextOf (entryOf (fieldsOf s at e)))
+  unfolding sourceTextOf
   text-none n m k r p q g z =
       let b = body-long n m k r p q g in
-      rw (text-is s at e [], ended-none (bodyOf (entryOf (fieldsOf s at e))) (sym b ∙ z)) (sym z ∙ b)
+      rw (ended-none (bodyOf (entryOf (fieldsOf s at e))) (sym b ∙ z)) (sym z ∙ b)
 
   pub text-some : (n m : ℕ) {k : ℕ} → Reads s f (fieldWith 8 (fieldsOf s at e)) → n ≡ length (headOf (entryOf (fieldsOf s at e))) → m ≡ lenOf f
       → k ≡ besideLen n 2 m → (k ≡ 0 → ⊥) → k + 1 ≡ length (sourceTextOf (entryOf (fieldsOf s at e)))
+  unfolding sourceTextOf
   text-some n m {k} r p q g z =
       let b = body-long n m k r p q g in
-      rw (text-is s at e [], ended-some (bodyOf (entryOf (fieldsOf s at e))) (λ y. z (b ∙ y)), length-append) (omega arith)
+      rw (ended-some (bodyOf (entryOf (fieldsOf s at e))) (λ y. z (b ∙ y)), length-append) (omega arith)
 
 pub ruleset text-len-laws = (body-sum, text-one, text-none, text-some)

@@ -2,12 +2,11 @@
 use Prim.Native.Nat.{ℕ}
 use mathlib.Core.List.{List}
 use mathlib.Core.Bool.{not}
-use lib.ListN.{length, getD}
+use lib.ListN.{length}
 use lib.Dec.{ltb}
 use Rattle.base.specs.Pick.{pick}
 use Rattle.base.specs.Lists.{written}
-use Rattle.pool.specs.Entries.{Entry, noEntry}
-use Rattle.pool.specs.Layout.{wellFormed, entriesOf}
+use Rattle.pool.specs.Layout.{countOf, wellFormed, entryAt}
 use Rattle.source_text.specs.Text.{sourceTextOf}
 
 -- number (0: accepted), "the bytes written", and the lent area at the end
@@ -20,10 +19,6 @@ pub record SourceAnswer : Type 0 where
 abbrev pub sourceRefused : ℕ → List ℕ → SourceAnswer
 sourceRefused number area = record { number = number; bytes = 0; area = area }
 
--- entry number `i`
-unfoldable pub entryAt : List ℕ → ℕ → Entry
-entryAt pool i = getD (entriesOf pool) i noEntry
-
 -- the text `out` in its area: 10, "answer longer than its area"
 unfoldable pub sourceWritten : List ℕ → List ℕ → SourceAnswer
 sourceWritten out area =
@@ -34,5 +29,5 @@ sourceWritten out area =
 unfoldable pub sourceTextCall : List ℕ → ℕ → List ℕ → SourceAnswer
 sourceTextCall pool entry area =
     pick (not (wellFormed pool)) (sourceRefused 7 area)
-    (pick (not (ltb entry (length (entriesOf pool)))) (sourceRefused 8 area)
+    (pick (not (ltb entry (countOf pool))) (sourceRefused 8 area)
     (sourceWritten (sourceTextOf (entryAt pool entry)) area))

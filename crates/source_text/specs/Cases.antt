@@ -7,16 +7,16 @@ use Rattle.base.specs.Fold.{fold}
 use Rattle.base.specs.Lists.{part, written}
 use Rattle.utf8.specs.Utf8.{utf8, utf8In, charWidth}
 use Rattle.pool.specs.Numbers.{leAt, signedOf}
-use Rattle.pool.specs.Fields.{fieldEnd, fieldAt, fieldsIn, fillIn, fieldsOf, fill, follows, contentGood, fieldsGood, entryGood}
+use Rattle.pool.specs.Fields.{fieldEnd, fieldAt, fieldsIn, fillIn, fieldsOf, fill, follows, contentGood, fieldsGood, goodFrom}
 use Rattle.pool.specs.Entries.{fieldWith, inName, nameAfter, nameAt, namesIn, yearIn, entryOf}
-use Rattle.pool.specs.Layout.{entriesGood, laidOut, wellFormed, entriesIn, entriesOf}
+use Rattle.pool.specs.Layout.{entriesGood, laidOut, wellFormed, entryAt}
 use Rattle.decimal.specs.Decimal.{countIn, lastDigits, decimal}
 use Rattle.source.specs.Decimal.{signedDecimal}
-use Rattle.source_text.specs.Text.{beside, addName, namesOf, headOf, ended, sourceTextOf}
-use Rattle.source_parts.specs.Names.{nameBy, nameOf}
+use Rattle.source_text.specs.Text.{beside, addName, namesOf, headOf, ended, bodyOf, sourceTextOf}
+use Rattle.source_parts.specs.Names.{givenPart, familyPart, nameBy, nameOf}
 use Rattle.source.specs.Entry.{yearBy, yearOf}
 use Rattle.source_parts.specs.Parens.{inParens}
-use Rattle.source_text.specs.Call.{sourceRefused, entryAt, sourceWritten, sourceTextCall}
+use Rattle.source_text.specs.Call.{sourceRefused, sourceWritten, sourceTextCall}
 
 -- one entry: id `a`; names `Ant`, `A.` and an empty literal; year -44; no date; title `T`
 abbrev ants : List ℕ
@@ -29,22 +29,22 @@ ants =
     ∷ 8 ∷ 1 ∷ 0 ∷ 84 ∷ []
 
 ants-good : wellFormed ants ≡ true
-unfolding wellFormed laidOut entriesGood entryGood fill fillIn fieldsOf fieldsIn fieldsGood fieldAt fieldEnd follows contentGood utf8 utf8In charWidth part leAt
+unfolding wellFormed laidOut entriesGood goodFrom fill fillIn fieldsOf fieldsIn fieldsGood fieldAt fieldEnd follows contentGood utf8 utf8In charWidth part leAt
 ants-good = refl
 
 -- `Ant, A. (-44). T.`
 ants-text : sourceTextCall ants 0 (7 ∷ 7 ∷ 7 ∷ 7 ∷ 7 ∷ 7 ∷ 7 ∷ 7 ∷ 7 ∷ 7 ∷ 7 ∷ 7 ∷ 7 ∷ 7 ∷ 7 ∷ 7 ∷ 7 ∷ 7 ∷ [])
     ≡ record { number = 0; bytes = 17; area = 65 ∷ 110 ∷ 116 ∷ 44 ∷ 32 ∷ 65 ∷ 46 ∷ 32 ∷ 40 ∷ 45 ∷ 52 ∷ 52 ∷ 41 ∷ 46 ∷ 32 ∷ 84 ∷ 46 ∷ 7 ∷ [] }
-unfolding wellFormed laidOut entriesGood entryGood fill fillIn fieldsOf fieldsIn fieldsGood fieldAt fieldEnd follows contentGood utf8 utf8In charWidth part leAt sourceTextCall sourceWritten entryAt entriesOf entriesIn entryOf fieldWith namesIn nameAt nameAfter inName yearIn signedOf sourceTextOf headOf namesOf addName nameOf nameBy beside yearOf yearBy inParens ended signedDecimal decimal lastDigits countIn fold written
+unfolding wellFormed laidOut entriesGood goodFrom fill fillIn fieldsOf fieldsIn fieldsGood fieldAt fieldEnd follows contentGood utf8 utf8In charWidth part leAt sourceTextCall sourceWritten entryAt entryOf fieldWith namesIn nameAt nameAfter inName yearIn signedOf sourceTextOf bodyOf headOf namesOf addName nameOf nameBy familyPart givenPart beside yearOf yearBy inParens ended signedDecimal decimal lastDigits countIn fold written
 ants-text = refl
 
 -- 10, 8, 7, and 8 with no pool
 ants-short : sourceTextCall ants 0 (7 ∷ []) ≡ sourceRefused 10 (7 ∷ [])
-unfolding wellFormed laidOut entriesGood entryGood fill fillIn fieldsOf fieldsIn fieldsGood fieldAt fieldEnd follows contentGood utf8 utf8In charWidth part leAt sourceTextCall sourceWritten entryAt entriesOf entriesIn entryOf fieldWith namesIn nameAt nameAfter inName yearIn signedOf sourceTextOf headOf namesOf addName nameOf nameBy beside yearOf yearBy inParens ended signedDecimal decimal lastDigits countIn fold written
+unfolding wellFormed laidOut entriesGood goodFrom fill fillIn fieldsOf fieldsIn fieldsGood fieldAt fieldEnd follows contentGood utf8 utf8In charWidth part leAt sourceTextCall sourceWritten entryAt entryOf fieldWith namesIn nameAt nameAfter inName yearIn signedOf sourceTextOf bodyOf headOf namesOf addName nameOf nameBy familyPart givenPart beside yearOf yearBy inParens ended signedDecimal decimal lastDigits countIn fold written
 ants-short = refl
 
 ants-one : sourceTextCall ants 1 [] ≡ sourceRefused 8 []
-unfolding wellFormed laidOut entriesGood entryGood fill fillIn fieldsOf fieldsIn fieldsGood fieldAt fieldEnd follows contentGood utf8 utf8In charWidth part leAt sourceTextCall sourceWritten entryAt entriesOf entriesIn
+unfolding wellFormed laidOut entriesGood goodFrom fill fillIn fieldsOf fieldsIn fieldsGood fieldAt fieldEnd follows contentGood utf8 utf8In charWidth part leAt sourceTextCall sourceWritten
 ants-one = refl
 
 zero-byte : sourceTextCall (0 ∷ []) 0 [] ≡ sourceRefused 7 []
@@ -52,5 +52,5 @@ unfolding wellFormed laidOut sourceTextCall leAt entriesGood
 zero-byte = refl
 
 no-pool : sourceTextCall [] 0 [] ≡ sourceRefused 8 []
-unfolding wellFormed laidOut sourceTextCall leAt entriesGood entriesOf entriesIn
+unfolding wellFormed laidOut sourceTextCall leAt entriesGood
 no-pool = refl

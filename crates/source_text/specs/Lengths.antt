@@ -1,13 +1,11 @@
 -- The lengths of what is joined, and what stands before a part that is to follow.
-use mathlib.Core.Option.{Option·getD}
 use Prim.Native.Nat.{ℕ, _+_}
-use mathlib.Core.List.{List, [], _∷_, _++_}
+use mathlib.Core.List.{List, _++_}
 use lib.ListN.{length}
 use lib.Dec.{eqb}
 use Rattle.base.specs.Pick.{pick}
-use Rattle.pool.specs.Entries.{Name, Entry}
+use Rattle.pool.specs.Entries.{Name}
 use Rattle.source_parts.specs.Names.{nameOf}
-use Rattle.source_text.specs.Text.{beside, headOf}
 
 -- the length of `beside`, with a separator of `sep` bytes
 unfoldable pub besideLen : ℕ → ℕ → ℕ → ℕ
@@ -20,7 +18,3 @@ opened sep a m = pick (eqb (length a) 0) a (pick (eqb m 0) a (a ++ sep))
 -- the length of the names so far, and one more
 unfoldable pub addLen : ℕ → Name → ℕ
 addLen n name = besideLen n 2 (length (nameOf name))
-
--- the text without its stop
-unfoldable pub bodyOf : Entry → List ℕ
-bodyOf e = beside (46 ∷ 32 ∷ []) (headOf e) (Option·getD (e .title) [])

@@ -30,7 +30,11 @@ headOf e = beside (32 ∷ []) (namesOf e) (inParens (yearOf e))
 unfoldable pub ended : List ℕ → List ℕ
 ended s = pick (isEmpty s) [] (s ++ (46 ∷ []))
 
+-- head, `. ` and title: the text without its stop
+unfoldable pub bodyOf : Entry → List ℕ
+bodyOf e = beside (46 ∷ 32 ∷ []) (headOf e) (Option·getD (e .title) [])
+
 -- "Text is head, `. `, title, `.`; an empty head or title falls out together with the `. ` between them; with both empty the text
 -- is empty."
 unfoldable pub sourceTextOf : Entry → List ℕ
-sourceTextOf e = ended (beside (46 ∷ 32 ∷ []) (headOf e) (Option·getD (e .title) []))
+sourceTextOf e = ended (bodyOf e)

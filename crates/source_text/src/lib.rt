@@ -6,8 +6,8 @@ ghost use mathlib.Core.Option.{Option·getD};
 ghost use Prim.Native.Nat.{_+_, _≤_, _<_};
 ghost use lib.ListN.{length, take};
 ghost use Rattle.base.specs.Lists.{byteAt, written};
-ghost use Rattle.source_text.specs.Lengths.{besideLen, opened, addLen, bodyOf};
-ghost use Rattle.source_text.specs.Text.{addName, namesOf, beside, headOf, ended, sourceTextOf};
+ghost use Rattle.source_text.specs.Lengths.{besideLen, opened, addLen};
+ghost use Rattle.source_text.specs.Text.{addName, namesOf, beside, headOf, ended, bodyOf, sourceTextOf};
 ghost use Rattle.source.specs.Entry.{yearOf};
 ghost use Rattle.source_parts.specs.Parens.{inParens};
 ghost use Rattle.source_text.specs.Call.{sourceTextCall};
@@ -15,8 +15,8 @@ ghost use Rattle.source_text.specs.Values.{sourceTextValues, sourceTextN
 ghost use Rattle.source_text.specs.Room.{Wrote, Fit, NameFits, NextFits};
 ghost use Rattle.base.specs.Fold.{fold};
 ghost use Rattle.pool.specs.Fields.{fieldsOf};
-ghost use Rattle.pool.specs.Entries.{fieldWith, nameAt};
-ghost use Rattle.pool.specs.Places.{nameAtParts, FieldsIn, EntryIn, entryFrom};
+ghost use Rattle.pool.specs.Entries.{fieldWith, nameAt, entryFrom};
+ghost use Rattle.pool.specs.Places.{nameAtParts, FieldsIn, EntryIn};
 
 // The answer of the source text call; a definition (specs/Values) gives the paper's numbers for each case.
 pub enum SourceText {

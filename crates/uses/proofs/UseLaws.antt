@@ -1,7 +1,6 @@
 -- Numbers and uses, in the form of the needs.
 use Prim.Native.Nat.{ℕ, _+_, _-_, _*_, _%_, _≤_, _<_}
 use native.Mathlib.Omega.{arith}
-use native.Mathlib.Nat.{mod-lt}
 use mathlib.Core.Path.{_≡_, refl, sym, _∙_}
 use mathlib.Core.List.{List}
 use mathlib.Core.Bool.{Bool, true, false, _&&_}
@@ -83,16 +82,6 @@ module _ (text items : List ℕ) (k number i : ℕ) where
 
 pub ruleset alike-laws = (alike-other, alike-unmarked, alike-same, alike-start, alike-end, alike-here, alike-before)
 
--- a use after another
-pub next-pooled : (t : Bool) (b : ℕ) → t ≡ true → (b + 1) % 65536 ≡ pick t ((b + 1) % 65536) 0
-next-pooled t b p = rw p refl
-
-pub next-bare : (t : Bool) (b : ℕ) → t ≡ false → 0 ≡ pick t ((b + 1) % 65536) 0
-next-bare t b p = rw p refl
-
-pub below-wrap : (n : ℕ) → n % 65536 < 65536
-below-wrap n = mod-lt n (omega arith)
-
 -- the number and the use where the key was used before, and where it was not
 module _ (text items : List ℕ) (pooled : Bool) (sources k : ℕ) {j : ℕ} (p : j ≡ lastUse text items k) where
   pub counts-again : {n u v : ℕ} → j < k → n ≡ itemField items j 12 → u ≡ itemField items j 13 → v ≡ pick pooled ((u + 1) % 65536) 0
@@ -115,7 +104,7 @@ module _ (text items : List ℕ) (pooled : Bool) (sources k : ℕ) {j : ℕ} (p 
     more = omega arith;
   }
 
-pub ruleset count-laws = (next-pooled, next-bare, below-wrap, counts-again, counts-first)
+pub ruleset count-laws = (counts-again, counts-first)
 
 pub set-four : (items : List ℕ) (k n u a l : ℕ) {i1 i2 i3 i4 : List ℕ} → i1 ≡ set items (16 * k + 12) n → i2 ≡ set i1 (16 * k + 13) u
     → i3 ≡ set i2 (16 * k + 14) a → i4 ≡ set i3 (16 * k + 15) l → i4 ≡ setLast items k n u a l

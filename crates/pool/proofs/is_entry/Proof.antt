@@ -3,8 +3,7 @@ use borrow.Author.Needs.{needs}
 use Rattle.pool.proofs.LayoutLaws.{entry-laws, field-room}
 use Prim.Native.Nat.{_-_, _≤_}
 use mathlib.Core.Path.{_≡_}
-use Rattle.pool.specs.Fields.{entryGood}
-use Rattle.pool.specs.Steps.{goodFrom}
+use Rattle.pool.specs.Fields.{goodFrom, entryGood}
 use Rattle.pool.proofs.is_entry.Statement.{statement}
 use Rattle.pool.proofs.is_entry.Tie as tie
 

@@ -1,6 +1,6 @@
 -- `uses::next_use` meets its contract. Assumes nothing.
 use borrow.Author.Needs.{needs}
-use Rattle.uses.proofs.UseLaws.{count-laws}
+use Rattle.base.proofs.Picks.{pick-yes}
 use Rattle.uses.proofs.next_use.Statement.{statement}
 use Rattle.uses.proofs.next_use.Tie as tie
 
@@ -10,5 +10,5 @@ next-use-spec =
     (tie.spec
     (λ c. search needs)
     (λ c. search needs)
-    (λ c. search (count-laws, needs))
+    (λ c. search (pick-yes, needs))
     (λ c. search needs))

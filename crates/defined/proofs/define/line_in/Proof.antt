@@ -3,7 +3,7 @@
 use Prim.Native.Nat.{_≤_}
 use mathlib.Core.Path.{_≡_}
 use Rattle.base.specs.Last.{last}
-use Rattle.defined.specs.Definitions.{definesKeyIn, lineIn}
+use Rattle.defined.specs.Lines.{definesKeyIn, lineIn}
 use borrow.Author.Needs.{needs}
 use Rattle.defined.proofs.LineLaws.{line-laws}
 use Rattle.defined.proofs.define.line_in.Statement.{statement}
