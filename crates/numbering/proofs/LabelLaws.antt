@@ -25,7 +25,8 @@ use Rattle.records.specs.Records.{itemField, keyIn, suppressedIn}
 use Rattle.defined.specs.Defined.{definedAs}
 use Rattle.uses.specs.Uses.{sameLabel, lastAlike}
 use Rattle.numbering.specs.declared.Numbering.{Numbering}
-use Rattle.numbering.specs.Progress.{labelOf, Alike, LabelStands, Labelled}
+use Rattle.numbering.specs.Numbers.{labelOf}
+use Rattle.numbering.specs.Progress.{Alike, LabelStands, Labelled}
 
 module _ (text pool groups items : List ℕ) (mode n k number : ℕ) where
   abbrev L : List ℕ

@@ -10,9 +10,8 @@ use Rattle.base.specs.Pick.{pick}
 use Rattle.base.proofs.Areas.{written-none}
 use Rattle.numbering.specs.declared.Numbering.{Numbering}
 use Rattle.records.specs.Records.{groupField}
-use Rattle.numbering.specs.Numbers.{Numbered, citeIn, citeFrom, standsNumbered, isNumbered, numberGroup, numberFrom, numberAll, definedFrom}
-use Rattle.numbering.specs.Progress.{keysDefined, roomOf, state, Holds, Advances}
-use Rattle.numbering.proofs.GroupLaws.{keys-are}
+use Rattle.numbering.specs.Numbers.{Numbered, citeIn, citeFrom, standsNumbered, isNumbered, numberGroup, numberFrom, numberAll, keysDefined}
+use Rattle.numbering.specs.Progress.{roomOf, state, Holds, Advances}
 use Rattle.numbering.proofs.CiteLaws.{full-more, none-yet, then, as-step, cite-grows}
 
 module _ (text : List ℕ) (mode : ℕ) (pool : List ℕ) (n : ℕ) where
@@ -106,9 +105,8 @@ module _ (text : List ℕ) (mode : ℕ) (pool : List ℕ) (n : ℕ) where
     module _ {first count : ℕ} {b : Bool} (o : not (s .fits) ≡ false) (p : first ≡ groupField groups g 2) (q : count ≡ groupField groups g 3)
         (k : b ≡ keysDefined text pool groups items n count first) where
       keys-of : (t : Numbered) → groups ≡ t .groups → items ≡ t .items
-          → definedFrom text mode pool n (groupField (t .groups) g 3) t (groupField (t .groups) g 2) ≡ b
-      keys-of t e f =
-          keys-are text mode pool n (groupField (t .groups) g 3) t (groupField (t .groups) g 2) ∙ rw (← e, ← f, ← p, ← q) (sym k)
+          → keysDefined text pool (t .groups) (t .items) n (groupField (t .groups) g 3) (groupField (t .groups) g 2) ≡ b
+      keys-of t e f = rw (← e, ← f, ← p, ← q) (sym k)
 
       pub group-undefined : b ≡ false → Advances 65535 (λ t. numberGroup text mode pool n t g) s s items groups labels items groups labels
       unfolding isNumbered
