@@ -25,13 +25,12 @@ use Rattle.defined.specs.Definitions.{definesIn, definesKeyIn, lineIn, definiti
 use Rattle.records.specs.Records.{keyIn, groupField}
 use Rattle.defined.specs.Defined.{definedAs, foundIn, definitionNumber, definitionAt, keyBy, DefinedIn}
 use Rattle.entries.specs.Entries.{entryAt, entryHas, entryIn}
-use Rattle.order.specs.Order.{less}
+use Rattle.order.specs.Order.{insertBy, insertedFrom}
 use Rattle.order.specs.References.{sourceKeyIn, rankIn, numberOfKey, SourcesKnown}
-use Rattle.order.specs.Ordered.{rankBy, definitionOf, sourceBy, insertBy, insertedFrom, SortedBy}
+use Rattle.order.specs.Ordered.{rankBy, definitionOf, sourceBy, SortedBy}
 use Rattle.base.proofs.Lasts.{last-holds}
 use Rattle.defined.proofs.DefinedLaws.{find-line, find-entry, find-nothing}
-use Rattle.order.proofs.OrderLaws.{inserted-next, inserted-count}
-use Rattle.order.proofs.Sorting.{insert-each, insert-sorted}
+use Rattle.order.proofs.Insertions.{insert-sorted, insert-alike, inserted-next, inserted-length, inserted-each}
 
 -- what a key is defined by ---------------------------------------------------------------------------------------------------------
 
@@ -131,27 +130,6 @@ module _ (text pool groups items : List ℕ) (n m : ℕ) where
 
 -- lists of sources -----------------------------------------------------------------------------------------------------------------
 
--- numbers of the same ranks are inserted at the same place
-insert-alike : (D : ℕ → ℕ) (B R : ℕ → List ℕ) (l : List ℕ) (k : ℕ) → Each (λ q. B (D q) ≡ R q) l → B (D k) ≡ R k
-    → insertBy B (map D l) (D k) ≡ map D (insertBy R l k)
-unfolding insertBy
-insert-alike D B R [] k a e = refl
-insert-alike D B R (q ∷ qs) k a e = rw (e, a .0) (go (less (R k) (R q)) (insert-alike D B R qs k (a .1) e))
-  where
-    go : (t : Bool) → insertBy B (map D qs) (D k) ≡ map D (insertBy R qs k)
-        → pick t (D k ∷ D q ∷ map D qs) (D q ∷ insertBy B (map D qs) (D k)) ≡ map D (pick t (k ∷ q ∷ qs) (q ∷ insertBy R qs k))
-    go true r = refl
-    go false r = ap (λ (l : List ℕ). D q ∷ l) r
-
--- those that are inserted are the numbers from `k` on
-inserted-each : (rank : ℕ → List ℕ) (P : ℕ → Type 0) (i : ℕ) (l : List ℕ) (k : ℕ) → Each P l → ((j : ℕ) → k ≤ j → j < k + i → P j)
-    → Each P (insertedFrom rank i l k)
-unfolding insertedFrom
-inserted-each rank P zero l k a h = a
-inserted-each rank P (suc i) l k a h =
-    inserted-each rank P i (insertBy rank l k) (k + 1) (insert-each rank P l k a (h k (omega arith) (omega arith)))
-    (λ j b c. h j (omega arith) (omega arith))
-
 map-back : (D S : ℕ → ℕ) (l : List ℕ) → Each (λ q. S (D q) ≡ q) l → map S (map D l) ≡ l
 map-back D S [] a = refl
 map-back D S (q ∷ qs) a = rw (a .0) (ap (λ (l : List ℕ). q ∷ l) (map-back D S qs (a .1)))
@@ -165,7 +143,7 @@ module _ (text pool groups items : List ℕ) (n m : ℕ) (before : List ℕ) whe
 
   defined-count : (i : ℕ) → length (defined i) ≡ i
   defined-count i =
-      omega (arith, length-map (ranked i) (definitionOf text pool groups items n m), inserted-count (rankIn text pool groups items n m) i [] 1)
+      omega (arith, length-map (ranked i) (definitionOf text pool groups items n m), inserted-length (rankIn text pool groups items n m) i [] 1)
 
   pub definitions-start : before ≡ written (map (definitionOf text pool groups items n m) (insertedFrom (rankIn text pool groups items n m) 0 [] 1)) before
   unfolding insertedFrom
