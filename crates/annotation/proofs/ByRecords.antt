@@ -4,9 +4,9 @@ use native.Mathlib.Omega.{arith}
 use mathlib.Core.Path.{_≡_, refl, sym, _∙_, ap}
 use mathlib.Core.List.{List, [], _∷_, map}
 use mathlib.Core.Logic.{inl, inr}
-use mathlib.Core.Bool.{Bool, true, false}
+use mathlib.Core.Bool.{Bool, false}
 use lib.ListN.{length, getD}
-use lib.Dec.{eqb, ltb}
+use lib.Dec.{ltb}
 use borrow.Author.Tests.{eqb-true, eq-eqb, ltb-true}
 use Rattle.base.specs.First.{first}
 use Rattle.base.proofs.Searches.{first-holds, first-before}
@@ -36,7 +36,7 @@ use Rattle.annotation.proofs.Joins.{Known, Joined}
 use Rattle.annotation.proofs.Passes.{Agrees, definitions-agree, tally-agrees, numbers-agree}
 
 -- a source's first use is in a record with its number, so that record has its key
-module _ (text pool groups items : List ℕ) (n m : ℕ) (pooled : Bool) (sources : List Source) (d : Joined text items pooled m sources) where
+module _ (text items : List ℕ) (m : ℕ) (pooled : Bool) (sources : List Source) (d : Joined text items pooled m sources) where
   some-record : (k : ℕ) → numberOf (sourceKey sources k) sources ≡ k → k ≤ length sources → firstWith items m k < m
   unfolding numberOf firstWith hasNumber
   some-record k e l = go (d .known (sourceKey sources k))
@@ -49,7 +49,7 @@ module _ (text pool groups items : List ℕ) (n m : ℕ) (pooled : Bool) (source
       go (inr u) = absurd (let z = u .new in omega arith)
 
   key-of-source : (k : ℕ) → numberOf (sourceKey sources k) sources ≡ k → 1 ≤ k → k ≤ length sources
-      → sourceKeyIn text pool groups items n m k ≡ sourceKey sources k
+      → sourceKeyIn text items m k ≡ sourceKey sources k
   unfolding sourceKeyIn firstWith hasNumber sourceKey
   key-of-source k e h l =
       let j = firstWith items m k in
@@ -96,28 +96,24 @@ module _ (text : List ℕ) (mode : ℕ) (all : List Group) (pool restItems restG
       (length all) pool key
       ∙ definitions-agree text all pool restItems restGroups key f
 
+  key-then : (k : ℕ) → 1 ≤ k → k ≤ length sources → sourceKeyIn text (N .items) (itemCount all) k ≡ sourceKey sources k
+  key-then k h l =
+      key-of-source text (N .items) (itemCount all) (hasPool pool) sources (ends .joined) k (numbers-are-places text mode all pool k h l) h l
+
   rank-agrees : (k : ℕ) → 1 ≤ k → k ≤ length sources
       → rankIn text pool (N .groups) (N .items) (length all) (itemCount all) k ≡ rankOf text all pool (sourceKey sources k)
   unfolding rankIn rankOf
-  rank-agrees k h l =
-      let e = key-of-source text pool (N .groups) (N .items) (length all) (itemCount all) (hasPool pool) sources (ends .joined) k
-      (numbers-are-places text mode all pool k h l) h l in
-      rw (e, defined-then (sourceKey sources k))
+  rank-agrees k h l = rw (key-then k h l, defined-then (sourceKey sources k))
 
   pub known-sources : SourcesKnown text pool (N .groups) (N .items) (length all) (itemCount all) (N .sources)
   known-sources = record {
     defined = λ k h l.
-        rw (key k h (omega (arith, ends .sources)), defined-then (sourceKey sources k)) (source-defined text mode all pool k h (omega (arith, ends .sources)));
+        rw (key-then k h (omega (arith, ends .sources)), defined-then (sourceKey sources k)) (source-defined text mode all pool k h (omega (arith, ends .sources)));
     numbered = λ k h l.
-        rw (key k h (omega (arith, ends .sources)))
-        (number-of-source text pool (N .groups) (N .items) (length all) (itemCount all) (hasPool pool) sources (ends .joined) k
+        rw (key-then k h (omega (arith, ends .sources)))
+        (number-of-source text (N .items) (itemCount all) (hasPool pool) sources (ends .joined) k
         (numbers-are-places text mode all pool k h (omega (arith, ends .sources))) (omega (arith, ends .sources)));
   }
-    where
-      key : (k : ℕ) → 1 ≤ k → k ≤ length sources → sourceKeyIn text pool (N .groups) (N .items) (length all) (itemCount all) k ≡ sourceKey sources k
-      key k h l =
-          key-of-source text pool (N .groups) (N .items) (length all) (itemCount all) (hasPool pool) sources (ends .joined) k
-          (numbers-are-places text mode all pool k h l) h l
 
 pub references-agree : ReferencesAgree
 unfolding referencesIn referencesOf

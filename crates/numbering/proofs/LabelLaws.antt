@@ -2,7 +2,7 @@
 use Prim.Native.Nat.{ℕ, _+_, _%_, _≤_, _<_}
 use native.Mathlib.Omega.{arith}
 use mathlib.Core.Path.{_≡_, refl, sym, _∙_, ap}
-use mathlib.Core.List.{List, []}
+use mathlib.Core.List.{List}
 use mathlib.Core.Bool.{Bool, true, false, _&&_, _||_, true≢false}
 use lib.ListN.{length, take, drop, length-take, length-drop}
 use lib.Dec.{eqb, ltb}

@@ -20,6 +20,10 @@ pub record Numbered : Type 0 where
   pub groups : List ℕ
   pub labels : List ℕ
 
+-- before the first group
+abbrev pub start : List ℕ → List ℕ → Numbered
+start items groups = record { sources = 0; items = items; groups = groups; labels = [] }
+
 -- the key of item record `k` is defined
 unfoldable pub keyDefined : List ℕ → List ℕ → List ℕ → List ℕ → ℕ → ℕ → Bool
 keyDefined text pool groups items n k = isDefined (definitionIn text groups items n pool (keyIn text items k))
@@ -89,4 +93,4 @@ module _ (text : List ℕ) (mode : ℕ) (pool : List ℕ) (n : ℕ) where
 
   -- all of them, from the records as the sweep left them
   unfoldable pub numberAll : List ℕ → List ℕ → Numbered
-  numberAll items groups = numberFrom n (record { sources = 0; items = items; groups = groups; labels = [] }) 0
+  numberAll items groups = numberFrom n (start items groups) 0

@@ -14,14 +14,9 @@ use Rattle.base.specs.Sorted.{Each, Sorted}
 use Rattle.base.proofs.Alls.{each-map}
 use Rattle.base.proofs.Ups.{up-length}
 use Rattle.order.specs.Order.{less, insertBy, insertedFrom, referenceOrder, Precedes}
-use Rattle.order.specs.Ordered.{SortedBy}
 use Rattle.order.proofs.Sorting.{less-asym, less-cut, less-or}
 
 -- one number -----------------------------------------------------------------------------------------------------------------------
-
-each-of : (P : ℕ → Type 0) (l : List ℕ) → ((x : ℕ) → P x) → Each P l
-each-of P [] f = tt
-each-of P (x ∷ xs) f = (f x, each-of P xs f)
 
 module _ (rank : ℕ → List ℕ) where
   pub insert-length : (l : List ℕ) (k : ℕ) → length (insertBy rank l k) ≡ suc (length l)
@@ -51,40 +46,24 @@ module _ (rank : ℕ → List ℕ) where
       go true i = Permᴰ·refl (k ∷ q ∷ qs)
       go false i = List·Permᴰ·trans (List·Permᴰ·cons refl i) (List·Permᴰ·swap refl refl)
 
-  -- In order by a relation: the new number has it to one with a greater rank and to what that one has it to, and one with no greater rank
-  -- has it to the new number.
-  insert-order : (R : ℕ → ℕ → Type 0) (k : ℕ) → ((q : ℕ) → less (rank k) (rank q) ≡ true → R k q)
-      → ((q x : ℕ) → less (rank k) (rank q) ≡ true → R q x → R k x)
-      → (l : List ℕ) → Each (λ q. less (rank k) (rank q) ≡ false → R q k) l → Sorted R l → Sorted R (insertBy rank l k)
-  unfolding insertBy
-  insert-order R k a b [] c s = (tt, tt)
-  insert-order R k a b (q ∷ qs) c s = go (less (rank k) (rank q)) refl (insert-order R k a b qs (c .1) (s .1))
-    where
-      go : (t : Bool) → less (rank k) (rank q) ≡ t → Sorted R (insertBy rank qs k) → Sorted R (pick t (k ∷ q ∷ qs) (q ∷ insertBy rank qs k))
-      go true e r = ((a q e, each-map (R q) (R k) qs (λ x h. b q x e h) (s .0)), s)
-      go false e r = (insert-each (R q) qs k (s .0) (c .0 e), r)
-
-  pub insert-sorted : (l : List ℕ) (k : ℕ) → SortedBy rank l → SortedBy rank (insertBy rank l k)
-  insert-sorted l k =
-      insert-order (λ a b. less (rank b) (rank a) ≡ false) k
-      (λ q e. less-asym (rank k) (rank q) e)
-      (λ q x e h. less-asym (rank k) (rank x) (less-cut (rank k) (rank q) (rank x) e h))
-      l
-      (each-of _ l (λ q e. e))
-
+  -- the highest number so far comes after those of the same rank
   insert-precedes : (l : List ℕ) (k : ℕ) → Each (λ q. q < k) l → Sorted (Precedes rank) l → Sorted (Precedes rank) (insertBy rank l k)
-  insert-precedes l k h = insert-order (Precedes rank) k (λ q e. inl e) before l (each-map (λ q. q < k) _ l after h)
+  unfolding insertBy
+  insert-precedes [] k h s = (tt, tt)
+  insert-precedes (q ∷ qs) k h s = go (less (rank k) (rank q)) refl (insert-precedes qs k (h .1) (s .1))
     where
-      before : (q x : ℕ) → less (rank k) (rank q) ≡ true → Precedes rank q x → Precedes rank k x
-      before q x e (inl g) = inl (less-cut (rank k) (rank q) (rank x) e (less-asym (rank q) (rank x) g))
-      before q x e (inr g) = inl (subst (λ (y : List ℕ). less (rank k) y ≡ true) (g .0) e)
+      before : less (rank k) (rank q) ≡ true → (x : ℕ) → Precedes rank q x → Precedes rank k x
+      before e x (inl g) = inl (less-cut (rank k) (rank q) (rank x) e (less-asym (rank q) (rank x) g))
+      before e x (inr g) = inl (subst (λ (y : List ℕ). less (rank k) y ≡ true) (g .0) e)
 
-      after : (q : ℕ) → q < k → less (rank k) (rank q) ≡ false → Precedes rank q k
-      after q m e = on (less-or (rank q) (rank k) e)
-        where
-          on : (less (rank q) (rank k) ≡ true) ⊎ (rank q ≡ rank k) → Precedes rank q k
-          on (inl a) = inl a
-          on (inr a) = inr (a, m)
+      after : (less (rank q) (rank k) ≡ true) ⊎ (rank q ≡ rank k) → Precedes rank q k
+      after (inl a) = inl a
+      after (inr a) = inr (a, h .0)
+
+      go : (t : Bool) → less (rank k) (rank q) ≡ t → Sorted (Precedes rank) (insertBy rank qs k)
+          → Sorted (Precedes rank) (pick t (k ∷ q ∷ qs) (q ∷ insertBy rank qs k))
+      go true e r = ((inl e, each-map (Precedes rank q) (Precedes rank k) qs (before e) (s .0)), s)
+      go false e r = (insert-each (Precedes rank q) qs k (s .0) (after (less-or (rank q) (rank k) e)), r)
 
 -- numbers of the same ranks are inserted at the same place
 pub insert-alike : (D : ℕ → ℕ) (B R : ℕ → List ℕ) (l : List ℕ) (k : ℕ) → Each (λ q. B (D q) ≡ R q) l → B (D k) ≡ R k
@@ -135,7 +114,7 @@ module _ (rank : ℕ → List ℕ) where
       List·Permᴰ·trans (inserted-perm i (insertBy rank l k) (k + 1))
       (List·Permᴰ·trans (Permᴰ·append-left (upFrom (k + 1) i) (insert-perm rank l k)) first)
 
-  inserted-precedes : (i : ℕ) (l : List ℕ) (k : ℕ) → Each (λ q. q < k) l → Sorted (Precedes rank) l
+  pub inserted-precedes : (i : ℕ) (l : List ℕ) (k : ℕ) → Each (λ q. q < k) l → Sorted (Precedes rank) l
       → Sorted (Precedes rank) (insertedFrom rank i l k)
   unfolding insertedFrom
   inserted-precedes zero l k h s = s

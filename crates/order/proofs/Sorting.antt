@@ -54,6 +54,13 @@ less-asym (x ∷ xs) (y ∷ ys) h = go (three x y xs ys) (less-asym xs ys)
     go (inr (inl e)) rec = less-eq y x ys xs (sym e) ∙ rec (sym (less-eq x y xs ys e) ∙ h)
     go (inr (inr l)) rec = absurd (true≢false (sym h ∙ less-gt x y xs ys l))
 
+pub less-self : (a : List ℕ) → less a a ≡ false
+less-self a = go (less a a) refl
+  where
+    go : (t : Bool) → less a a ≡ t → t ≡ false
+    go true e = sym e ∙ less-asym a a e
+    go false e = refl
+
 -- what is below one is below all that are not below that one
 pub less-cut : (a b c : List ℕ) → less a b ≡ true → less c b ≡ false → less a c ≡ true
 unfolding less

@@ -4,9 +4,11 @@ use mathlib.Core.Path.{_≡_}
 use mathlib.Core.List.{List, [], _∷_}
 use mathlib.Core.Logic.{_⊎_}
 use mathlib.Core.Bool.{Bool, true, false}
+use mathlib.Core.Option.{Option, Option·getD}
 use lib.Dec.{eqb, ltb}
 use Rattle.base.specs.Pick.{pick}
 use Rattle.base.specs.Lists.{upFrom}
+use Rattle.definition.specs.Defs.{Def, defAuthor}
 
 -- bytes in their order: the first that differs decides, and a front comes before what is longer
 unfoldable pub less : List ℕ → List ℕ → Bool
@@ -15,7 +17,11 @@ less [] (y ∷ ys) = true
 less (x ∷ xs) [] = false
 less (x ∷ xs) (y ∷ ys) = pick (ltb x y) true (pick (eqb x y) (less xs ys) false)
 
--- A rank gives the bytes that a source is ordered by, for its number.
+-- "by author bytes, or by key where no author is given": the rank of a source, by its definition and its key
+abbrev pub authorOr : Option Def → List ℕ → List ℕ
+authorOr d key = Option·getD (defAuthor d) key
+
+-- In what follows `rank` gives the rank of the source that has a number.
 
 -- one more number, into those in order: before the first with a greater rank. It is the highest so far, so that "equal ones" come "by
 -- number".

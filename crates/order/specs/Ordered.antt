@@ -1,21 +1,19 @@
 -- Reference order as the code makes it: the numbers of the sources' definitions are inserted one after the other, by their ranks; then each
 -- is replaced by the number of its source.
-use mathlib.Core.Option.{Option·getD}
 use Prim.Native.Nat.{ℕ, zero, suc, _+_, _≤_, _<_}
 use mathlib.Core.Path.{_≡_}
 use mathlib.Core.List.{List}
 use mathlib.Core.Bool.{Bool, true, false}
 use lib.ListN.{getD, set}
 use Rattle.base.specs.Sorted.{Sorted}
-use Rattle.definition.specs.Defs.{defAuthor}
 use Rattle.defined.specs.Defined.{definedAs, foundIn, definitionNumber, definitionAt, keyBy}
-use Rattle.order.specs.Order.{less}
+use Rattle.order.specs.Order.{less, authorOr}
 use Rattle.order.specs.References.{sourceKeyIn, numberOfKey}
 
 module _ (text pool groups items : List ℕ) (n m : ℕ) where
   -- the number of the definition of source number `k`
   unfoldable pub definitionOf : ℕ → ℕ
-  definitionOf k = definitionNumber pool n (foundIn text pool groups items n (sourceKeyIn text pool groups items n m k))
+  definitionOf k = definitionNumber pool n (foundIn text pool groups items n (sourceKeyIn text items m k))
 
   -- the number of the source that definition number `i` defines
   unfoldable pub sourceBy : ℕ → ℕ
@@ -24,7 +22,7 @@ module _ (text pool groups items : List ℕ) (n m : ℕ) where
 -- the bytes that the source of definition number `i` is ordered by
 unfoldable pub rankBy : List ℕ → List ℕ → List ℕ → List ℕ → ℕ → ℕ → List ℕ
 rankBy text pool groups items n i =
-    Option·getD (defAuthor (definedAs text pool groups n (definitionAt pool n i))) (keyBy text pool groups items (definitionAt pool n i))
+    authorOr (definedAs text pool groups n (definitionAt pool n i)) (keyBy text pool groups items (definitionAt pool n i))
 
 -- the number at place `i` has a greater rank than these bytes
 unfoldable pub greaterAt : (ℕ → List ℕ) → List ℕ → List ℕ → ℕ → Bool

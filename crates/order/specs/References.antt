@@ -1,16 +1,15 @@
 -- Reference order, from the records.
-use mathlib.Core.Option.{Option·getD}
 use Prim.Native.Nat.{ℕ, _≤_}
 use mathlib.Core.Path.{_≡_}
 use mathlib.Core.List.{List}
 use mathlib.Core.Bool.{Bool, true}
 use lib.Dec.{eqb}
 use Rattle.base.specs.First.{first}
-use Rattle.definition.specs.Defs.{defAuthor, isDefined}
+use Rattle.definition.specs.Defs.{isDefined}
 use Rattle.defined.specs.Definitions.{definitionIn}
 use Rattle.records.specs.Records.{itemField, keyIn}
 use Rattle.uses.specs.Uses.{usedAt}
-use Rattle.order.specs.Order.{referenceOrder}
+use Rattle.order.specs.Order.{authorOr, referenceOrder}
 
 -- item record `j` has the number `k`
 unfoldable pub hasNumber : List ℕ → ℕ → ℕ → Bool
@@ -20,14 +19,14 @@ hasNumber items k j = eqb (itemField items j 12) k
 unfoldable pub firstWith : List ℕ → ℕ → ℕ → ℕ
 firstWith items m k = first (hasNumber items k) m 0
 
-module _ (text pool groups items : List ℕ) (n m : ℕ) where
-  -- the key of source number `k`
-  unfoldable pub sourceKeyIn : ℕ → List ℕ
-  sourceKeyIn k = keyIn text items (firstWith items m k)
+-- the key of source number `k`
+unfoldable pub sourceKeyIn : List ℕ → List ℕ → ℕ → ℕ → List ℕ
+sourceKeyIn text items m k = keyIn text items (firstWith items m k)
 
-  -- "by author bytes, or by key where no author is given"
+module _ (text pool groups items : List ℕ) (n m : ℕ) where
+  -- the rank of source number `k`
   unfoldable pub rankIn : ℕ → List ℕ
-  rankIn k = Option·getD (defAuthor (definitionIn text groups items n pool (sourceKeyIn k))) (sourceKeyIn k)
+  rankIn k = authorOr (definitionIn text groups items n pool (sourceKeyIn text items m k)) (sourceKeyIn text items m k)
 
   -- "mode 0 by number; mode 1 by author bytes, or by key where no author is given, equal ones by number"
   unfoldable pub referencesIn : ℕ → ℕ → List ℕ
@@ -40,5 +39,5 @@ numberOfKey text items m key = itemField items (first (usedAt text items key) m 
 -- The sources have keys: that of each number up to `sources` is defined, and is that of no other number.
 pub record SourcesKnown (text pool groups items : List ℕ) (n m sources : ℕ) : Type 0 where
   pub defined : (k : ℕ) → 1 ≤ k → k ≤ sources
-      → isDefined (definitionIn text groups items n pool (sourceKeyIn text pool groups items n m k)) ≡ true
-  pub numbered : (k : ℕ) → 1 ≤ k → k ≤ sources → numberOfKey text items m (sourceKeyIn text pool groups items n m k) ≡ k
+      → isDefined (definitionIn text groups items n pool (sourceKeyIn text items m k)) ≡ true
+  pub numbered : (k : ℕ) → 1 ≤ k → k ≤ sources → numberOfKey text items m (sourceKeyIn text items m k) ≡ k
