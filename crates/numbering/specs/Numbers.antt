@@ -20,7 +20,7 @@ pub record Numbered : Type 0 where
   pub groups : List ℕ
   pub labels : List ℕ
 
--- before the first group
+-- before the first group: nothing is numbered
 abbrev pub start : List ℕ → List ℕ → Numbered
 start items groups = record { sources = 0; items = items; groups = groups; labels = [] }
 
@@ -59,6 +59,7 @@ module _ (text : List ℕ) (mode : ℕ) (pool : List ℕ) (n : ℕ) where
     labels = t .labels ++ label;
   }
 
+  -- with its own
   unfoldable pub citeIn : Numbered → ℕ → Numbered
   citeIn t k = citeAs t k (labelIn t k)
 
@@ -82,6 +83,7 @@ module _ (text : List ℕ) (mode : ℕ) (pool : List ℕ) (n : ℕ) where
       not (eqb (groupField (t .groups) g 4) 0)
       && keysDefined text pool (t .groups) (t .items) n (groupField (t .groups) g 3) (groupField (t .groups) g 2)
 
+  -- group record `g`, and its item records where it is numbered
   unfoldable pub numberGroup : Numbered → ℕ → Numbered
   numberGroup t g =
       pick (isNumbered t g) (citeFrom (groupField (t .groups) g 3) (standsNumbered t g) (groupField (t .groups) g 2)) t

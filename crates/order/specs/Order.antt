@@ -23,8 +23,8 @@ authorOr d key = Option·getD (defAuthor d) key
 
 -- In what follows `rank` gives the rank of the source that has a number.
 
--- one more number, into those in order: before the first with a greater rank. It is the highest so far, so that "equal ones" come "by
--- number".
+-- one more number, into those in order: before the first with a greater rank. In reference order it is the highest so far, so that "equal
+-- ones" come "by number".
 unfoldable pub insertBy : (ℕ → List ℕ) → List ℕ → ℕ → List ℕ
 insertBy rank [] k = k ∷ []
 insertBy rank (q ∷ qs) k = pick (less (rank k) (rank q)) (k ∷ q ∷ qs) (q ∷ insertBy rank qs k)
