@@ -1,5 +1,5 @@
 -- The numbers and the references after the sweep, in the form of the code's needs.
-use Prim.Native.Nat.{ℕ, _≤_, min}
+use Prim.Native.Nat.{ℕ, _≤_}
 use mathlib.Core.Path.{_≡_, refl, sym, _∙_}
 use mathlib.Core.List.{List}
 use mathlib.Core.Bool.{Bool, true, false, _&&_}
@@ -31,7 +31,7 @@ module _ (text : List ℕ) (mode : ℕ) (pool : List ℕ) (n m note : ℕ) (item
     where
       go : (t : Bool) → k .fits ≡ t
           → (k .fits && leb (k .sources) (length references))
-          ≡ (leb (length (made .labels)) (min 65535 (length labels)) && leb (made .sources) (length references))
+          ≡ (leb (length (made .labels)) (roomOf labels) && leb (made .sources) (length references))
       go true q = rw (q, sym (h .fits) ∙ q, h .agrees q .sources)
       go false q = rw (q, sym (h .fits) ∙ q)
 

@@ -1,5 +1,5 @@
 -- Numbers and references after the whole sweep, over the records that it left, and the answer by the room that there is.
-use Prim.Native.Nat.{ℕ, _≤_, min}
+use Prim.Native.Nat.{ℕ, _≤_}
 use mathlib.Core.Path.{_≡_}
 use mathlib.Core.List.{List}
 use mathlib.Core.Bool.{Bool, _&&_}
@@ -8,6 +8,7 @@ use lib.Dec.{leb}
 use Rattle.base.specs.Pick.{pick}
 use Rattle.base.specs.Lists.{written}
 use Rattle.numbering.specs.Numbers.{Numbered, numberAll}
+use Rattle.numbering.specs.Progress.{roomOf}
 use Rattle.order.specs.References.{referencesIn, SourcesKnown}
 use Rattle.annotation_answer.specs.declared.Annotation.{Annotation}
 use Rattle.annotation_answer.specs.declared.Annotation.the-variants.{Accepted, Refused}
@@ -15,7 +16,7 @@ use Rattle.annotation_answer.specs.Zeros.{zeros}
 
 -- the labels and the references have room
 unfoldable pub roomThen : Numbered → List ℕ → List ℕ → Bool
-roomThen t references labels = leb (length (t .labels)) (min 65535 (length labels)) && leb (t .sources) (length references)
+roomThen t references labels = leb (length (t .labels)) (roomOf labels) && leb (t .sources) (length references)
 
 -- the references, by the records as they are once they are numbered
 abbrev pub referencesThen : List ℕ → ℕ → List ℕ → ℕ → ℕ → Numbered → List ℕ

@@ -32,7 +32,7 @@ use Rattle.annotation.specs.Call.{annotateRefused, roomFor, filled, zero
 use Rattle.annotation_answer.specs.Zeros.{zeros, Zeroed}
 use Rattle.annotation_answer.specs.Values.{annotationValues}
 use Rattle.annotation.specs.Values.{annotationAnswer, annotationNumbers, Done}
-use Rattle.annotation.specs.Steps.{sweptItems, sweptGroups, numberedFrom, referencesFrom, Fits, ContentAs}
+use Rattle.annotation.specs.Steps.{sweptItems, sweptGroups, numberedFrom, Fits, ContentAs}
 use Rattle.preparation.specs.FirstHalf.{BegunBy}
 use Rattle.after_sweep.specs.Ordering.{roomThen, referencesThen, Ordered}
 use Rattle.annotation.proofs.Counts.{sources-by}
@@ -108,7 +108,7 @@ module _ {text : List ℕ} {mode : ℕ} {pool : List ℕ} {note : ℕ} {index₀
     abbrev known : Numbered
     known = numberedFrom text mode all pool restItems restGroups
 
-    agrees : ContentAs content all known (referencesFrom text mode all pool known) restItems restGroups
+    agrees : ContentAs content all known (referencesThen text mode pool (length all) (itemCount all) known) restItems restGroups
     agrees = content-agrees text mode all pool restItems restGroups fits
 
     records-fit : s .fits ≡ (leb (length (content .items)) (length items₀) && leb (length (content .groups)) (length groups₀))

@@ -15,9 +15,9 @@ use Rattle.base.proofs.Bools.{and-left, and-right}
 use Rattle.item.specs.Group.{Group}
 use Rattle.definition_line.specs.Lines.{keyOf, inLine, groupEnd}
 use Rattle.definition.specs.Defs.{defOf, isDefined}
-use Rattle.annotation.specs.Sources.{Source, source, used}
+use Rattle.annotation.specs.Sources.{Source, source, sourceKey, used}
 use Rattle.annotation.specs.Content.{allDefined, standingOf, placedFrom, placedOf, tallyOf}
-use Rattle.annotation.specs.Facts.{sourceKey, numberedKeys}
+use Rattle.annotation.specs.Facts.{numberedKeys}
 use Rattle.annotation.proofs.Numbers.{step, tally-uses}
 use Rattle.annotation.proofs.Found.{each-append}
 

@@ -21,7 +21,7 @@ use Rattle.definition.specs.Defs.{defOf, isDefined}
 use Rattle.standing.specs.Rows.{Placed, placed, groupWidth, groupRow, groupRows, sweptFrom, itemRows, itemCount}
 use Rattle.defined.specs.Definitions.{definitionIn}
 use Rattle.records.specs.Records.{itemField, groupField, keyIn, suppressedIn}
-use Rattle.numbering.specs.Numbers.{Numbered, labelIn, citeAs, citeIn, citeFrom, definedFrom, standsNumbered, isNumbered, numberGroup, numberFrom, numberAll}
+use Rattle.numbering.specs.Numbers.{Numbered, start, labelIn, citeAs, citeIn, citeFrom, keyDefined, keysDefined, standsNumbered, isNumbered, numberGroup, numberFrom, numberAll}
 use Rattle.uses.specs.Uses.{numberIn, useIn, sourcesIn}
 use Rattle.uses.proofs.Fields.{item-field, set-last, set-standing, SameItems, SameGroups, set-last-same, set-standing-same, set-last-other}
 use Rattle.numbering.proofs.ByLines.{key-same, definition-same, key-at, suppressed-at, regroup, Closes, LieAt, group-first, group-items, group-standing, swept-groups, definition-swept}
@@ -190,8 +190,8 @@ module _ (text : List ℕ) (mode : ℕ) (pool : List ℕ) (n : ℕ) (all : List 
   -- every key of a group is defined
   defined-agrees : (integral : Bool) (is : List Item) (before rest : List ℕ) (s : Numbered) (k : ℕ) → length before ≡ itemWidth * k
       → s .items ≡ before ++ (rowsIn integral is ++ rest) → SameItems (s .items) items₀ → SameGroups (s .groups) groups₀
-      → definedFrom text mode pool n (length is) s k ≡ allDefined text all pool is
-  unfolding definedFrom allDefined rowsIn rowOf recordOf
+      → keysDefined text pool (s .groups) (s .items) n (length is) k ≡ allDefined text all pool is
+  unfolding keysDefined keyDefined allDefined rowsIn rowOf recordOf
   defined-agrees integral [] before rest s k h e si sg = refl
   defined-agrees integral (i ∷ is) before rest s k h e si sg =
       rw (its, defined-as s si sg (keyOf text i))
@@ -402,7 +402,7 @@ module _ (text : List ℕ) (mode : ℕ) (all : List Group) (pool restItems restG
       groups-agree text mode pool (length all) all (sweptGroups text all restGroups) (sweptItems all restItems)
       (λ key. definitions-agree text all pool restItems restGroups key f)
       restItems restGroups (tally [] [] [])
-      (record { sources = 0; items = sweptItems all restItems; groups = sweptGroups text all restGroups; labels = [] })
+      (start (sweptItems all restItems) (sweptGroups text all restGroups))
       0 0 [] false 0 all
       (record {
         agrees = record {

@@ -13,7 +13,7 @@ use Rattle.sweep.specs.Sweep.{Lent, sweepRun}
 use Rattle.standing.specs.Rows.{groupWidth, groupRows, sweptFrom, itemRows, itemCount}
 use Rattle.defined.specs.Definitions.{definitionIn}
 use Rattle.numbering.specs.Numbers.{Numbered, numberAll}
-use Rattle.order.specs.References.{referencesIn}
+use Rattle.after_sweep.specs.Ordering.{referencesThen}
 use Rattle.annotation.specs.Order.{referencesOf}
 use Rattle.annotation.specs.Content.{Areas, placedOf, tallyOf, contentOf}
 
@@ -60,16 +60,11 @@ NumbersAgree =
     (text : List ℕ) (mode : ℕ) (all : List Group) (pool restItems restGroups : List ℕ) → Fits text all
     → NumberedAs text mode all pool restItems restGroups
 
--- the references, by the records as they are then
-abbrev pub referencesFrom : List ℕ → ℕ → List Group → List ℕ → Numbered → List ℕ
-referencesFrom text mode all pool n =
-    referencesIn text pool (n .groups) (n .items) (length all) (itemCount all) mode (n .sources)
-
 -- THEOREM: the order over the records is the paper's reference order
 abbrev pub ReferencesAgree : Type 0
 ReferencesAgree =
     (text : List ℕ) (mode : ℕ) (all : List Group) (pool restItems restGroups : List ℕ) → Fits text all
-    → referencesFrom text mode all pool (numberedFrom text mode all pool restItems restGroups)
+    → referencesThen text mode pool (length all) (itemCount all) (numberedFrom text mode all pool restItems restGroups)
     ≡ referencesOf text mode all pool (tallyOf text mode all pool .sources)
 
 -- and so the content of the annotation, with its lengths
@@ -87,6 +82,6 @@ abbrev pub ContentAgrees : Type 0
 ContentAgrees =
     (text : List ℕ) (mode : ℕ) (all : List Group) (pool restItems restGroups : List ℕ) → Fits text all
     → ContentAs (contentOf text mode all pool) all (numberedFrom text mode all pool restItems restGroups)
-    (referencesFrom text mode all pool (numberedFrom text mode all pool restItems restGroups))
+    (referencesThen text mode pool (length all) (itemCount all) (numberedFrom text mode all pool restItems restGroups))
     restItems
     restGroups

@@ -9,7 +9,6 @@ use lib.Dec.{eqb, leb, ltb}
 use borrow.Author.Tests.{eqb-true, leb-true, le-leb, le-ltb}
 use Rattle.base.specs.Pick.{pick}
 use Rattle.base.specs.Lists.{same}
-use Rattle.base.proofs.Ups.{up-length}
 use Rattle.utf8.specs.Refusal.{textRefusal}
 use Rattle.item.specs.declared.Item.{Item}
 use Rattle.item.specs.Group.{Group}
@@ -25,10 +24,10 @@ use Rattle.sweep.proofs.Sizes.{size-enough}
 use Rattle.label.specs.Labels.{labelBy, labelText}
 use Rattle.preparation.specs.Refusal.{annotateRefusal}
 use Rattle.annotation.specs.Sources.{Source, placeOf, numberOf}
-use Rattle.annotation.specs.Order.{referencesOf}
 use Rattle.annotation.specs.Content.{Areas, allDefined, standingOf, placedFrom, placedOf, labelFor, tallyOf, contentOf}
 use Rattle.annotation.specs.Call.{annotateRefused, roomFor, annotateGives, answerOf, annotatePlain}
 use Rattle.annotation.proofs.Counts.{sources-by}
+use Rattle.annotation.proofs.ByRecords.{references-length}
 use Rattle.histories.specs.Said.{itemLabels, joined}
 use Rattle.histories.proofs.SaidSo.{says}
 use Rattle.listing_lines.specs.Listing.{listingAreas, listingAnswer, TextRefusalsOnly}
@@ -125,9 +124,9 @@ module _ (text : List ℕ) (h : length text ≤ 4096) where
   enough-groups = omega (arith, content-groups text 0 all [], groups-by text (length text) 0)
 
   enough-references : length (content .references) ≤ length text
-  unfolding contentOf referencesOf
+  unfolding contentOf
   enough-references =
-      omega (arith, up-length 1 (length (tallyOf text 0 all [] .sources)), sources-by text 0 all [], size-enough text)
+      omega (arith, references-length text 0 all [] (tallyOf text 0 all [] .sources), sources-by text 0 all [], size-enough text)
 
   enough-labels : length (content .labels) ≤ 5 * length text
   unfolding placedOf

@@ -13,9 +13,9 @@ use Rattle.label.proofs.AreaLaws.{fitted-at-length, fitted-at-next}
 use Rattle.numbering.specs.declared.Numbering.{Numbering}
 use Rattle.uses.specs.declared.Count.{Count}
 use Rattle.defined.specs.Definitions.{LinesBelow}
-use Rattle.numbering.specs.Numbers.{Numbered, labelIn, citeAs, citeIn}
+use Rattle.numbering.specs.Numbers.{Numbered, labelOf, labelIn, citeAs, citeIn}
 use Rattle.uses.specs.Uses.{setLast, Counts}
-use Rattle.numbering.specs.Progress.{labelOf, roomOf, state, Agrees, Holds, Advances}
+use Rattle.numbering.specs.Progress.{roomOf, state, Agrees, Holds, Advances}
 use Rattle.uses.proofs.Fields.{set-last-same, set-standing-same}
 use Rattle.numbering.proofs.ByLines.{lines-same}
 

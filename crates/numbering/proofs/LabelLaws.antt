@@ -2,7 +2,7 @@
 use Prim.Native.Nat.{ℕ, _+_, _%_, _≤_, _<_}
 use native.Mathlib.Omega.{arith}
 use mathlib.Core.Path.{_≡_, refl, sym, _∙_, ap}
-use mathlib.Core.List.{List, []}
+use mathlib.Core.List.{List}
 use mathlib.Core.Bool.{Bool, true, false, _&&_, _||_, true≢false}
 use lib.ListN.{length, take, drop, length-take, length-drop}
 use lib.Dec.{eqb, ltb}
@@ -25,7 +25,8 @@ use Rattle.records.specs.Records.{itemField, keyIn, suppressedIn}
 use Rattle.defined.specs.Defined.{definedAs}
 use Rattle.uses.specs.Uses.{sameLabel, lastAlike}
 use Rattle.numbering.specs.declared.Numbering.{Numbering}
-use Rattle.numbering.specs.Progress.{labelOf, Alike, LabelStands, Labelled}
+use Rattle.numbering.specs.Numbers.{labelOf}
+use Rattle.numbering.specs.Progress.{Alike, LabelStands, Labelled}
 
 module _ (text pool groups items : List ℕ) (mode n k number : ℕ) where
   abbrev L : List ℕ

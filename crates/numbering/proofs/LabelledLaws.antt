@@ -17,7 +17,8 @@ use Rattle.label.proofs.AreaLaws.{fitted-at-kept, fitted-at-there}
 use Rattle.uses.specs.Uses.{setLast}
 use Rattle.uses.proofs.Fields.{item-skip, SameItems, SameGroups, set-last-same, set-last-other, set-last-number, set-last-at, set-last-len, set-standing-same}
 use Rattle.numbering.specs.declared.Numbering.{Numbering}
-use Rattle.numbering.specs.Progress.{labelOf, roomOf, state, LabelStands, Labelled, Unnumbered}
+use Rattle.numbering.specs.Numbers.{labelOf}
+use Rattle.numbering.specs.Progress.{roomOf, state, LabelStands, Labelled, Unnumbered}
 use Rattle.rows.proofs.RowLaws.{rows-length}
 use Rattle.numbering.proofs.ByLines.{key-same, definition-same}
 

@@ -2,7 +2,7 @@
 use Prim.Native.Nat.{ℕ, zero, suc, _+_, _*_, _≤_, _<_}
 use native.Mathlib.Omega.{arith}
 use mathlib.Core.Path.{_≡_, refl, sym, _∙_}
-use mathlib.Core.List.{List, []}
+use mathlib.Core.List.{List}
 use mathlib.Core.Bool.{Bool, true, false, not, and-false}
 use lib.ListN.{length, set}
 use borrow.Author.Tests.{le-leb, eq-eqb, ne-eqb, not-true, not-false}
@@ -10,9 +10,8 @@ use Rattle.base.specs.Pick.{pick}
 use Rattle.base.proofs.Areas.{written-none}
 use Rattle.numbering.specs.declared.Numbering.{Numbering}
 use Rattle.records.specs.Records.{groupField}
-use Rattle.numbering.specs.Numbers.{Numbered, citeIn, citeFrom, standsNumbered, isNumbered, numberGroup, numberFrom, numberAll, definedFrom}
-use Rattle.numbering.specs.Progress.{keysDefined, roomOf, state, Holds, Advances}
-use Rattle.numbering.proofs.GroupLaws.{keys-are}
+use Rattle.numbering.specs.Numbers.{Numbered, start, citeIn, citeFrom, standsNumbered, isNumbered, numberGroup, numberFrom, numberAll, keysDefined}
+use Rattle.numbering.specs.Progress.{roomOf, state, Holds, Advances}
 use Rattle.numbering.proofs.CiteLaws.{full-more, none-yet, then, as-step, cite-grows}
 
 module _ (text : List ℕ) (mode : ℕ) (pool : List ℕ) (n : ℕ) where
@@ -106,9 +105,8 @@ module _ (text : List ℕ) (mode : ℕ) (pool : List ℕ) (n : ℕ) where
     module _ {first count : ℕ} {b : Bool} (o : not (s .fits) ≡ false) (p : first ≡ groupField groups g 2) (q : count ≡ groupField groups g 3)
         (k : b ≡ keysDefined text pool groups items n count first) where
       keys-of : (t : Numbered) → groups ≡ t .groups → items ≡ t .items
-          → definedFrom text mode pool n (groupField (t .groups) g 3) t (groupField (t .groups) g 2) ≡ b
-      keys-of t e f =
-          keys-are text mode pool n (groupField (t .groups) g 3) t (groupField (t .groups) g 2) ∙ rw (← e, ← f, ← p, ← q) (sym k)
+          → keysDefined text pool (t .groups) (t .items) n (groupField (t .groups) g 3) (groupField (t .groups) g 2) ≡ b
+      keys-of t e f = rw (← e, ← f, ← p, ← q) (sym k)
 
       pub group-undefined : b ≡ false → Advances 65535 (λ t. numberGroup text mode pool n t g) s s items groups labels items groups labels
       unfolding isNumbered
@@ -174,9 +172,6 @@ module _ (text : List ℕ) (mode : ℕ) (pool : List ℕ) (n : ℕ) where
         → Advances (65535 * (i + 1)) (λ t. numberFrom text mode pool n (i + 1) t 0) s q items groups labels i2 g2 l2
     groups-more i x y =
         as-step (then x y) (omega arith) (λ t. let z : 0 + i ≡ i = omega arith in rw z at (groups-next i t 0))
-
-  abbrev start : List ℕ → List ℕ → Numbered
-  start items groups = record { sources = 0; items = items; groups = groups; labels = [] }
 
   pub groups-end : (i : ℕ) {r : Numbering} {items groups labels i1 g1 l1 : List ℕ} → i ≤ n → n ≤ i
       → Advances (65535 * i) (λ t. numberFrom text mode pool n i t 0) (state true 0 0) r items groups labels i1 g1 l1

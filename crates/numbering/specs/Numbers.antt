@@ -20,12 +20,30 @@ pub record Numbered : Type 0 where
   pub groups : List ℕ
   pub labels : List ℕ
 
+-- before the first group: nothing is numbered
+abbrev pub start : List ℕ → List ℕ → Numbered
+start items groups = record { sources = 0; items = items; groups = groups; labels = [] }
+
+-- the key of item record `k` is defined
+unfoldable pub keyDefined : List ℕ → List ℕ → List ℕ → List ℕ → ℕ → ℕ → Bool
+keyDefined text pool groups items n k = isDefined (definitionIn text groups items n pool (keyIn text items k))
+
+-- so are those of the `m` records from `k` on
+unfoldable pub keysDefined : List ℕ → List ℕ → List ℕ → List ℕ → ℕ → ℕ → ℕ → Bool
+keysDefined text pool groups items n zero k = true
+keysDefined text pool groups items n (suc m) k =
+    keyDefined text pool groups items n k && keysDefined text pool groups items n m (k + 1)
+
+-- the label of item record `k` with this number
+abbrev pub labelOf : List ℕ → ℕ → List ℕ → List ℕ → List ℕ → ℕ → ℕ → ℕ → List ℕ
+labelOf text mode pool groups items n k number =
+    labelText mode (suppressedIn items k) number (definitionIn text groups items n pool (keyIn text items k))
+
 -- What does not change on the way: text, mode, pool, and the count of groups
 module _ (text : List ℕ) (mode : ℕ) (pool : List ℕ) (n : ℕ) where
+  -- the label of item record `k`, with the number that it gets
   unfoldable pub labelIn : Numbered → ℕ → List ℕ
-  labelIn t k =
-      labelText mode (suppressedIn (t .items) k) (numberIn text (t .items) (t .sources) k)
-      (definitionIn text (t .groups) (t .items) n pool (keyIn text (t .items) k))
+  labelIn t k = labelOf text mode pool (t .groups) (t .items) n k (numberIn text (t .items) (t .sources) k)
 
   -- one more item of a numbered group: record `k`, with this label
   unfoldable pub citeAs : Numbered → ℕ → List ℕ → Numbered
@@ -41,6 +59,7 @@ module _ (text : List ℕ) (mode : ℕ) (pool : List ℕ) (n : ℕ) where
     labels = t .labels ++ label;
   }
 
+  -- with its own
   unfoldable pub citeIn : Numbered → ℕ → Numbered
   citeIn t k = citeAs t k (labelIn t k)
 
@@ -48,12 +67,6 @@ module _ (text : List ℕ) (mode : ℕ) (pool : List ℕ) (n : ℕ) where
   unfoldable pub citeFrom : ℕ → Numbered → ℕ → Numbered
   citeFrom zero t k = t
   citeFrom (suc m) t k = citeFrom m (citeIn t k) (k + 1)
-
-  -- every key of the `m` item records from `k` on is defined
-  unfoldable pub definedFrom : ℕ → Numbered → ℕ → Bool
-  definedFrom zero t k = true
-  definedFrom (suc m) t k =
-      isDefined (definitionIn text (t .groups) (t .items) n pool (keyIn text (t .items) k)) && definedFrom m t (k + 1)
 
   -- group record `g` with the standing 2
   unfoldable pub standsNumbered : Numbered → ℕ → Numbered
@@ -67,8 +80,10 @@ module _ (text : List ℕ) (mode : ℕ) (pool : List ℕ) (n : ℕ) where
   -- "A group with any undefined key gets no number, use or label", and none in a definition line does
   unfoldable pub isNumbered : Numbered → ℕ → Bool
   isNumbered t g =
-      not (eqb (groupField (t .groups) g 4) 0) && definedFrom (groupField (t .groups) g 3) t (groupField (t .groups) g 2)
+      not (eqb (groupField (t .groups) g 4) 0)
+      && keysDefined text pool (t .groups) (t .items) n (groupField (t .groups) g 3) (groupField (t .groups) g 2)
 
+  -- group record `g`, and its item records where it is numbered
   unfoldable pub numberGroup : Numbered → ℕ → Numbered
   numberGroup t g =
       pick (isNumbered t g) (citeFrom (groupField (t .groups) g 3) (standsNumbered t g) (groupField (t .groups) g 2)) t
@@ -80,4 +95,4 @@ module _ (text : List ℕ) (mode : ℕ) (pool : List ℕ) (n : ℕ) where
 
   -- all of them, from the records as the sweep left them
   unfoldable pub numberAll : List ℕ → List ℕ → Numbered
-  numberAll items groups = numberFrom n (record { sources = 0; items = items; groups = groups; labels = [] }) 0
+  numberAll items groups = numberFrom n (start items groups) 0

@@ -1,33 +1,15 @@
 -- What the code holds on the way through the records.
-use Prim.Native.Nat.{ℕ, zero, suc, _+_, _*_, _<_, _≤_, min}
+use Prim.Native.Nat.{ℕ, _+_, _*_, _<_, _≤_, min}
 use mathlib.Core.Path.{_≡_}
 use mathlib.Core.List.{List}
-use mathlib.Core.Bool.{Bool, true, _&&_}
+use mathlib.Core.Bool.{Bool, true}
 use lib.ListN.{length, take, drop}
 use lib.Dec.{leb}
 use Rattle.base.specs.Lists.{written}
-use Rattle.definition.specs.Defs.{isDefined}
 use Rattle.numbering.specs.declared.Numbering.{Numbering}
-use Rattle.defined.specs.Definitions.{definitionIn}
 use Rattle.rows.specs.Rows.{itemWidth}
 use Rattle.records.specs.Records.{itemField, keyIn, suppressedIn}
-use Rattle.label.specs.Labels.{labelText}
-use Rattle.numbering.specs.Numbers.{Numbered}
-
--- the key of item record `k` is defined
-unfoldable pub keyDefined : List ℕ → List ℕ → List ℕ → List ℕ → ℕ → ℕ → Bool
-keyDefined text pool groups items n k = isDefined (definitionIn text groups items n pool (keyIn text items k))
-
--- so are those of the `m` records from `k` on
-unfoldable pub keysDefined : List ℕ → List ℕ → List ℕ → List ℕ → ℕ → ℕ → ℕ → Bool
-keysDefined text pool groups items n zero k = true
-keysDefined text pool groups items n (suc m) k =
-    keyDefined text pool groups items n k && keysDefined text pool groups items n m (k + 1)
-
--- the label of item record `k` with this number
-abbrev pub labelOf : List ℕ → ℕ → List ℕ → List ℕ → List ℕ → ℕ → ℕ → ℕ → List ℕ
-labelOf text mode pool groups items n k number =
-    labelText mode (suppressedIn items k) number (definitionIn text groups items n pool (keyIn text items k))
+use Rattle.numbering.specs.Numbers.{Numbered, labelOf}
 
 -- item record `j` has this number, which is not 0, and the mark of suppression and the key of record `k`
 pub record Alike (text items : List ℕ) (k number j : ℕ) : Type 0 where

@@ -12,8 +12,8 @@ ghost use lib.ListN.{length};
 ghost use Rattle.pool.specs.Layout.{wellFormed};
 ghost use Rattle.label.specs.Areas.{fitted, fittedAt};
 ghost use Rattle.defined.specs.Definitions.{LinesBelow};
-ghost use Rattle.numbering.specs.Numbers.{citeIn, citeFrom, numberGroup};
-ghost use Rattle.numbering.specs.Progress.{keyDefined, keysDefined, labelOf, roomOf, state, Advances, Alike, Labelled};
+ghost use Rattle.numbering.specs.Numbers.{keyDefined, keysDefined, labelOf, citeIn, citeFrom, numberGroup};
+ghost use Rattle.numbering.specs.Progress.{roomOf, state, Advances, Alike, Labelled};
 
 // Whether the key of item record `k` is defined.
 fn is_defined(

@@ -1,9 +1,10 @@
 -- Sources by the numbers of their definitions: these have the ranks of the sources, and lead back to the sources' numbers.
-use Prim.Native.Nat.{ℕ, zero, suc, _+_, _-_, _≤_, _<_}
+use Prim.Native.Nat.{ℕ, _+_, _-_, _≤_, _<_}
 use native.Mathlib.Omega.{arith}
 use native.Mathlib.Numerals.{add-one}
-use mathlib.Core.Path.{_≡_, refl, sym, _∙_, ap, subst}
+use mathlib.Core.Path.{_≡_, refl, sym, _∙_, ap}
 use mathlib.Core.List.{List, [], _∷_, _++_, map, map-append}
+use mathlib.Core.Logic.{inl, inr}
 use mathlib.Core.Bool.{Bool, true, false, not, true≢false}
 use lib.ListN.{length, getD, set, take, drop, length-map}
 use lib.Seq.{length-take-le, take-suc, getD-drop, getD-append-add}
@@ -11,7 +12,7 @@ use lib.Dec.{ltb}
 use borrow.Author.Tests.{lt-ltb, le-ltb, ltb-true, ltb-false}
 use Rattle.base.specs.Pick.{pick}
 use Rattle.base.specs.Lists.{written}
-use Rattle.base.specs.Sorted.{Each}
+use Rattle.base.specs.Sorted.{Each, Sorted}
 use Rattle.base.proofs.Searches.{first-holds}
 use Rattle.base.proofs.Sames.{same-true}
 use Rattle.base.proofs.Bools.{and-right}
@@ -26,12 +27,12 @@ use Rattle.defined.specs.Definitions.{definitionIn}
 use Rattle.records.specs.Records.{keyIn, groupField}
 use Rattle.defined.specs.Defined.{definedAs, foundIn, definitionNumber, definitionAt, keyBy, DefinedIn}
 use Rattle.entries.specs.Entries.{entryHas, entryIn}
-use Rattle.order.specs.Order.{less}
+use Rattle.order.specs.Order.{less, insertBy, insertedFrom, Precedes}
 use Rattle.order.specs.References.{sourceKeyIn, rankIn, numberOfKey, SourcesKnown}
-use Rattle.order.specs.Ordered.{rankBy, definitionOf, sourceBy, insertBy, insertedFrom, SortedBy}
+use Rattle.order.specs.Ordered.{rankBy, definitionOf, sourceBy, SortedBy}
 use Rattle.base.proofs.Lasts.{last-holds}
-use Rattle.order.proofs.OrderLaws.{inserted-next, inserted-count}
-use Rattle.order.proofs.Sorting.{insert-each, insert-sorted}
+use Rattle.order.proofs.Sorting.{less-asym, less-self}
+use Rattle.order.proofs.Insertions.{insert-alike, inserted-next, inserted-length, inserted-each, inserted-precedes}
 
 -- what a key is defined by ---------------------------------------------------------------------------------------------------------
 
@@ -106,7 +107,7 @@ module _ (text pool groups items : List ℕ) (n m : ℕ) where
   S = sourceBy text pool groups items n m
 
   abbrev K : ℕ → List ℕ
-  K = sourceKeyIn text pool groups items n m
+  K = sourceKeyIn text items m
 
   -- the definition of a source
   its-definition : (k : ℕ) → definitionAt pool n (D k) ≡ foundIn text groups items n pool (K k)
@@ -124,26 +125,18 @@ module _ (text pool groups items : List ℕ) (n m : ℕ) where
 
 -- lists of sources -----------------------------------------------------------------------------------------------------------------
 
--- numbers of the same ranks are inserted at the same place
-insert-alike : (D : ℕ → ℕ) (B R : ℕ → List ℕ) (l : List ℕ) (k : ℕ) → Each (λ q. B (D q) ≡ R q) l → B (D k) ≡ R k
-    → insertBy B (map D l) (D k) ≡ map D (insertBy R l k)
-unfolding insertBy
-insert-alike D B R [] k a e = refl
-insert-alike D B R (q ∷ qs) k a e = rw (e, a .0) (go (less (R k) (R q)) (insert-alike D B R qs k (a .1) e))
+-- and are in order
+sorted-alike : (D : ℕ → ℕ) (B R : ℕ → List ℕ) (l : List ℕ) → Each (λ q. B (D q) ≡ R q) l → Sorted (Precedes R) l → SortedBy B (map D l)
+sorted-alike D B R [] a s = tt
+sorted-alike D B R (q ∷ qs) a s = (rest qs (a .1) (s .0), sorted-alike D B R qs (a .1) (s .1))
   where
-    go : (t : Bool) → insertBy B (map D qs) (D k) ≡ map D (insertBy R qs k)
-        → pick t (D k ∷ D q ∷ map D qs) (D q ∷ insertBy B (map D qs) (D k)) ≡ map D (pick t (k ∷ q ∷ qs) (q ∷ insertBy R qs k))
-    go true r = refl
-    go false r = ap (λ (l : List ℕ). D q ∷ l) r
+    one : (x : ℕ) → B (D x) ≡ R x → Precedes R q x → less (B (D x)) (B (D q)) ≡ false
+    one x e (inl h) = rw (e, a .0) (less-asym (R q) (R x) h)
+    one x e (inr h) = rw (e, a .0, h .0) (less-self (R x))
 
--- those that are inserted are the numbers from `k` on
-inserted-each : (rank : ℕ → List ℕ) (P : ℕ → Type 0) (i : ℕ) (l : List ℕ) (k : ℕ) → Each P l → ((j : ℕ) → k ≤ j → j < k + i → P j)
-    → Each P (insertedFrom rank i l k)
-unfolding insertedFrom
-inserted-each rank P zero l k a h = a
-inserted-each rank P (suc i) l k a h =
-    inserted-each rank P i (insertBy rank l k) (k + 1) (insert-each rank P l k a (h k (omega arith) (omega arith)))
-    (λ j b c. h j (omega arith) (omega arith))
+    rest : (l : List ℕ) → Each (λ x. B (D x) ≡ R x) l → Each (Precedes R q) l → Each (λ y. less (B y) (B (D q)) ≡ false) (map D l)
+    rest [] e h = tt
+    rest (x ∷ xs) e h = (one x (e .0) (h .0), rest xs (e .1) (h .1))
 
 map-back : (D S : ℕ → ℕ) (l : List ℕ) → Each (λ q. S (D q) ≡ q) l → map S (map D l) ≡ l
 map-back D S [] a = refl
@@ -158,7 +151,7 @@ module _ (text pool groups items : List ℕ) (n m : ℕ) (before : List ℕ) whe
 
   defined-count : (i : ℕ) → length (defined i) ≡ i
   defined-count i =
-      omega (arith, length-map (ranked i) (definitionOf text pool groups items n m), inserted-count (rankIn text pool groups items n m) i [] 1)
+      omega (arith, length-map (ranked i) (definitionOf text pool groups items n m), inserted-length (rankIn text pool groups items n m) i [] 1)
 
   pub definitions-start : before ≡ written (map (definitionOf text pool groups items n m) (insertedFrom (rankIn text pool groups items n m) 0 [] 1)) before
   unfolding insertedFrom
@@ -197,15 +190,11 @@ module _ (text pool groups items : List ℕ) (n m : ℕ) (before : List ℕ) whe
         o ∙ rw (f, q, insert-next i h, p) (written-over (defined i) (defined (i + 1)) before (omega arith))
 
     -- what was inserted so far is in order
-    defined-none : SortedBy (rankBy text pool groups items n) (defined 0)
-    unfolding insertedFrom
-    defined-none = tt
-
     defined-sorted : (i : ℕ) → i ≤ sources → SortedBy (rankBy text pool groups items n) (defined i)
-    defined-sorted zero h = defined-none
-    defined-sorted (suc i) h =
-        subst (λ (l : List ℕ). SortedBy (rankBy text pool groups items n) l) (insert-next i (omega arith) ∙ ap defined (add-one i))
-        (insert-sorted (rankBy text pool groups items n) (defined i) (definitionOf text pool groups items n m (i + 1)) (defined-sorted i (omega arith)))
+    defined-sorted i h =
+        sorted-alike (definitionOf text pool groups items n m) (rankBy text pool groups items n) (rankIn text pool groups items n m) (ranked i)
+        (inserted-each (rankIn text pool groups items n m) _ i [] 1 tt (λ j b c. alike j b (omega arith)))
+        (inserted-precedes (rankIn text pool groups items n m) i [] 1 tt tt)
 
     pub definitions-sorted : (i : ℕ) {numbers : List ℕ} → i ≤ sources
         → numbers ≡ written (map (definitionOf text pool groups items n m) (insertedFrom (rankIn text pool groups items n m) i [] 1)) before

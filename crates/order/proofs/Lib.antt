@@ -1,4 +1,5 @@
-pub mod OrderLaws
 pub mod Sorting
+pub mod Insertions
+pub mod OrderLaws
 pub mod RankLaws
 pub mod Definitions

@@ -3,23 +3,22 @@ use Prim.Native.Nat.{ℕ, zero, suc, _+_, _-_, _≤_, _<_}
 use native.Mathlib.Omega.{arith}
 use native.Mathlib.Numerals.{add-one}
 use mathlib.Core.Path.{_≡_, refl, sym, _∙_, ap}
-use mathlib.Core.List.{List, [], _∷_, _++_, map}
-use mathlib.Core.Bool.{Bool, true, false, true≢false}
+use mathlib.Core.List.{List, [], _∷_, _++_}
+use mathlib.Core.Bool.{Bool, true, false}
 use lib.ListN.{length, getD, set, take, drop, drop-of-length-le, length-drop}
 use lib.Seq.{drop-cons, length-take-le}
 use lib.Dec.{ltb}
 use borrow.Author.Tests.{lt-ltb, le-ltb, eq-eqb, ne-eqb}
 use Rattle.base.specs.Pick.{pick}
 use Rattle.base.specs.First.{first}
-use Rattle.base.specs.Fold.{fold}
-use Rattle.base.specs.Sorted.{Each}
 use Rattle.base.specs.Lists.{written, upFrom}
 use Rattle.base.proofs.Searches.{first-by, first-shift}
 use Rattle.base.proofs.Ups.{up-length}
 use Rattle.base.proofs.Areas.{written-none, written-byte}
-use Rattle.order.specs.Order.{less, Ranked, insert}
-use Rattle.order.specs.Ordered.{rankBy, insertBy, insertedFrom, greaterAt, shifted}
-use Rattle.order.specs.References.{rankIn, rankedIn, referencesIn}
+use Rattle.order.specs.Order.{less, insertBy, insertedFrom, referenceOrder}
+use Rattle.order.specs.Ordered.{rankBy, greaterAt, shifted}
+use Rattle.order.specs.References.{rankIn, referencesIn}
+use Rattle.order.proofs.Insertions.{insert-length}
 
 -- the order of bytes -------------------------------------------------------------------------------------------------------------
 
@@ -97,15 +96,6 @@ shifted-front (suc n) (y ∷ ys) x h =
 
 -- inserted by rank ---------------------------------------------------------------------------------------------------------------
 
-pub inserted-length : (rank : ℕ → List ℕ) (l : List ℕ) (k : ℕ) → length (insertBy rank l k) ≡ suc (length l)
-unfolding insertBy
-inserted-length rank [] k = refl
-inserted-length rank (q ∷ qs) k = go (less (rank k) (rank q)) (inserted-length rank qs k)
-  where
-    go : (t : Bool) → length (insertBy rank qs k) ≡ suc (length qs) → length (pick t (k ∷ q ∷ qs) (q ∷ insertBy rank qs k)) ≡ suc (suc (length qs))
-    go true e = refl
-    go false e = ap suc e
-
 -- the test at a place after the first
 greater-after : (rank : ℕ → List ℕ) (bytes : List ℕ) (y : ℕ) (ys : List ℕ) (x : ℕ) → greaterAt rank bytes ys x ≡ greaterAt rank bytes (y ∷ ys) (x + 1)
 unfolding greaterAt
@@ -147,28 +137,10 @@ module _ (text pool groups items : List ℕ) (n c d : ℕ) (numbers bytes : List
       → out ≡ shifted (c - p) numbers p d → out ≡ written (insertBy (rankBy text pool groups items n) (take c numbers) d) numbers
   unfolding written
   insert-written e q h o =
-      let l = inserted-length (rankBy text pool groups items n) (take c numbers) d in
+      let l = insert-length (rankBy text pool groups items n) (take c numbers) d in
       o ∙ rw (q, l, length-take-le c numbers (omega arith)) (insert-shift (rankBy text pool groups items n) bytes d e c numbers h)
 
 pub ruleset insert-laws = (place-within, insert-written)
-
--- all of them --------------------------------------------------------------------------------------------------------------------
-
-pub inserted-next : (rank : ℕ → List ℕ) (i : ℕ) (l : List ℕ) (k : ℕ) → insertBy rank (insertedFrom rank i l k) (k + i) ≡ insertedFrom rank (i + 1) l k
-unfolding insertedFrom
-inserted-next rank zero l k = let z : k + 0 ≡ k = omega arith in rw z refl
-inserted-next rank (suc i) l k =
-    let z : k + suc i ≡ k + 1 + i = omega arith in
-    let y : suc i + 1 ≡ suc (i + 1) = omega arith in
-    rw (z, y) (inserted-next rank i (insertBy rank l k) (k + 1))
-
-pub inserted-count : (rank : ℕ → List ℕ) (i : ℕ) (l : List ℕ) (k : ℕ) → length (insertedFrom rank i l k) ≡ length l + i
-unfolding insertedFrom
-inserted-count rank zero l k = omega arith
-inserted-count rank (suc i) l k =
-    let a = inserted-count rank i (insertBy rank l k) (k + 1) in
-    let b = inserted-length rank l k in
-    omega arith
 
 -- by number ----------------------------------------------------------------------------------------------------------------------
 
@@ -194,57 +166,17 @@ module _ (before : List ℕ) (i : ℕ) where
 
 pub ruleset up-laws = (up-start, up-more, up-end)
 
--- the definition's order ---------------------------------------------------------------------------------------------------------
-
-module _ (rank : ℕ → List ℕ) where
-  abbrev Right : Ranked → Type 0
-  Right r = r .rank ≡ rank (r .number)
-
-  abbrev ranked : ℕ → Ranked
-  ranked k = record { number = k; rank = rank k }
-
-  insert-right : (l : List Ranked) (r : Ranked) → Each Right l → Right r → Each Right (insert l r)
-  unfolding insert
-  insert-right [] r a b = (b, tt)
-  insert-right (q ∷ qs) r a b = go (less (r .rank) (q .rank)) (insert-right qs r (a .1) b)
-    where
-      go : (t : Bool) → Each Right (insert qs r) → Each Right (pick t (r ∷ q ∷ qs) (q ∷ insert qs r))
-      go true e = (b, a)
-      go false e = (a .0, e)
-
-  insert-number : (l : List Ranked) (k : ℕ) → Each Right l → map (λ (r : Ranked). r .number) (insert l (ranked k)) ≡ insertBy rank (map (λ (r : Ranked). r .number) l) k
-  unfolding insert insertBy
-  insert-number [] k a = refl
-  insert-number (q ∷ qs) k a =
-      go (less (rank k) (q .rank)) (less (rank k) (rank (q .number))) (ap (less (rank k)) (a .0)) (insert-number qs k (a .1))
-    where
-      go : (t u : Bool) → t ≡ u → map (λ (r : Ranked). r .number) (insert qs (ranked k)) ≡ insertBy rank (map (λ (r : Ranked). r .number) qs) k
-          → map (λ (r : Ranked). r .number) (pick t (ranked k ∷ q ∷ qs) (q ∷ insert qs (ranked k)))
-          ≡ pick u (k ∷ q .number ∷ map (λ (r : Ranked). r .number) qs) (q .number ∷ insertBy rank (map (λ (r : Ranked). r .number) qs) k)
-      go true true p e = refl
-      go true false p e = absurd (true≢false p)
-      go false true p e = absurd (true≢false (sym p))
-      go false false p e = ap (λ (l : List ℕ). q .number ∷ l) e
-
-ranks-are : (text pool groups items : List ℕ) (n m c : ℕ) (l : List Ranked) (k : ℕ) → Each (Right (rankIn text pool groups items n m)) l
-    → insertedFrom (rankIn text pool groups items n m) c (map (λ (r : Ranked). r .number) l) k
-    ≡ map (λ (r : Ranked). r .number) (fold insert l (rankedIn text pool groups items n m c k))
-unfolding fold rankedIn insertedFrom
-ranks-are text pool groups items n m zero l k a = refl
-ranks-are text pool groups items n m (suc c) l k a =
-    let R = rankIn text pool groups items n m in
-    rw (← insert-number R l k a)
-    (ranks-are text pool groups items n m c (insert l (ranked R k)) (k + 1) (insert-right R l (ranked R k) a refl))
+-- the whole order ---------------------------------------------------------------------------------------------------------------
 
 module _ (text pool groups items : List ℕ) (n m mode sources : ℕ) (before : List ℕ) where
   pub by-number : {out : List ℕ} → mode ≡ 0 → out ≡ written (upFrom 1 sources) before
       → out ≡ written (referencesIn text pool groups items n m mode sources) before
-  unfolding referencesIn
+  unfolding referencesIn referenceOrder
   by-number p e = e ∙ rw (eq-eqb mode 0 p) refl
 
   pub by-rank : {out : List ℕ} → (mode ≡ 0 → ⊥) → out ≡ written (insertedFrom (rankIn text pool groups items n m) sources [] 1) before
       → out ≡ written (referencesIn text pool groups items n m mode sources) before
-  unfolding referencesIn
-  by-rank p e = e ∙ rw (ne-eqb mode 0 p, ← ranks-are text pool groups items n m sources [] 1 tt) refl
+  unfolding referencesIn referenceOrder
+  by-rank p e = e ∙ rw (ne-eqb mode 0 p) refl
 
 pub ruleset reference-laws = (by-number, by-rank)

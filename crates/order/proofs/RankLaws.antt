@@ -24,8 +24,8 @@ use Rattle.defined.specs.declared.Defined.the-variants.{Line, Entry as EntryOf,
 use Rattle.records.specs.Records.{itemField, groupField, keyIn}
 use Rattle.uses.specs.Uses.{usedAt}
 use Rattle.defined.specs.Defined.{definedAs, foundIn, definitionNumber, definitionAt, keyBy, DefinedIn}
-use Rattle.order.specs.References.{firstWith, sourceKeyIn, numberOfKey}
-use Rattle.order.specs.Ordered.{hasNumber, rankBy, definitionOf, sourceBy}
+use Rattle.order.specs.References.{hasNumber, firstWith, sourceKeyIn, numberOfKey}
+use Rattle.order.specs.Ordered.{rankBy, definitionOf, sourceBy}
 use Rattle.entries.proofs.EntryLaws.{part-none}
 use Rattle.defined.proofs.DefinedLaws.{below-count, line-there, entry-there}
 
@@ -133,7 +133,8 @@ pub ruleset rank-laws = (rank-text, rank-pool, rank-key)
 -- the definition of a source -------------------------------------------------------------------------------------------------------
 
 module _ (items : List ℕ) (m k i : ℕ) where
-  pub with-start : first (hasNumber items k) m 0 ≡ first (hasNumber items k) (m - 0) 0
+  pub with-start : firstWith items m k ≡ first (hasNumber items k) (m - 0) 0
+  unfolding firstWith
   with-start = let z : m - 0 ≡ m = omega arith in rw z refl
 
   module _ {w : ℕ} (p : w ≡ first (hasNumber items k) (m - i) i) where
@@ -150,13 +151,14 @@ module _ (items : List ℕ) (m k i : ℕ) where
 
 pub ruleset with-laws = (with-start, with-out, with-stop, with-more)
 
-pub with-below : (items : List ℕ) (m k : ℕ) {j : ℕ} → j ≡ first (hasNumber items k) m 0 → m < 4294967296 → j < 4294967296
+pub with-below : (items : List ℕ) (m k : ℕ) {j : ℕ} → j ≡ firstWith items m k → m < 4294967296 → j < 4294967296
+unfolding firstWith
 with-below items m k p h = let l = first-by (hasNumber items k) m 0 in omega arith
 
-pub definition-is : (text pool groups items : List ℕ) (n m k : ℕ) (d : Defined) {j r : ℕ} {key : List ℕ} → j ≡ first (hasNumber items k) m 0
+pub definition-is : (text pool groups items : List ℕ) (n m k : ℕ) (d : Defined) {j r : ℕ} {key : List ℕ} → j ≡ firstWith items m k
     → key ≡ keyIn text items j → d ≡ foundIn text groups items n pool key → r ≡ definitionNumber pool n d
     → r ≡ definitionOf text pool groups items n m k
-unfolding definitionOf sourceKeyIn firstWith hasNumber
+unfolding definitionOf sourceKeyIn
 definition-is text pool groups items n m k d f p q e = e ∙ rw (q, p, f) refl
 
 pub ruleset of-laws = (with-below, definition-is)

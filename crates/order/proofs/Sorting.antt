@@ -1,4 +1,4 @@
--- The numbers that are in order by their ranks stay so, and a rank's place among them is found by halves.
+-- The order of bytes, and the place of a rank among numbers that are in order, found by halves.
 use Prim.Native.Nat.{ℕ, zero, suc, _+_, _≤_, _<_}
 use native.Mathlib.Omega.{arith}
 use mathlib.Core.Path.{_≡_, refl, sym, _∙_}
@@ -9,18 +9,16 @@ use lib.ListN.{length, getD, take}
 use lib.Seq.{getD-take, length-take-le}
 use lib.Dec.{eqb, ltb}
 use borrow.Author.Tests.{lt-ltb, le-ltb, eq-eqb, ne-eqb, ltb-true, ltb-false, eqb-true, eqb-false}
-use Rattle.base.specs.Pick.{pick}
 use Rattle.base.specs.First.{first}
 use Rattle.base.specs.Sorted.{Each}
-use Rattle.base.proofs.Alls.{each-map}
 use Rattle.base.proofs.Searches.{first-by, first-holds, first-before}
 use Rattle.order.specs.Order.{less}
-use Rattle.order.specs.Ordered.{rankBy, insertBy, greaterAt, Rising, SortedBy}
+use Rattle.order.specs.Ordered.{rankBy, greaterAt, Rising, SortedBy}
 
 -- the order of bytes -------------------------------------------------------------------------------------------------------------
 
 module _ (x y : ℕ) (xs ys : List ℕ) where
-  pub less-lt : x < y → less (x ∷ xs) (y ∷ ys) ≡ true
+  less-lt : x < y → less (x ∷ xs) (y ∷ ys) ≡ true
   unfolding less
   less-lt h = rw (lt-ltb x y h) refl
 
@@ -56,6 +54,13 @@ less-asym (x ∷ xs) (y ∷ ys) h = go (three x y xs ys) (less-asym xs ys)
     go (inr (inl e)) rec = less-eq y x ys xs (sym e) ∙ rec (sym (less-eq x y xs ys e) ∙ h)
     go (inr (inr l)) rec = absurd (true≢false (sym h ∙ less-gt x y xs ys l))
 
+pub less-self : (a : List ℕ) → less a a ≡ false
+less-self a = go (less a a) refl
+  where
+    go : (t : Bool) → less a a ≡ t → t ≡ false
+    go true e = sym e ∙ less-asym a a e
+    go false e = refl
+
 -- what is below one is below all that are not below that one
 pub less-cut : (a b c : List ℕ) → less a b ≡ true → less c b ≡ false → less a c ≡ true
 unfolding less
@@ -77,6 +82,24 @@ less-cut (x ∷ xs) (y ∷ ys) (z ∷ zs) h k = go (three x y xs ys) (three z y 
         less-eq x z xs zs (omega arith) ∙ rec (sym (less-eq x y xs ys d) ∙ h) (sym (less-eq z y zs ys e) ∙ k)
     go (inr (inl d)) (inr (inr m)) rec = less-lt x z xs zs (omega arith)
 
+-- what is not less is greater or the same
+pub less-or : (a b : List ℕ) → less b a ≡ false → (less a b ≡ true) ⊎ (a ≡ b)
+unfolding less
+less-or [] [] h = inr refl
+less-or [] (y ∷ ys) h = inl refl
+less-or (x ∷ xs) [] h = absurd (true≢false h)
+less-or (x ∷ xs) (y ∷ ys) h = go (three x y xs ys) (less-or xs ys)
+  where
+    go : (x < y) ⊎ ((x ≡ y) ⊎ (y < x)) → (less ys xs ≡ false → (less xs ys ≡ true) ⊎ (xs ≡ ys))
+        → (less (x ∷ xs) (y ∷ ys) ≡ true) ⊎ (x ∷ xs ≡ y ∷ ys)
+    go (inl l) rec = inl (less-lt x y xs ys l)
+    go (inr (inl e)) rec = on (rec (sym (less-eq y x ys xs (sym e)) ∙ h))
+      where
+        on : (less xs ys ≡ true) ⊎ (xs ≡ ys) → (less (x ∷ xs) (y ∷ ys) ≡ true) ⊎ (x ∷ xs ≡ y ∷ ys)
+        on (inl a) = inl (less-eq x y xs ys e ∙ a)
+        on (inr a) = inr (cc e)
+    go (inr (inr l)) rec = absurd (true≢false (sym (less-lt y x ys xs l) ∙ h))
+
 -- numbers in order ---------------------------------------------------------------------------------------------------------------
 
 each-at : (P : ℕ → Type 0) (l : List ℕ) (j : ℕ) → Each P l → j < length l → P (getD l j 0)
@@ -87,27 +110,6 @@ each-at P (x ∷ xs) (suc j) e h = each-at P xs j (e .1) (omega arith)
 module _ (rank : ℕ → List ℕ) where
   abbrev Before : ℕ → ℕ → Type 0
   Before a b = less (rank b) (rank a) ≡ false
-
-  pub insert-each : (P : ℕ → Type 0) (l : List ℕ) (k : ℕ) → Each P l → P k → Each P (insertBy rank l k)
-  unfolding insertBy
-  insert-each P [] k e p = (p, tt)
-  insert-each P (q ∷ qs) k e p = go (less (rank k) (rank q)) (insert-each P qs k (e .1) p)
-    where
-      go : (t : Bool) → Each P (insertBy rank qs k) → Each P (pick t (k ∷ q ∷ qs) (q ∷ insertBy rank qs k))
-      go true r = (p, e)
-      go false r = (e .0, r)
-
-  pub insert-sorted : (l : List ℕ) (k : ℕ) → SortedBy rank l → SortedBy rank (insertBy rank l k)
-  unfolding insertBy
-  insert-sorted [] k s = (tt, tt)
-  insert-sorted (q ∷ qs) k s = go (less (rank k) (rank q)) refl (insert-sorted qs k (s .1))
-    where
-      after : less (rank k) (rank q) ≡ true → Each (Before k) qs
-      after t = each-map (Before q) (Before k) qs (λ x b. less-asym (rank k) (rank x) (less-cut (rank k) (rank q) (rank x) t b)) (s .0)
-
-      go : (t : Bool) → less (rank k) (rank q) ≡ t → SortedBy rank (insertBy rank qs k) → SortedBy rank (pick t (k ∷ q ∷ qs) (q ∷ insertBy rank qs k))
-      go true e r = ((less-asym (rank k) (rank q) e, after e), s)
-      go false e r = (insert-each (Before q) qs k (s .0) e, r)
 
   sorted-at : (l : List ℕ) (i j : ℕ) → SortedBy rank l → i < j → j < length l → Before (getD l i 0) (getD l j 0)
   sorted-at [] i j s h m = absurd (omega arith)

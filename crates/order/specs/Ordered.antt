@@ -1,24 +1,19 @@
 -- Reference order as the code makes it: the numbers of the sources' definitions are inserted one after the other, by their ranks; then each
 -- is replaced by the number of its source.
-use mathlib.Core.Option.{Option·getD}
 use Prim.Native.Nat.{ℕ, zero, suc, _+_, _≤_, _<_}
 use mathlib.Core.Path.{_≡_}
-use mathlib.Core.List.{List, [], _∷_}
+use mathlib.Core.List.{List}
 use mathlib.Core.Bool.{Bool, true, false}
 use lib.ListN.{getD, set}
-use lib.Dec.{eqb}
-use Rattle.base.specs.Pick.{pick}
 use Rattle.base.specs.Sorted.{Sorted}
-use Rattle.definition.specs.Defs.{defAuthor}
-use Rattle.records.specs.Records.{itemField}
 use Rattle.defined.specs.Defined.{definedAs, foundIn, definitionNumber, definitionAt, keyBy}
-use Rattle.order.specs.Order.{less}
+use Rattle.order.specs.Order.{less, authorOr}
 use Rattle.order.specs.References.{sourceKeyIn, numberOfKey}
 
 module _ (text pool groups items : List ℕ) (n m : ℕ) where
   -- the number of the definition of source number `k`
   unfoldable pub definitionOf : ℕ → ℕ
-  definitionOf k = definitionNumber pool n (foundIn text groups items n pool (sourceKeyIn text pool groups items n m k))
+  definitionOf k = definitionNumber pool n (foundIn text groups items n pool (sourceKeyIn text items m k))
 
   -- the number of the source that definition number `i` defines
   unfoldable pub sourceBy : ℕ → ℕ
@@ -27,21 +22,7 @@ module _ (text pool groups items : List ℕ) (n m : ℕ) where
 -- the bytes that the source of definition number `i` is ordered by
 unfoldable pub rankBy : List ℕ → List ℕ → List ℕ → List ℕ → ℕ → ℕ → List ℕ
 rankBy text pool groups items n i =
-    Option·getD (defAuthor (definedAs text groups n pool (definitionAt pool n i))) (keyBy text pool groups items (definitionAt pool n i))
-
--- the number `k` into those in order: before the first with a greater rank
-unfoldable pub insertBy : (ℕ → List ℕ) → List ℕ → ℕ → List ℕ
-insertBy rank [] k = k ∷ []
-insertBy rank (q ∷ qs) k = pick (less (rank k) (rank q)) (k ∷ q ∷ qs) (q ∷ insertBy rank qs k)
-
--- the `count` numbers from `k` on, into those in order
-unfoldable pub insertedFrom : (ℕ → List ℕ) → ℕ → List ℕ → ℕ → List ℕ
-insertedFrom rank zero l k = l
-insertedFrom rank (suc count) l k = insertedFrom rank count (insertBy rank l k) (k + 1)
-
--- item record `j` has the number `k`
-unfoldable pub hasNumber : List ℕ → ℕ → ℕ → Bool
-hasNumber items k j = eqb (itemField items j 12) k
+    authorOr (definedAs text groups n pool (definitionAt pool n i)) (keyBy text pool groups items (definitionAt pool n i))
 
 -- the number at place `i` has a greater rank than these bytes
 unfoldable pub greaterAt : (ℕ → List ℕ) → List ℕ → List ℕ → ℕ → Bool

@@ -10,8 +10,8 @@ ghost use Rattle.base.specs.First.{first};
 ghost use Rattle.base.specs.Lists.{written, upFrom};
 ghost use Rattle.pool.specs.Layout.{wellFormed};
 ghost use Rattle.defined.specs.Definitions.{LinesBelow};
-ghost use Rattle.order.specs.Order.{less};
-ghost use Rattle.order.specs.Ordered.{insertBy, insertedFrom, definitionOf, sourceBy, rankBy, greaterAt, shifted, Rising, SortedBy};
+ghost use Rattle.order.specs.Order.{less, insertBy, insertedFrom};
+ghost use Rattle.order.specs.Ordered.{definitionOf, sourceBy, rankBy, greaterAt, shifted, Rising, SortedBy};
 ghost use Rattle.order.specs.References.{rankIn, SourcesKnown, referencesIn};
 
 // Whether the bytes `a` come before the bytes `b`.

@@ -4,12 +4,11 @@ use definition::Author;
 ghost use mathlib.Core.Path.{_≡_};
 ghost use mathlib.Core.Bool.{true};
 ghost use Prim.Native.Nat.{_<_, _≤_};
-ghost use Rattle.base.specs.First.{first};
 ghost use Rattle.pool.specs.Layout.{wellFormed};
 ghost use Rattle.defined.specs.Definitions.{LinesBelow};
 ghost use Rattle.defined.specs.Defined.{definitionNumber, definitionAt, keyBy, DefinedIn};
-ghost use Rattle.order.specs.References.{numberOfKey};
-ghost use Rattle.order.specs.Ordered.{hasNumber, rankBy, definitionOf, sourceBy};
+ghost use Rattle.order.specs.References.{firstWith, numberOfKey};
+ghost use Rattle.order.specs.Ordered.{rankBy, definitionOf, sourceBy};
 
 // The number of a definition: a group's own, an entry's after those of the `n` groups.
 fn definition_number(pool: &[u8], n: usize, d: Defined) -> u16
@@ -86,7 +85,7 @@ pub fn rank_by<'a>(
 // The first of the `m` item records with the number `k`; `m` where there is none.
 fn first_with(items: &[u16], m: usize, k: usize) -> usize
     requires { ⌜ m < 4294967296 ⌝ }
-    ensures { λ r. ⌜ r ≡ first (hasNumber (now (items .entry)) k) m 0 ⌝ }
+    ensures { λ r. ⌜ r ≡ firstWith (now (items .entry)) m k ⌝ }
 {
     let mut j: usize = 0;
     while j < m {

@@ -5,7 +5,8 @@ use mathlib.Core.Path.{_≡_}
 use mathlib.Core.List.{[], map}
 use lib.ListN.{length}
 use Rattle.base.specs.Lists.{written}
-use Rattle.order.specs.Ordered.{definitionOf, insertedFrom}
+use Rattle.order.specs.Order.{insertedFrom}
+use Rattle.order.specs.Ordered.{definitionOf}
 use Rattle.order.specs.References.{rankIn}
 use borrow.Author.Needs.{needs}
 use Rattle.order.proofs.Definitions.{definition-laws}

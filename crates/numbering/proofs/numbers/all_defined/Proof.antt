@@ -2,7 +2,7 @@
 -- The measure is what is left of the count. Assumes nothing.
 use Prim.Native.Nat.{_+_, _-_}
 use mathlib.Core.Path.{_≡_}
-use Rattle.numbering.specs.Progress.{keysDefined}
+use Rattle.numbering.specs.Numbers.{keysDefined}
 use borrow.Author.Needs.{needs}
 use Rattle.numbering.proofs.GroupLaws.{keys-laws}
 use Rattle.numbering.proofs.numbers.all_defined.Statement.{statement}

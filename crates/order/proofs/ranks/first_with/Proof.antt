@@ -3,14 +3,14 @@
 use Prim.Native.Nat.{_-_}
 use mathlib.Core.Path.{_≡_}
 use Rattle.base.specs.First.{first}
-use Rattle.order.specs.Ordered.{hasNumber}
+use Rattle.order.specs.References.{hasNumber, firstWith}
 use borrow.Author.Needs.{needs}
 use Rattle.order.proofs.RankLaws.{with-laws}
 use Rattle.order.proofs.ranks.first_with.Statement.{statement}
 use Rattle.order.proofs.ranks.first_with.Tie as tie
 
 abbrev Inv-loop : tie.InvT-loop
-Inv-loop items m k j₀ j = first (hasNumber items k) m 0 ≡ first (hasNumber items k) (m - j) j
+Inv-loop items m k j₀ j = firstWith items m k ≡ first (hasNumber items k) (m - j) j
 
 abbrev μ-loop : tie.MeasureT-loop
 μ-loop items m k j₀ j = m - j
