@@ -1,13 +1,14 @@
 // Numbers, uses and labels, written into the records and the label bytes, group by group. There are `n` groups and `m` items; the groups that
 // start a definition line lie below group record `end`.
 use crate::Numbering;
+use base::least;
 use defined::Defined;
 use definition::Author;
 use definition::Year;
 use uses::Count;
 ghost use mathlib.Core.Path.{_≡_};
 ghost use mathlib.Core.Bool.{true};
-ghost use Prim.Native.Nat.{_<_, _≤_, min};
+ghost use Prim.Native.Nat.{_<_, _≤_};
 ghost use lib.ListN.{length};
 ghost use Rattle.pool.specs.Layout.{wellFormed};
 ghost use Rattle.label.specs.Areas.{fitted, fittedAt};
@@ -147,13 +148,6 @@ fn label_at<'a>(
     }
     let out = &mut labels[at..];
     label_in(text, mode, pool, n, end, k, number, items, groups, out)
-}
-
-// The lesser of two numbers.
-fn least(a: usize, b: usize) -> usize
-    ensures { λ r. ⌜ r ≡ min a b ⌝ }
-{
-    if a <= b { a } else { b }
 }
 
 // A state of the numbering.
