@@ -17,7 +17,7 @@ use Rattle.pool.specs.declared.Found.{Found}
 use Rattle.pool.specs.declared.Found.the-variants.{At, Missing}
 use Rattle.pool.specs.declared.NameParts.{NameParts}
 use Rattle.pool.specs.Fields.{fieldAt, fieldEnd, fieldsOf}
-use Rattle.pool.specs.Entries.{Name, fieldWith, nameAfter, nameAt, namesIn, entryOf}
+use Rattle.pool.specs.Entries.{Name, fieldWith, nameAfter, nameAt, namesIn, entryOf, entryFrom}
 use Rattle.pool.specs.Layout.{countOf, offsetOf, endOf, wellFormed, entryAt, entriesOf}
 use Rattle.pool.specs.Places.{Reads, ReadsName, FieldsIn, EntryIn}
 use Rattle.pool.proofs.FieldLaws.{fields-next, fields-end}
@@ -74,7 +74,7 @@ module _ (s : List ℕ) (i : ℕ) (w : wellFormed s ≡ true) (h : i < countOf s
 
 -- its id
 module _ (s : List ℕ) (i : ℕ) {at e : ℕ} (p : at ≡ offsetOf s i) (q : e ≡ endOf s i) where
-  id-at : entryOf (fieldsOf s at e) .id ≡ entryAt s i .id
+  id-at : entryFrom s at e .id ≡ entryAt s i .id
   unfolding entryAt
   id-at = rw (q, p) refl
 
@@ -171,7 +171,7 @@ module _ (s : List ℕ) (i : ℕ) {at e : ℕ} (p : at ≡ offsetOf s i) (q : e 
   unfolding authorOf entryAt entryOf
   author-entry g = record { bytes = λ text. g .bytes text ∙ rw (p, q) refl }
 
-  module _ {y : SourceYear} (g : ReadsYear s y (yearOf (entryOf (fieldsOf s at e)))) where
+  module _ {y : SourceYear} (g : ReadsYear s y (yearOf (entryFrom s at e))) where
     given : writtenYear s y ≡ yearOf (entryAt s i)
     unfolding entryAt
     given = g .bytes ∙ rw (p, q) refl

@@ -14,7 +14,7 @@ use Rattle.base.specs.Lists.{part, within, written}
 use Rattle.base.specs.Sorted.{Each}
 use Rattle.pool.specs.Numbers.{Signed}
 use Rattle.pool.specs.Fields.{Field, fieldEnd, fieldAt, fieldsIn, fieldsOf}
-use Rattle.pool.specs.Entries.{Entry, fieldWith, inName, nameAfter, nameAt, namesIn, entryOf}
+use Rattle.pool.specs.Entries.{Entry, fieldWith, inName, nameAfter, nameAt, namesIn, entryOf, entryFrom}
 use Rattle.pool.specs.Layout.{countOf, offsetOf, endOf, wellFormed, entryAt}
 use Rattle.pool.proofs.PoolLaws.{entry-there}
 use Rattle.decimal.proofs.Laws.{decimal-short}
@@ -144,7 +144,7 @@ ended-short s = go (isEmpty s)
 
 module _ (s : List ℕ) (at e : ℕ) (small : length s ≤ 32768) (inside : e ≤ length s) where
   abbrev entry : Entry
-  entry = entryOf (fieldsOf s at e)
+  entry = entryFrom s at e
 
   all-short : Each Short (fieldsOf s at e)
   unfolding fieldsOf

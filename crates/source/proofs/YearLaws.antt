@@ -15,7 +15,7 @@ use Rattle.pool.specs.declared.Found.{Found}
 use Rattle.pool.specs.declared.Found.the-variants.{At, Missing}
 use Rattle.pool.specs.Numbers.{leAt, signed, signedOf}
 use Rattle.pool.specs.Fields.{fieldsOf}
-use Rattle.pool.specs.Entries.{fieldWith, yearIn, entryOf}
+use Rattle.pool.specs.Entries.{fieldWith, yearIn, entryOf, entryFrom}
 use Rattle.pool.specs.Places.{bytesAt, Reads, EntryIn}
 use Rattle.pool.proofs.PoolLaws.{year-eight, year-is}
 use Rattle.decimal.specs.Decimal.{decimal}
@@ -45,14 +45,14 @@ module _ (s : List ℕ) (at e : ℕ) (f : Found) where
   year-room h r q = let t = there r q in let l = year-eight s at e h t in let i = t .inside in omega arith
 
   pub year-number : {p : Span} {n : Bool} {m : ℕ} → EntryIn s at e → Reads s f (fieldWith 6 (fieldsOf s at e)) → f ≡ At p
-      → signed n m ≡ signedOf 8 (leAt 8 s (p .at)) → ReadsYear s (Number n m) (yearOf (entryOf (fieldsOf s at e)))
+      → signed n m ≡ signedOf 8 (leAt 8 s (p .at)) → ReadsYear s (Number n m) (yearOf (entryFrom s at e))
   unfolding yearOf entryOf yearBy
   year-number h r q g =
       let t = there r q in
       record { bytes = rw (year-is s t (year-eight s at e h t), g) refl; inside = tt }
 
   pub year-date : {y : Year} → Reads s f (fieldWith 6 (fieldsOf s at e)) → f ≡ Missing → ReadsYear s y (fieldWith 7 (fieldsOf s at e))
-      → ReadsYear s y (yearOf (entryOf (fieldsOf s at e)))
+      → ReadsYear s y (yearOf (entryFrom s at e))
   unfolding yearOf entryOf yearBy yearIn
   year-date {y} r q d = record { bytes = rw (← r .bytes, q) (d .bytes); inside = d .inside }
 

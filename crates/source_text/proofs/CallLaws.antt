@@ -7,8 +7,7 @@ use mathlib.Core.Bool.{Bool, true, false}
 use lib.ListN.{length}
 use borrow.Author.Tests.{lt-ltb, le-ltb}
 use Rattle.base.specs.Lists.{written}
-use Rattle.pool.specs.Fields.{fieldsOf}
-use Rattle.pool.specs.Entries.{entryOf}
+use Rattle.pool.specs.Entries.{entryFrom}
 use Rattle.pool.specs.Layout.{countOf, offsetOf, endOf, wellFormed, entryAt}
 use Rattle.pool.specs.Places.{EntryIn}
 use Rattle.pool.proofs.PoolLaws.{pair-there, entry-there}
@@ -73,52 +72,52 @@ pub call-entry : (p : List ℕ) (i : ℕ) {at e : ℕ} {w : Bool} {n : ℕ} → 
     → EntryIn p at e
 call-entry p i a b f t c h = rw (a, b) (entry-there p i (sym f ∙ t) (omega arith))
 
-pub fits-room : (p : List ℕ) (at e : ℕ) {k n : ℕ} → n ≡ length (sourceTextOf (entryOf (fieldsOf p at e))) → n ≤ k
-    → length (sourceTextOf (entryOf (fieldsOf p at e))) ≤ k
+pub fits-room : (p : List ℕ) (at e : ℕ) {k n : ℕ} → n ≡ length (sourceTextOf (entryFrom p at e)) → n ≤ k
+    → length (sourceTextOf (entryFrom p at e)) ≤ k
 fits-room p at e l h = rw l at h
 
 module _ (p : List ℕ) (i at e : ℕ) (area : List ℕ) where
-  there : Named p i at e → sourceTextCall p i area ≡ sourceWritten (sourceTextOf (entryOf (fieldsOf p at e))) area
+  there : Named p i at e → sourceTextCall p i area ≡ sourceWritten (sourceTextOf (entryFrom p at e)) area
   unfolding sourceTextCall entryAt
   there q =
       rw (q .formed, lt-ltb i (countOf p) (q .below), q .start, q .end) refl
 
   -- 10
-  small : (n : ℕ) → Named p i at e → n ≡ length (sourceTextOf (entryOf (fieldsOf p at e))) → length area < n → sourceTextCall p i area ≡ sourceRefused 10 area
+  small : (n : ℕ) → Named p i at e → n ≡ length (sourceTextOf (entryFrom p at e)) → length area < n → sourceTextCall p i area ≡ sourceRefused 10 area
   unfolding sourceWritten
   small n q l h = there q ∙ rw (← l, lt-ltb (length area) n h) refl
 
-  pub small-answer : (n : ℕ) → Named p i at e → n ≡ length (sourceTextOf (entryOf (fieldsOf p at e))) → length area < n
+  pub small-answer : (n : ℕ) → Named p i at e → n ≡ length (sourceTextOf (entryFrom p at e)) → length area < n
       → Refused 10 ≡ sourceTextAnswer (sourceTextCall p i area)
   unfolding sourceTextAnswer
   small-answer n q l h = rw (small n q l h) refl
 
-  pub small-numbers : (n : ℕ) → Named p i at e → n ≡ length (sourceTextOf (entryOf (fieldsOf p at e))) → length area < n
+  pub small-numbers : (n : ℕ) → Named p i at e → n ≡ length (sourceTextOf (entryFrom p at e)) → length area < n
       → sourceTextValues (Refused 10) ≡ sourceTextNumbers (sourceTextCall p i area)
   unfolding sourceTextValues sourceTextNumbers
   small-numbers n q l h = rw (small n q l h) refl
 
-  pub small-area : (n : ℕ) → Named p i at e → n ≡ length (sourceTextOf (entryOf (fieldsOf p at e))) → length area < n → area ≡ sourceTextCall p i area .area
+  pub small-area : (n : ℕ) → Named p i at e → n ≡ length (sourceTextOf (entryFrom p at e)) → length area < n → area ≡ sourceTextCall p i area .area
   small-area n q l h = rw (small n q l h) refl
 
   -- accepted
-  fits : (n : ℕ) → Named p i at e → n ≡ length (sourceTextOf (entryOf (fieldsOf p at e))) → n ≤ length area
-      → sourceTextCall p i area ≡ record { number = 0; bytes = length (sourceTextOf (entryOf (fieldsOf p at e))); area = written (sourceTextOf (entryOf (fieldsOf p at e))) area }
+  fits : (n : ℕ) → Named p i at e → n ≡ length (sourceTextOf (entryFrom p at e)) → n ≤ length area
+      → sourceTextCall p i area ≡ record { number = 0; bytes = length (sourceTextOf (entryFrom p at e)); area = written (sourceTextOf (entryFrom p at e)) area }
   unfolding sourceWritten
-  fits n q l h = there q ∙ rw (le-ltb (length area) (length (sourceTextOf (entryOf (fieldsOf p at e)))) (omega arith)) refl
+  fits n q l h = there q ∙ rw (le-ltb (length area) (length (sourceTextOf (entryFrom p at e))) (omega arith)) refl
 
-  pub fits-answer : {n : ℕ} → Named p i at e → n ≡ length (sourceTextOf (entryOf (fieldsOf p at e))) → n ≤ length area
+  pub fits-answer : {n : ℕ} → Named p i at e → n ≡ length (sourceTextOf (entryFrom p at e)) → n ≤ length area
       → Accepted n ≡ sourceTextAnswer (sourceTextCall p i area)
   unfolding sourceTextAnswer
   fits-answer {n} q l h = rw (fits n q l h, ← l) refl
 
-  pub fits-numbers : {n : ℕ} → Named p i at e → n ≡ length (sourceTextOf (entryOf (fieldsOf p at e))) → n ≤ length area
+  pub fits-numbers : {n : ℕ} → Named p i at e → n ≡ length (sourceTextOf (entryFrom p at e)) → n ≤ length area
       → sourceTextValues (Accepted n) ≡ sourceTextNumbers (sourceTextCall p i area)
   unfolding sourceTextValues sourceTextNumbers
   fits-numbers {n} q l h = rw (fits n q l h, ← l) refl
 
-  pub fits-area : (n : ℕ) {out : List ℕ} → Named p i at e → n ≡ length (sourceTextOf (entryOf (fieldsOf p at e))) → n ≤ length area
-      → out ≡ written (sourceTextOf (entryOf (fieldsOf p at e))) area → out ≡ sourceTextCall p i area .area
+  pub fits-area : (n : ℕ) {out : List ℕ} → Named p i at e → n ≡ length (sourceTextOf (entryFrom p at e)) → n ≤ length area
+      → out ≡ written (sourceTextOf (entryFrom p at e)) area → out ≡ sourceTextCall p i area .area
   fits-area n q l h o = rw (fits n q l h) o
 
 pub ruleset call-laws = (call-formed, broken-answer, broken-numbers, broken-area, past-answer, past-numbers, past-area, named, call-pair, call-entry, small-answer, small-numbers, small-area, fits-room, fits-answer, fits-numbers, fits-area)

@@ -19,7 +19,7 @@ use Rattle.pool.specs.declared.Found.{Found}
 use Rattle.pool.specs.declared.Found.the-variants.{At, Missing}
 use Rattle.pool.specs.declared.NameParts.{NameParts}
 use Rattle.pool.specs.Fields.{Field, fieldEnd, fieldAt, fieldsOf}
-use Rattle.pool.specs.Entries.{Name, nameAfter, nameAt, namesIn, entryOf}
+use Rattle.pool.specs.Entries.{Name, nameAfter, nameAt, namesIn, entryOf, entryFrom}
 use Rattle.pool.specs.Places.{Inside, nameAtParts, ReadsName, FieldsIn, EntryIn}
 use Rattle.pool.proofs.FieldLaws.{field-long, field-shrinks, fields-next, fields-end}
 use Rattle.pool.proofs.ReaderLaws.{fields-of-entry, fields-order, fields-head, fields-rest}
@@ -50,7 +50,7 @@ module _ (s : List ℕ) (i e n : ℕ) where
   unfolding namesIn fold
   names-end g h = sym (g ∙ rw (fields-end s i e h) refl)
 
-pub names-start : (s : List ℕ) (at e : ℕ) → length (namesOf (entryOf (fieldsOf s at e))) ≡ fold addLen 0 (namesIn (fieldsOf s at e))
+pub names-start : (s : List ℕ) (at e : ℕ) → length (namesOf (entryFrom s at e)) ≡ fold addLen 0 (namesIn (fieldsOf s at e))
 unfolding namesOf entryOf
 names-start s at e = names-length [] (namesIn (fieldsOf s at e))
 
@@ -220,13 +220,13 @@ names-more a (n ∷ ns) =
 pub record SoFar (s : List ℕ) (at e : ℕ) (area₀ area : List ℕ) (k i : ℕ) : Type 0 where
   pub fields : FieldsIn s i e
   pub small : length s ≤ 32768
-  pub room : length (namesOf (entryOf (fieldsOf s at e))) ≤ length area₀
+  pub room : length (namesOf (entryFrom s at e)) ≤ length area₀
   pub long : length area ≡ length area₀
   pub front : k ≤ length area
   pub same : area ≡ written (take k area) area₀
-  pub names : namesOf (entryOf (fieldsOf s at e)) ≡ fold addName (take k area) (namesIn (fieldsOf s i e))
+  pub names : namesOf (entryFrom s at e) ≡ fold addName (take k area) (namesIn (fieldsOf s i e))
 
-pub so-far-start : (s : List ℕ) (at e : ℕ) (area : List ℕ) → EntryIn s at e → length (namesOf (entryOf (fieldsOf s at e))) ≤ length area
+pub so-far-start : (s : List ℕ) (at e : ℕ) (area : List ℕ) → EntryIn s at e → length (namesOf (entryFrom s at e)) ≤ length area
     → SoFar s at e area area 0 at
 unfolding namesOf entryOf
 so-far-start s at e area h r =
@@ -245,7 +245,7 @@ module _ (s : List ℕ) (at e : ℕ) (area₀ area : List ℕ) (k i : ℕ) (f : 
   abbrev more : ℕ → List ℕ
   more end = fold addName (take k area) (nameAt (byteAt s i) (fieldsOf s end e))
 
-  all-names : (end : ℕ) → i < e → end ≡ fieldEnd s i → namesOf (entryOf (fieldsOf s at e)) ≡ fold addName (more end) (namesIn (fieldsOf s end e))
+  all-names : (end : ℕ) → i < e → end ≡ fieldEnd s i → namesOf (entryFrom s at e) ≡ fold addName (more end) (namesIn (fieldsOf s end e))
   all-names end h p = f .names ∙ names-split addName (take k area) s i e h ∙ rw p refl
 
   more-fits : (end : ℕ) → i < e → end ≡ fieldEnd s i → length (more end) ≤ length area
@@ -283,14 +283,14 @@ module _ (s : List ℕ) (at e : ℕ) (area₀ area : List ℕ) (k i : ℕ) (f : 
         names = rw t (all-names end h p);
       }
 
-  ended-names : e ≤ i → namesOf (entryOf (fieldsOf s at e)) ≡ take k area
+  ended-names : e ≤ i → namesOf (entryFrom s at e) ≡ take k area
   unfolding namesIn fold
   ended-names h = f .names ∙ rw (fields-end s i e h) refl
 
-  pub so-far-count : e ≤ i → k ≡ length (namesOf (entryOf (fieldsOf s at e)))
+  pub so-far-count : e ≤ i → k ≡ length (namesOf (entryFrom s at e))
   so-far-count h = rw (ended-names h) (sym (length-take-le k area (f .front)))
 
-  pub so-far-written : e ≤ i → area ≡ written (namesOf (entryOf (fieldsOf s at e))) area₀
+  pub so-far-written : e ≤ i → area ≡ written (namesOf (entryFrom s at e)) area₀
   so-far-written h = rw (ended-names h) (f .same)
 
   pub so-far-head : i < e → i + 3 ≤ length s

@@ -12,7 +12,7 @@ use Rattle.base.specs.Lists.{written}
 use Rattle.base.proofs.Areas.{written-kept, written-after, written-front, written-length, written-over, rest-room}
 use Rattle.pool.specs.declared.Found.{Found}
 use Rattle.pool.specs.Fields.{fieldsOf}
-use Rattle.pool.specs.Entries.{fieldWith, entryOf}
+use Rattle.pool.specs.Entries.{fieldWith, entryOf, entryFrom}
 use Rattle.pool.specs.Places.{bytesAt, Inside, Reads, EntryIn}
 use Rattle.source.specs.declared.Year.{Year}
 use Rattle.source.specs.declared.Year.the-variants.{Number, At as YearAt, Missing as NoYear}
@@ -70,51 +70,51 @@ pub ruleset add-title-laws = (title-long, title-there, title-in, title-room)
 
 -- names and year
 module _ (s : List ℕ) (at e : ℕ) (area : List ℕ) where
-  pub head-names : length (headOf (entryOf (fieldsOf s at e))) ≤ length area → length (namesOf (entryOf (fieldsOf s at e))) ≤ length area
+  pub head-names : length (headOf (entryFrom s at e)) ≤ length area → length (namesOf (entryFrom s at e)) ≤ length area
   unfolding headOf
-  head-names h = first-room area (32 ∷ []) (namesOf (entryOf (fieldsOf s at e))) (inParens (yearOf (entryOf (fieldsOf s at e)))) h
+  head-names h = first-room area (32 ∷ []) (namesOf (entryFrom s at e)) (inParens (yearOf (entryFrom s at e))) h
 
   module _ (one : List ℕ) (k : ℕ) where
-    pub head-fits : k ≡ length (namesOf (entryOf (fieldsOf s at e))) → one ≡ written (namesOf (entryOf (fieldsOf s at e))) area
-        → length (headOf (entryOf (fieldsOf s at e))) ≤ length area → Fit one (32 ∷ []) (inParens (yearOf (entryOf (fieldsOf s at e)))) k
+    pub head-fits : k ≡ length (namesOf (entryFrom s at e)) → one ≡ written (namesOf (entryFrom s at e)) area
+        → length (headOf (entryFrom s at e)) ≤ length area → Fit one (32 ∷ []) (inParens (yearOf (entryFrom s at e))) k
     unfolding headOf
-    head-fits p o h = second-fits area (32 ∷ []) (namesOf (entryOf (fieldsOf s at e))) (inParens (yearOf (entryOf (fieldsOf s at e)))) one k p o h
+    head-fits p o h = second-fits area (32 ∷ []) (namesOf (entryFrom s at e)) (inParens (yearOf (entryFrom s at e))) one k p o h
 
-    pub head-count : {r : ℕ} → k ≡ length (namesOf (entryOf (fieldsOf s at e))) → one ≡ written (namesOf (entryOf (fieldsOf s at e))) area
-        → r ≡ length (beside (32 ∷ []) (take k one) (inParens (yearOf (entryOf (fieldsOf s at e))))) → r ≡ length (headOf (entryOf (fieldsOf s at e)))
+    pub head-count : {r : ℕ} → k ≡ length (namesOf (entryFrom s at e)) → one ≡ written (namesOf (entryFrom s at e)) area
+        → r ≡ length (beside (32 ∷ []) (take k one) (inParens (yearOf (entryFrom s at e)))) → r ≡ length (headOf (entryFrom s at e))
     unfolding headOf
-    head-count p o h = second-count area (32 ∷ []) (namesOf (entryOf (fieldsOf s at e))) (inParens (yearOf (entryOf (fieldsOf s at e)))) one k p o h
+    head-count p o h = second-count area (32 ∷ []) (namesOf (entryFrom s at e)) (inParens (yearOf (entryFrom s at e))) one k p o h
 
-    pub head-written : {out : List ℕ} → k ≡ length (namesOf (entryOf (fieldsOf s at e))) → one ≡ written (namesOf (entryOf (fieldsOf s at e))) area
-        → out ≡ written (beside (32 ∷ []) (take k one) (inParens (yearOf (entryOf (fieldsOf s at e))))) one
-        → out ≡ written (headOf (entryOf (fieldsOf s at e))) area
+    pub head-written : {out : List ℕ} → k ≡ length (namesOf (entryFrom s at e)) → one ≡ written (namesOf (entryFrom s at e)) area
+        → out ≡ written (beside (32 ∷ []) (take k one) (inParens (yearOf (entryFrom s at e)))) one
+        → out ≡ written (headOf (entryFrom s at e)) area
     unfolding headOf
-    head-written p o h = second-written area (32 ∷ []) (namesOf (entryOf (fieldsOf s at e))) (inParens (yearOf (entryOf (fieldsOf s at e)))) one k p o h
+    head-written p o h = second-written area (32 ∷ []) (namesOf (entryFrom s at e)) (inParens (yearOf (entryFrom s at e))) one k p o h
 
 pub ruleset head-laws = (head-names, head-fits, head-count, head-written)
 
 -- names and year, and the title
 module _ (s : List ℕ) (at e : ℕ) (area : List ℕ) where
-  pub body-head : length (bodyOf (entryOf (fieldsOf s at e))) ≤ length area → length (headOf (entryOf (fieldsOf s at e))) ≤ length area
+  pub body-head : length (bodyOf (entryFrom s at e)) ≤ length area → length (headOf (entryFrom s at e)) ≤ length area
   unfolding bodyOf
-  body-head h = first-room area (46 ∷ 32 ∷ []) (headOf (entryOf (fieldsOf s at e))) (Option·getD (entryOf (fieldsOf s at e) .title) []) h
+  body-head h = first-room area (46 ∷ 32 ∷ []) (headOf (entryFrom s at e)) (Option·getD (entryFrom s at e .title) []) h
 
   module _ (one : List ℕ) (k : ℕ) where
-    pub body-fits : k ≡ length (headOf (entryOf (fieldsOf s at e))) → one ≡ written (headOf (entryOf (fieldsOf s at e))) area
-        → length (bodyOf (entryOf (fieldsOf s at e))) ≤ length area → Fit one (46 ∷ 32 ∷ []) (Option·getD (fieldWith 8 (fieldsOf s at e)) []) k
+    pub body-fits : k ≡ length (headOf (entryFrom s at e)) → one ≡ written (headOf (entryFrom s at e)) area
+        → length (bodyOf (entryFrom s at e)) ≤ length area → Fit one (46 ∷ 32 ∷ []) (Option·getD (fieldWith 8 (fieldsOf s at e)) []) k
     unfolding bodyOf entryOf
-    body-fits p o h = second-fits area (46 ∷ 32 ∷ []) (headOf (entryOf (fieldsOf s at e))) (Option·getD (fieldWith 8 (fieldsOf s at e)) []) one k p o h
+    body-fits p o h = second-fits area (46 ∷ 32 ∷ []) (headOf (entryFrom s at e)) (Option·getD (fieldWith 8 (fieldsOf s at e)) []) one k p o h
 
-    pub body-count : {r : ℕ} → k ≡ length (headOf (entryOf (fieldsOf s at e))) → one ≡ written (headOf (entryOf (fieldsOf s at e))) area
-        → r ≡ length (beside (46 ∷ 32 ∷ []) (take k one) (Option·getD (fieldWith 8 (fieldsOf s at e)) [])) → r ≡ length (bodyOf (entryOf (fieldsOf s at e)))
+    pub body-count : {r : ℕ} → k ≡ length (headOf (entryFrom s at e)) → one ≡ written (headOf (entryFrom s at e)) area
+        → r ≡ length (beside (46 ∷ 32 ∷ []) (take k one) (Option·getD (fieldWith 8 (fieldsOf s at e)) [])) → r ≡ length (bodyOf (entryFrom s at e))
     unfolding bodyOf entryOf
-    body-count p o h = second-count area (46 ∷ 32 ∷ []) (headOf (entryOf (fieldsOf s at e))) (Option·getD (fieldWith 8 (fieldsOf s at e)) []) one k p o h
+    body-count p o h = second-count area (46 ∷ 32 ∷ []) (headOf (entryFrom s at e)) (Option·getD (fieldWith 8 (fieldsOf s at e)) []) one k p o h
 
-    pub body-written : {out : List ℕ} → k ≡ length (headOf (entryOf (fieldsOf s at e))) → one ≡ written (headOf (entryOf (fieldsOf s at e))) area
+    pub body-written : {out : List ℕ} → k ≡ length (headOf (entryFrom s at e)) → one ≡ written (headOf (entryFrom s at e)) area
         → out ≡ written (beside (46 ∷ 32 ∷ []) (take k one) (Option·getD (fieldWith 8 (fieldsOf s at e)) [])) one
-        → out ≡ written (bodyOf (entryOf (fieldsOf s at e))) area
+        → out ≡ written (bodyOf (entryFrom s at e)) area
     unfolding bodyOf entryOf
-    body-written p o h = second-written area (46 ∷ 32 ∷ []) (headOf (entryOf (fieldsOf s at e))) (Option·getD (fieldWith 8 (fieldsOf s at e)) []) one k p o h
+    body-written p o h = second-written area (46 ∷ 32 ∷ []) (headOf (entryFrom s at e)) (Option·getD (fieldWith 8 (fieldsOf s at e)) []) one k p o h
 
 pub ruleset body-laws = (body-head, body-fits, body-count, body-written)
 
@@ -155,47 +155,47 @@ ended-more [] = omega arith
 ended-more (x ∷ xs) = simp length-append (omega arith)
 
 module _ (s : List ℕ) (at e : ℕ) (area : List ℕ) where
-  pub text-body : length (sourceTextOf (entryOf (fieldsOf s at e))) ≤ length area → length (bodyOf (entryOf (fieldsOf s at e))) ≤ length area
+  pub text-body : length (sourceTextOf (entryFrom s at e)) ≤ length area → length (bodyOf (entryFrom s at e)) ≤ length area
   unfolding sourceTextOf
-  text-body h = omega (arith, ended-more (bodyOf (entryOf (fieldsOf s at e))), h)
+  text-body h = omega (arith, ended-more (bodyOf (entryFrom s at e)), h)
 
-  module _ (one : List ℕ) (k : ℕ) (p : k ≡ length (bodyOf (entryOf (fieldsOf s at e)))) (o : one ≡ written (bodyOf (entryOf (fieldsOf s at e))) area) where
-    body-front : take k one ≡ bodyOf (entryOf (fieldsOf s at e))
-    body-front = rw o (written-front (bodyOf (entryOf (fieldsOf s at e))) area k p)
+  module _ (one : List ℕ) (k : ℕ) (p : k ≡ length (bodyOf (entryFrom s at e))) (o : one ≡ written (bodyOf (entryFrom s at e)) area) where
+    body-front : take k one ≡ bodyOf (entryFrom s at e)
+    body-front = rw o (written-front (bodyOf (entryFrom s at e)) area k p)
 
-    long-as : length (sourceTextOf (entryOf (fieldsOf s at e))) ≤ length area → length one ≡ length area
-    long-as h = rw o (written-length (bodyOf (entryOf (fieldsOf s at e))) area (text-body h))
+    long-as : length (sourceTextOf (entryFrom s at e)) ≤ length area → length one ≡ length area
+    long-as h = rw o (written-length (bodyOf (entryFrom s at e)) area (text-body h))
 
-    pub text-front : length (sourceTextOf (entryOf (fieldsOf s at e))) ≤ length area → k ≤ length one
+    pub text-front : length (sourceTextOf (entryFrom s at e)) ≤ length area → k ≤ length one
     text-front h = omega (arith, long-as h, text-body h)
 
-    pub text-room : length (sourceTextOf (entryOf (fieldsOf s at e))) ≤ length area → length (ended (take k one)) ≤ length one
+    pub text-room : length (sourceTextOf (entryFrom s at e)) ≤ length area → length (ended (take k one)) ≤ length one
     unfolding sourceTextOf
     text-room h = rw body-front (omega (arith, long-as h, h))
 
-    pub text-written : {out : List ℕ} → out ≡ written (ended (take k one)) one → out ≡ written (sourceTextOf (entryOf (fieldsOf s at e))) area
+    pub text-written : {out : List ℕ} → out ≡ written (ended (take k one)) one → out ≡ written (sourceTextOf (entryFrom s at e)) area
     unfolding sourceTextOf
     text-written h =
-        rw body-front at h ∙ ap (written (ended (bodyOf (entryOf (fieldsOf s at e))))) o
-        ∙ written-over (bodyOf (entryOf (fieldsOf s at e))) (ended (bodyOf (entryOf (fieldsOf s at e)))) area (ended-more (bodyOf (entryOf (fieldsOf s at e))))
+        rw body-front at h ∙ ap (written (ended (bodyOf (entryFrom s at e)))) o
+        ∙ written-over (bodyOf (entryFrom s at e)) (ended (bodyOf (entryFrom s at e))) area (ended-more (bodyOf (entryFrom s at e)))
 
 pub ruleset text-laws = (text-body, text-front, text-room, text-written)
 
 -- how many bytes names and year are
 module _ (s : List ℕ) (at e : ℕ) (y : Year) where
-  year-bound : (m : ℕ) → EntryIn s at e → ReadsYear s y (yearOf (entryOf (fieldsOf s at e))) → m ≡ parensLen y → m ≤ 32770
+  year-bound : (m : ℕ) → EntryIn s at e → ReadsYear s y (yearOf (entryFrom s at e)) → m ≡ parensLen y → m ≤ 32770
   year-bound m h r q = rw q (parens-at-most s y (h .small) (r .inside))
 
-  pub head-sum : {n m : ℕ} → EntryIn s at e → ReadsYear s y (yearOf (entryOf (fieldsOf s at e))) → n ≤ 2147614720 → m ≡ parensLen y
+  pub head-sum : {n m : ℕ} → EntryIn s at e → ReadsYear s y (yearOf (entryFrom s at e)) → n ≤ 2147614720 → m ≡ parensLen y
       → n + 1 + m < 9223372036854775808
   head-sum {n} {m} h r l q = omega (arith, year-bound m h r q)
 
-  pub head-long : {n m k : ℕ} → ReadsYear s y (yearOf (entryOf (fieldsOf s at e))) → n ≡ length (namesOf (entryOf (fieldsOf s at e)))
-      → m ≡ parensLen y → k ≡ besideLen n 1 m → k ≡ length (headOf (entryOf (fieldsOf s at e)))
+  pub head-long : {n m k : ℕ} → ReadsYear s y (yearOf (entryFrom s at e)) → n ≡ length (namesOf (entryFrom s at e))
+      → m ≡ parensLen y → k ≡ besideLen n 1 m → k ≡ length (headOf (entryFrom s at e))
   unfolding headOf
-  head-long r p q g = g ∙ rw (p, year-long s y _ r q) (sym (beside-length (32 ∷ []) (namesOf (entryOf (fieldsOf s at e))) (inParens (yearOf (entryOf (fieldsOf s at e))))))
+  head-long r p q g = g ∙ rw (p, year-long s y _ r q) (sym (beside-length (32 ∷ []) (namesOf (entryFrom s at e)) (inParens (yearOf (entryFrom s at e)))))
 
-  pub head-bound : (n m : ℕ) {k : ℕ} → EntryIn s at e → ReadsYear s y (yearOf (entryOf (fieldsOf s at e))) → n ≤ 2147614720 → m ≡ parensLen y
+  pub head-bound : (n m : ℕ) {k : ℕ} → EntryIn s at e → ReadsYear s y (yearOf (entryFrom s at e)) → n ≤ 2147614720 → m ≡ parensLen y
       → k ≡ besideLen n 1 m → k ≤ 4294967296
   head-bound n m h r l q g = omega (arith, year-bound m h r q, beside-at-most n 1 m)
 
@@ -209,28 +209,28 @@ module _ (s : List ℕ) (at e : ℕ) (f : Found) where
   pub body-sum : {n m : ℕ} → EntryIn s at e → Reads s f (fieldWith 8 (fieldsOf s at e)) → n ≤ 4294967296 → m ≡ lenOf f → n + 2 + m < 9223372036854775808
   body-sum {n} {m} h r l q = omega (arith, title-bound m h r q)
 
-  body-long : (n m k : ℕ) → Reads s f (fieldWith 8 (fieldsOf s at e)) → n ≡ length (headOf (entryOf (fieldsOf s at e))) → m ≡ lenOf f
-      → k ≡ besideLen n 2 m → k ≡ length (bodyOf (entryOf (fieldsOf s at e)))
+  body-long : (n m k : ℕ) → Reads s f (fieldWith 8 (fieldsOf s at e)) → n ≡ length (headOf (entryFrom s at e)) → m ≡ lenOf f
+      → k ≡ besideLen n 2 m → k ≡ length (bodyOf (entryFrom s at e))
   unfolding bodyOf entryOf
   body-long n m k r p q g =
-      g ∙ rw (p, title-long s f _ r q) (sym (beside-length (46 ∷ 32 ∷ []) (headOf (entryOf (fieldsOf s at e))) (Option·getD (fieldWith 8 (fieldsOf s at e)) [])))
+      g ∙ rw (p, title-long s f _ r q) (sym (beside-length (46 ∷ 32 ∷ []) (headOf (entryFrom s at e)) (Option·getD (fieldWith 8 (fieldsOf s at e)) [])))
 
   pub text-one : (n m : ℕ) {k : ℕ} → EntryIn s at e → Reads s f (fieldWith 8 (fieldsOf s at e)) → n ≤ 4294967296 → m ≡ lenOf f → k ≡ besideLen n 2 m
       → Fits w64 (k + 1)
   text-one n m h r l q g = omega (arith, title-bound m h r q, beside-at-most n 2 m)
 
-  pub text-none : (n m k : ℕ) → Reads s f (fieldWith 8 (fieldsOf s at e)) → n ≡ length (headOf (entryOf (fieldsOf s at e))) → m ≡ lenOf f
-      → k ≡ besideLen n 2 m → k ≡ 0 → 0 ≡ length (sourceTextOf (entryOf (fieldsOf s at e)))
+  pub text-none : (n m k : ℕ) → Reads s f (fieldWith 8 (fieldsOf s at e)) → n ≡ length (headOf (entryFrom s at e)) → m ≡ lenOf f
+      → k ≡ besideLen n 2 m → k ≡ 0 → 0 ≡ length (sourceTextOf (entryFrom s at e))
   unfolding sourceTextOf
   text-none n m k r p q g z =
       let b = body-long n m k r p q g in
-      rw (ended-none (bodyOf (entryOf (fieldsOf s at e))) (sym b ∙ z)) (sym z ∙ b)
+      rw (ended-none (bodyOf (entryFrom s at e)) (sym b ∙ z)) (sym z ∙ b)
 
-  pub text-some : (n m : ℕ) {k : ℕ} → Reads s f (fieldWith 8 (fieldsOf s at e)) → n ≡ length (headOf (entryOf (fieldsOf s at e))) → m ≡ lenOf f
-      → k ≡ besideLen n 2 m → (k ≡ 0 → ⊥) → k + 1 ≡ length (sourceTextOf (entryOf (fieldsOf s at e)))
+  pub text-some : (n m : ℕ) {k : ℕ} → Reads s f (fieldWith 8 (fieldsOf s at e)) → n ≡ length (headOf (entryFrom s at e)) → m ≡ lenOf f
+      → k ≡ besideLen n 2 m → (k ≡ 0 → ⊥) → k + 1 ≡ length (sourceTextOf (entryFrom s at e))
   unfolding sourceTextOf
   text-some n m {k} r p q g z =
       let b = body-long n m k r p q g in
-      rw (ended-some (bodyOf (entryOf (fieldsOf s at e))) (λ y. z (b ∙ y)), length-append) (omega arith)
+      rw (ended-some (bodyOf (entryFrom s at e)) (λ y. z (b ∙ y)), length-append) (omega arith)
 
 pub ruleset text-len-laws = (body-sum, text-one, text-none, text-some)

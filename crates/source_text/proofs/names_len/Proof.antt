@@ -7,7 +7,7 @@ use mathlib.Core.Path.{_≡_}
 use lib.ListN.{length}
 use Rattle.base.specs.Fold.{fold}
 use Rattle.pool.specs.Fields.{fieldsOf}
-use Rattle.pool.specs.Entries.{entryOf, namesIn}
+use Rattle.pool.specs.Entries.{namesIn, entryFrom}
 use Rattle.pool.specs.Places.{FieldsIn}
 use Rattle.source_text.specs.Text.{namesOf}
 use Rattle.source_text.specs.Lengths.{addLen}
@@ -16,7 +16,7 @@ use Rattle.source_text.proofs.names_len.Tie as tie
 
 abbrev Inv-loop : tie.InvT-loop
 Inv-loop pool at e n₀ i₀ n i =
-    FieldsIn pool i e × (i ≤ e) × (length pool ≤ 32768) × (n ≤ 65540 * i) × (length (namesOf (entryOf (fieldsOf pool at e))) ≡ fold addLen n (namesIn (fieldsOf pool i e)))
+    FieldsIn pool i e × (i ≤ e) × (length pool ≤ 32768) × (n ≤ 65540 * i) × (length (namesOf (entryFrom pool at e)) ≡ fold addLen n (namesIn (fieldsOf pool i e)))
 
 abbrev μ-loop : tie.MeasureT-loop
 μ-loop pool at e n₀ i₀ n i = e - i
