@@ -25,7 +25,7 @@ use Rattle.preparation.specs.Refusal.{annotateRefusal}
 use Rattle.annotation.proofs.Truth.{annotate-true}
 use Rattle.line_writers.specs.declared.Told.{Told}
 use Rattle.line_writers.specs.Lines.{countLine, listed}
-use Rattle.annotation.proofs.ByRecords.{placed-length}
+use Rattle.standing.proofs.Swept.{placed-length}
 use Rattle.listing_lines.specs.Listing.{listingAreas, listingAnswer, listingOf}
 use Rattle.line_writers.specs.Writes.{Put, Room, answerBy}
 use Rattle.listing_lines.specs.Ready.{zeroes, Ready, Listed}
@@ -74,7 +74,7 @@ module _ (text index items groups references labels out : List ℕ) (z : Ready t
 pub content-groups : (text : List ℕ) (mode : ℕ) (all : List Group) (pool : List ℕ) → length (contentOf text mode all pool .groups) ≡ 5 * length all
 unfolding contentOf placedOf
 content-groups text mode all pool =
-    group-rows-length 0 (placedFrom text all pool false 0 all) ∙ ap (λ (n : ℕ). 5 * n) (placed-length text all pool false 0 all)
+    group-rows-length 0 (placedFrom text all pool false 0 all) ∙ ap (λ (n : ℕ). 5 * n) (placed-length _ text false 0 all)
 
 room-groups : (content given : Areas) → roomFor content given ≡ true → length (content .groups) ≤ length (given .groups)
 unfolding roomFor
