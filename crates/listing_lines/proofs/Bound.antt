@@ -31,7 +31,7 @@ use Rattle.preparation.specs.Refusal.{annotateRefusal}
 use Rattle.annotation.specs.Steps.{Fits}
 use Rattle.annotation.proofs.Found.{swept-fits}
 use Rattle.annotation.proofs.Passes.{tally-agrees}
-use Rattle.line_writers.specs.Lines.{itemLine, itemLines, groupLines, countLine, refusedLine, listed}
+use Rattle.line_writers.specs.Lines.{groupPart, itemPart, itemLine, itemLines, linesOf, groupLines, countLine, refusedLine, listed}
 use Rattle.listing_lines.specs.Listing.{listingAreas, listingAnswer, listingOf}
 use Rattle.listing_lines.proofs.KeyBytes.{keyWeight, sweep-keys}
 
@@ -46,7 +46,7 @@ part-short s a n = go (leb a (a + n) && leb (a + n) (length s))
     go false = omega arith
 
 line-short : (text group item : List ℕ) → length (itemLine text group item) ≤ 106 + getD item 3 0
-unfolding itemLine ascii
+unfolding itemLine groupPart itemPart ascii
 line-short text group item =
     let p = part-short text (getD item 2 0) (getD item 3 0) in
     let a = decimal-short (getD group 0 0) in
@@ -90,7 +90,7 @@ lines-short (suc k) text group items n =
 
 groups-short : (ps : List Placed) (text : List ℕ) (n : ℕ) (rest items : List ℕ)
     → length (groupLines (length ps) text (groupRows n ps ++ rest) items) ≤ 106 * itemCount (groupsOf ps) + keySum items n (itemCount (groupsOf ps))
-unfolding groupLines groupRows groupRow itemCount
+unfolding groupLines linesOf groupRows groupRow itemCount
 groups-short [] text n rest items = omega arith
 groups-short (p ∷ ps) text n rest items =
     let k : ℕ = length (p .group .items) in
