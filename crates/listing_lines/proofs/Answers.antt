@@ -28,7 +28,7 @@ use Rattle.line_writers.specs.Lines.{countLine, listed}
 use Rattle.standing.proofs.Swept.{placed-length}
 use Rattle.listing_lines.specs.Listing.{listingAreas, listingAnswer, listingOf}
 use Rattle.line_writers.specs.Writes.{Put, Room, answerBy}
-use Rattle.listing_lines.specs.Ready.{zeroes, Ready, Listed}
+use Rattle.listing_lines.specs.Ready.{Ready, Listed}
 
 -- the numbers of an answer, in the arms of a `match` on it
 module _ {a : Annotation} where
@@ -62,7 +62,7 @@ module _ (text index items groups references labels out : List ℕ) (z : Ready t
   ran = annotateRun text 0 [] 0 index (replicate 65535 blank) (areas items groups references labels)
 
   answer-is : ran .answer ≡ listingAnswer text
-  unfolding listingAnswer listingAreas zeroes
+  unfolding listingAnswer listingAreas
   answer-is =
       let l : length index ≡ length text = ap length (z .index-area) ∙ length-replicate (length text) 0 in
       let m : length (replicate 65535 blank) ≡ 65535 = length-replicate 65535 blank in
