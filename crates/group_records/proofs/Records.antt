@@ -33,7 +33,7 @@ module _ (text : List ℕ) (at close n : ℕ) (items : List ℕ) (h : ItemsRoom 
 
   pub items-good : goodItems text at close ≡ true
   unfolding groupAccepted
-  items-good = and-right (not (barred text close)) _ (h .good)
+  items-good = and-right (not (barred text close)) _ (h .stands .good)
 
   pub items-rest : rowsLength (groupOf text at close) ≤ length (take (length items - 16 * n) (drop (16 * n) items))
   unfolding rowsLength groupOf
