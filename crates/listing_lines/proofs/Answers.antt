@@ -7,6 +7,7 @@ use mathlib.Core.Bool.{Bool, true, false, _&&_}
 use lib.ListN.{length, take, replicate, length-replicate}
 use lib.Dec.{eqb, leb}
 use borrow.Author.Tests.{leb-true, le-ltb}
+use Rattle.base.specs.Lists.{Wrote}
 use Rattle.base.specs.Pick.{pick}
 use Rattle.index.specs.Built.{blank}
 use Rattle.base.proofs.Bools.{and-left, and-right}
@@ -28,7 +29,7 @@ use Rattle.line_writers.specs.Lines.{countLine, listed}
 use Rattle.standing.proofs.Swept.{placed-length}
 use Rattle.listing_lines.specs.Listing.{listingAreas, listingAnswer, listingOf}
 use Rattle.line_writers.specs.Writes.{Put, Room, answerBy}
-use Rattle.listing_lines.specs.Ready.{Ready, Listed}
+use Rattle.listing_lines.specs.Ready.{Ready}
 
 -- the numbers of an answer, in the arms of a `match` on it
 module _ {a : Annotation} where
@@ -157,7 +158,7 @@ module _ (text index items groups references labels out : List ℕ) (z : Ready t
   pub in-room : Room 0 (listed text (answerBy c items′ groups′)) out
   in-room = rw gives (omega (arith, z .room))
 
-  pub in-listed : {out′ : List ℕ} {r : ℕ} → Put 0 (listed text (answerBy c items′ groups′)) out out′ r → Listed text out out′ r
+  pub in-listed : {out′ : List ℕ} {r : ℕ} → Put 0 (listed text (answerBy c items′ groups′)) out out′ r → Wrote (listingOf text) out out′ r
   in-listed {out′} {r} p = record {
     count = let e = ap length gives in omega (arith, p .end);
     area = p .area ∙ rw gives (written-front (listingOf text) out);

@@ -6,7 +6,7 @@ use mathlib.Core.List.{List, [], _∷_, _++_, append-assoc}
 use lib.ListN.{length, take, replicate, length-append, length-replicate, replicate-append-replicate}
 use lib.Seq.{take-at, length-take-le}
 use borrow.Author.Tests.{lt-ltb}
-use Rattle.base.specs.Lists.{written}
+use Rattle.base.specs.Lists.{written, Wrote}
 use Rattle.base.specs.Ascii.{ascii}
 use Rattle.decimal.specs.Decimal.{decimal}
 use Rattle.decimal.proofs.Laws.{decimal-short}
@@ -16,12 +16,12 @@ use Rattle.base.proofs.Areas.{written-length}
 use Rattle.line_writers.specs.Lines.{refusedLine}
 use Rattle.listing_lines.specs.Listing.{listingOf}
 use Rattle.line_writers.specs.Writes.{Put, Room}
-use Rattle.listing_lines.specs.Ready.{Ready, Listed, Counts}
+use Rattle.listing_lines.specs.Ready.{Ready, Counts}
 use Rattle.line_writers.proofs.Lines.{field, refused-word}
 use Rattle.listing_lines.proofs.Bound.{listing-short}
 
 -- what `list` promises of an answer
-pub said : (text before : List ℕ) {after : List ℕ} {r : ℕ} → 150000 ≤ length before → Listed text before after r
+pub said : (text before : List ℕ) {after : List ℕ} {r : ℕ} → 150000 ≤ length before → Wrote (listingOf text) before after r
     → (r ≡ length (listingOf text)) × (after ≡ written (listingOf text) before) × Counts r after
 said text before {after} {r} h l =
     let e = l .count in
@@ -51,7 +51,7 @@ module _ (text out : List ℕ) where
   unfolding listingOf refusedLine ascii
   long-is h = rw (lt-ltb 4096 (length text) h) (simp append-assoc refl)
 
-  pub long-listed : {out′ : List ℕ} {r : ℕ} → 4096 < length text → Put 0 (refused-word ++ field 1 10) out out′ r → Listed text out out′ r
+  pub long-listed : {out′ : List ℕ} {r : ℕ} → 4096 < length text → Put 0 (refused-word ++ field 1 10) out out′ r → Wrote (listingOf text) out out′ r
   long-listed h p = record {
     count = let e = p .end in let s = ap length (long-is h) in omega arith;
     area = p .area ∙ ap (λ (w : List ℕ). writtenAt 0 w out) (sym (long-is h)) ∙ written-front (listingOf text) out;

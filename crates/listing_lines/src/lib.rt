@@ -5,10 +5,10 @@ use line_writers::Told;
 ghost use mathlib.Core.Path.{_≡_};
 ghost use mathlib.Core.List.{[], _∷_};
 ghost use lib.ListN.{length, take, replicate};
-ghost use Rattle.base.specs.Lists.{written};
+ghost use Rattle.base.specs.Lists.{written, Wrote};
 ghost use Rattle.annotation_answer.specs.Values.{annotationValues};
 ghost use Rattle.listing_lines.specs.Listing.{listingOf, TextRefusalsOnly};
-ghost use Rattle.listing_lines.specs.Ready.{Ready, Listed, Counts};
+ghost use Rattle.listing_lines.specs.Ready.{Ready, Counts};
 
 // The numbers of an answer.
 fn told_by(answer: Annotation) -> Told
@@ -47,7 +47,7 @@ fn list_in(
     out: &mut [u8],
 ) -> usize
     requires { ⌜ Ready (now text) (now index) (now items) (now groups) (now references) (now labels) (now out) ⌝ }
-    ensures { λ r. ⌜ Listed (now (text .entry)) (now (out .entry)) (now (out .exit)) r ⌝ }
+    ensures { λ r. ⌜ Wrote (listingOf (now (text .entry))) (now (out .entry)) (now (out .exit)) r ⌝ }
 {
     let no_pool = &text[..0];
     let answer = local_records::annotate(
