@@ -17,7 +17,7 @@ use Rattle.sweep.specs.Sweep.{Lent, lentOf, lentAfter, sweepRun}
 use Rattle.standing.specs.Rows.{groupRows, itemCount, itemRows, sweptFrom}
 use Rattle.sweep.specs.Stops.{startState, SweptTo}
 use Rattle.group_records.specs.Recording.{Recorded}
-use Rattle.standing.proofs.Swept.{swept-length}
+use Rattle.standing.proofs.Swept.{placed-length}
 use Rattle.sweep.proofs.Laws.{item-rows-length, group-rows-length, all-groups-count, all-items-count, all-fitted, all-item-rows, all-group-rows, swept-whole, swept-lent}
 use Rattle.numbering.specs.Numbers.{Numbered, numberAll}
 use Rattle.numbering.specs.Progress.{Unnumbered}
@@ -155,7 +155,7 @@ module _ {text : List ℕ} {mode : ℕ} {pool : List ℕ} {note : ℕ} {index₀
           ap (λ (x : Numbered). x .groups) then-known
           ∙ (agrees .groups
           ∙ ap (λ (n : ℕ). content .groups ++ drop n groups₀)
-          (group-rows-length 0 (sweptFrom text false 0 all) ∙ (ap (λ (n : ℕ). 5 * n) (swept-length text false 0 all) ∙ sym (agrees .group-count))))
+          (group-rows-length 0 (sweptFrom text false 0 all) ∙ (ap (λ (n : ℕ). 5 * n) (placed-length _ text false 0 all) ∙ sym (agrees .group-count))))
 
       -- there are no more sources than a number of 16 bits holds
       pub sources-short : made .sources ≤ 65535

@@ -1,8 +1,8 @@
 -- THEOREMS `ReferencesAgree` and `ContentAgrees`: the references by the records, and the whole content.
-use Prim.Native.Nat.{ℕ, suc, _+_, _-_, _*_, _≤_, _<_}
+use Prim.Native.Nat.{ℕ, _+_, _-_, _*_, _≤_, _<_}
 use native.Mathlib.Omega.{arith}
-use mathlib.Core.Path.{_≡_, refl, sym, _∙_, ap}
-use mathlib.Core.List.{List, [], _∷_, map}
+use mathlib.Core.Path.{_≡_, sym, _∙_, ap}
+use mathlib.Core.List.{List, [], map}
 use mathlib.Core.Logic.{inl, inr}
 use mathlib.Core.Bool.{Bool, false}
 use lib.ListN.{length, getD}
@@ -14,9 +14,9 @@ use Rattle.base.proofs.Bools.{and-left, and-right}
 use Rattle.base.proofs.Sames.{same-true}
 use Rattle.item.specs.Group.{Group}
 use Rattle.pool.specs.Layout.{hasPool}
-use Rattle.definition_line.specs.Lines.{inLine, groupEnd}
 use Rattle.definition.specs.Defs.{defOf}
 use Rattle.standing.specs.Rows.{groupWidth, itemCount}
+use Rattle.standing.proofs.Swept.{placed-length}
 use Rattle.defined.specs.Definitions.{definitionIn}
 use Rattle.records.specs.Records.{itemField, keyIn}
 use Rattle.numbering.specs.Numbers.{Numbered}
@@ -123,12 +123,6 @@ references-agree text mode all pool restItems restGroups f =
 
 -- how many records there are -----------------------------------------------------------------------------------------------------------
 
-pub placed-length : (text : List ℕ) (all : List Group) (pool : List ℕ) (before : Bool) (from : ℕ) (gs : List Group)
-    → length (placedFrom text all pool before from gs) ≡ length gs
-unfolding placedFrom
-placed-length text all pool before from [] = refl
-placed-length text all pool before from (g ∷ gs) = ap suc (placed-length text all pool (inLine text before from g) (groupEnd g) gs)
-
 pub references-length : (text : List ℕ) (mode : ℕ) (groups : List Group) (pool : List ℕ) (ss : List Source)
     → length (referencesOf text mode groups pool ss) ≡ length ss
 unfolding referencesOf
@@ -142,7 +136,7 @@ content-agrees text mode all pool restItems restGroups f = record {
   labels = n .labels;
   references = references-agree text mode all pool restItems restGroups f;
   item-count = tally-agrees text mode all pool restItems restGroups f .count;
-  group-count = group-rows-length 0 (placedFrom text all pool false 0 all) ∙ ap (λ (m : ℕ). groupWidth * m) (placed-length text all pool false 0 all);
+  group-count = group-rows-length 0 (placedFrom text all pool false 0 all) ∙ ap (λ (m : ℕ). groupWidth * m) (placed-length _ text false 0 all);
   source-count = references-length text mode all pool (tallyOf text mode all pool .sources) ∙ sym (n .sources);
 }
   where

@@ -2,7 +2,7 @@
 use Prim.Native.Nat.{ℕ, zero, suc, _+_, _-_, _≤_, _<_}
 use native.Mathlib.Omega.{arith}
 use mathlib.Core.Path.{_≡_, refl, sym, subst}
-use mathlib.Core.List.{List, [], _∷_, map}
+use mathlib.Core.List.{List, [], _∷_, map, flatMap}
 use mathlib.Core.Bool.{Bool, true, false}
 use lib.ListN.{length, getD}
 use lib.Dec.{eqb}
@@ -16,6 +16,7 @@ use Rattle.item.specs.Group.{Group}
 use Rattle.definition_line.specs.Lines.{keyOf, inLine, groupEnd}
 use Rattle.definition.specs.Defs.{defOf, isDefined}
 use Rattle.annotation.specs.Sources.{Source, source, sourceKey, used}
+use Rattle.standing.specs.Rows.{placedBy}
 use Rattle.annotation.specs.Content.{allDefined, standingOf, placedFrom, placedOf, tallyOf}
 use Rattle.annotation.specs.Facts.{numberedKeys}
 use Rattle.annotation.proofs.Numbers.{step, tally-uses}
@@ -64,7 +65,7 @@ module _ (text : List ℕ) (all : List Group) (pool : List ℕ) where
   group-defined false false is h = tt
 
   keys-defined : (before : Bool) (from : ℕ) (gs : List Group) → Each Defined (numberedKeys text (placedFrom text all pool before from gs))
-  unfolding numberedKeys placedFrom
+  unfolding flatMap placedBy
   keys-defined before from [] = tt
   keys-defined before from (g ∷ gs) =
       each-append Defined (pick (eqb (standingOf (inLine text before from g) (allDefined text all pool (g .items))) 2) (map (keyOf text) (g .items)) [])

@@ -3,7 +3,7 @@ use Prim.Native.Nat.{ℕ, zero, suc, _+_, _*_, _≤_, _<_}
 use native.Mathlib.Omega.{arith}
 use native.Mathlib.Numerals.{add-one}
 use mathlib.Core.Path.{_≡_, refl, sym, _∙_, ap, subst}
-use mathlib.Core.List.{List, [], _∷_, _++_, append-assoc}
+use mathlib.Core.List.{List, [], _∷_, _++_, flatMap, append-assoc}
 use mathlib.Core.Bool.{Bool, true, false, _&&_, not, true≢false}
 use lib.ListN.{length, getD, set, length-append}
 use lib.Dec.{eqb}
@@ -18,13 +18,14 @@ use Rattle.rows.specs.Rows.{itemWidth, recordOf, rowOf, rowsIn, rowsOf}
 use Rattle.pool.specs.Layout.{hasPool}
 use Rattle.definition_line.specs.Lines.{inLine, groupEnd, keyOf}
 use Rattle.definition.specs.Defs.{defOf, isDefined}
-use Rattle.standing.specs.Rows.{Placed, placed, groupWidth, groupRow, groupRows, sweptFrom, itemRows, itemCount}
+use Rattle.standing.specs.Rows.{Placed, placed, groupWidth, groupRow, groupRows, placedBy, sweptFrom, itemRows, itemCount}
+use Rattle.standing.proofs.Swept.{placed-groups}
 use Rattle.defined.specs.Definitions.{definitionIn}
 use Rattle.records.specs.Records.{itemField, groupField, keyIn, suppressedIn}
 use Rattle.numbering.specs.Numbers.{Numbered, start, labelIn, citeAs, citeIn, citeFrom, keyDefined, keysDefined, standsNumbered, isNumbered, numberGroup, numberFrom, numberAll}
 use Rattle.uses.specs.Uses.{numberIn, useIn, sourcesIn}
 use Rattle.uses.proofs.Fields.{item-field, set-last, set-standing, SameItems, SameGroups, set-last-same, set-standing-same, set-last-other}
-use Rattle.numbering.proofs.ByLines.{key-same, definition-same, key-at, suppressed-at, regroup, Closes, LieAt, group-first, group-items, group-standing, swept-groups, definition-swept}
+use Rattle.numbering.proofs.ByLines.{key-same, definition-same, key-at, suppressed-at, regroup, Closes, LieAt, group-first, group-items, group-standing, definition-swept}
 use Rattle.annotation.specs.Sources.{numberOf, useOf, used}
 use Rattle.annotation.specs.Content.{Tally, tally, allDefined, standingOf, placedFrom, placedOf, labelFor, cited, numbered, unnumbered, addItem, addGroup, tallyOf}
 use Rattle.annotation.specs.Steps.{Fits, sweptItems, sweptGroups, numberedFrom, DefinitionsAgree, NumbersAgree}
@@ -152,7 +153,7 @@ module _ (text : List ℕ) (mode : ℕ) (pool : List ℕ) (n : ℕ) (all : List 
   cites-agree : (p : Placed) (is : List Item) (t : Tally) (s : Numbered) (k : ℕ) (rest : List ℕ) → eqb (p .standing) 2 ≡ true
       → k + length is ≤ 65535 → Ag t s k (rowsIn (p .group .integral) is ++ rest)
       → Ag (fold (addItem text mode all pool p) t is) (citeFrom text mode pool n (length is) s k) (k + length is) rest
-  unfolding fold citeFrom rowsIn
+  unfolding fold citeFrom flatMap
   cites-agree p [] t s k rest q l a = let e : k ≡ k + 0 = omega arith in subst (λ (m : ℕ). Ag t s m rest) e a
   cites-agree p (i ∷ is) t s k rest q l a =
       let e : k + 1 + length is ≡ k + suc (length is) = omega arith in
@@ -168,7 +169,7 @@ module _ (text : List ℕ) (mode : ℕ) (pool : List ℕ) (n : ℕ) (all : List 
   passes-agree : (p : Placed) (is : List Item) (t : Tally) (s : Numbered) (k : ℕ) (rest : List ℕ) → eqb (p .standing) 2 ≡ false
       → Ag t s k (rowsIn (p .group .integral) is ++ rest)
       → Ag (fold (addItem text mode all pool p) t is) s (k + length is) rest
-  unfolding fold rowsIn
+  unfolding fold flatMap
   passes-agree p [] t s k rest q a = let e : k ≡ k + 0 = omega arith in subst (λ (m : ℕ). Ag t s m rest) e a
   passes-agree p (i ∷ is) t s k rest q a =
       let e : k + 1 + length is ≡ k + suc (length is) = omega arith in
@@ -191,7 +192,7 @@ module _ (text : List ℕ) (mode : ℕ) (pool : List ℕ) (n : ℕ) (all : List 
   defined-agrees : (integral : Bool) (is : List Item) (before rest : List ℕ) (s : Numbered) (k : ℕ) → length before ≡ itemWidth * k
       → s .items ≡ before ++ (rowsIn integral is ++ rest) → SameItems (s .items) items₀ → SameGroups (s .groups) groups₀
       → keysDefined text pool (s .groups) (s .items) n (length is) k ≡ allDefined text all pool is
-  unfolding keysDefined keyDefined allDefined rowsIn rowOf recordOf
+  unfolding keysDefined keyDefined allDefined flatMap rowOf recordOf
   defined-agrees integral [] before rest s k h e si sg = refl
   defined-agrees integral (i ∷ is) before rest s k h e si sg =
       rw (its, defined-as s si sg (keyOf text i))
@@ -225,25 +226,25 @@ module _ (text : List ℕ) (mode : ℕ) (pool : List ℕ) (n : ℕ) (all : List 
 
     -- its record and its items, as the sweep left them
     group-is : s .groups ≡ done ++ (groupRow k (placed x (pick inside 0 1)) ++ (more ++ restGroups))
-    unfolding inside more groupRows sweptFrom
+    unfolding inside more groupRows placedBy
     group-is = a .groups ∙ ap (λ (l : List ℕ). done ++ l) (append-assoc (groupRow k (placed x (pick inside 0 1))) more restGroups)
 
     items-are : itemRows (x ∷ gs) ++ restItems ≡ rowsIn (x .integral) (x .items) ++ (itemRows gs ++ restItems)
-    unfolding itemRows rowsOf
+    unfolding flatMap rowsOf
     items-are = append-assoc (rowsIn (x .integral) (x .items)) (itemRows gs) restItems
 
     here : Ag t s k (rowsIn (x .integral) (x .items) ++ (itemRows gs ++ restItems))
     here = subst (λ (l : List ℕ). Ag t s k l) items-are (a .agrees)
 
     lies : LieAt (s .groups) (s .items) g k (placed x (pick inside 0 1) ∷ sweptFrom text inside (groupEnd x) gs) done restGroups (t .rows) restItems
-    unfolding inside sweptFrom
+    unfolding inside placedBy
     lies = record {
       gcount = a .count;
       icount = a .agrees .count;
       gis = a .groups;
       iis =
           a .agrees .items
-          ∙ ap (λ (hs : List Group). t .rows ++ (itemRows hs ++ restItems)) (sym (swept-groups text before from (x ∷ gs)));
+          ∙ ap (λ (hs : List Group). t .rows ++ (itemRows hs ++ restItems)) (sym (placed-groups _ text before from (x ∷ gs)));
     }
 
     field-first : groupField (s .groups) g 2 ≡ k
@@ -355,7 +356,7 @@ module _ (text : List ℕ) (mode : ℕ) (pool : List ℕ) (n : ℕ) (all : List 
       → Stands restItems restGroups t s g k done before from gs → k + itemCount gs ≤ 65535
       → Ended restItems restGroups (fold (addGroup text mode all pool) t (placedFrom text all pool before from gs))
       (numberFrom text mode pool n (length gs) s g) k done (k + itemCount gs) (placedFrom text all pool before from gs)
-  unfolding fold placedFrom numberFrom itemCount itemRows groupRows sweptFrom its-place inside defined
+  unfolding fold numberFrom itemCount flatMap groupRows placedBy its-place inside defined
   groups-agree restItems restGroups t s g k done before from [] a l = record {
     agrees = let e : k ≡ k + 0 = omega arith in subst (λ (m : ℕ). Ag t s m restItems) e (a .agrees);
     groups = a .groups;

@@ -1,16 +1,14 @@
 -- THEOREMS `RecordsUsed` and `SourcesUsed`: the uses in the item records, of the sources, and the final ones.
 use Prim.Native.Nat.{ℕ, _+_, _*_, _<_}
 use native.Mathlib.Omega.{arith}
-use mathlib.Core.Path.{_≡_, refl, sym, _∙_, ap, subst}
-use mathlib.Core.List.{List, [], _∷_, _++_, map, append-nil, append-assoc}
+use mathlib.Core.Path.{_≡_, refl, sym, _∙_, ap}
+use mathlib.Core.List.{List, [], _∷_, _++_, append-nil, append-assoc}
 use mathlib.Core.Bool.{Bool, true, false}
 use mathlib.Core.Option.{Option, none, some}
-use lib.ListN.{length, getD, take, length-append, length-map, List·getD-append}
-use lib.Seq.{getD-append-add, getD-at, take-append-le, take-at}
-use lib.Dec.{eqb, ltb}
-use borrow.Author.Tests.{ltb-true, ltb-false}
+use lib.ListN.{length, getD, take, length-append, List·getD-append}
+use lib.Seq.{getD-at, take-append-le, take-at}
+use lib.Dec.{eqb}
 use Rattle.base.specs.Pick.{pick}
-use Rattle.base.specs.Fold.{fold}
 use Rattle.base.specs.Lists.{same}
 use Rattle.base.specs.Sorted.{Each, Sorted}
 use Rattle.base.specs.Spans.{span}
@@ -18,15 +16,18 @@ use Rattle.item.specs.declared.Item.{Item}
 use Rattle.item.specs.Group.{Group}
 use Rattle.rows.specs.Rows.{itemWidth, recordOf, rowOf}
 use Rattle.pool.specs.Layout.{hasPool}
-use Rattle.definition_line.specs.Lines.{inLine, groupEnd, keyOf}
-use Rattle.standing.specs.Rows.{Placed, placed, itemCount}
+use Rattle.definition_line.specs.Lines.{keyOf}
+use Rattle.standing.specs.Rows.{Placed}
 use Rattle.records.specs.Records.{itemField}
 use Rattle.annotation.specs.Sources.{Source, numberOf, usesOf, useOf, used}
-use Rattle.annotation.specs.Content.{Tally, tally, allDefined, standingOf, placedFrom, labelFor, cited, numbered, unnumbered, addItem, addGroup, tallyOf, placedOf}
+use Rattle.annotation.specs.Content.{Tally, labelFor, cited, numbered, unnumbered, addItem, tallyOf, placedOf}
 use Rattle.annotation.specs.Facts.{KeysDiffer, itemKeys, usesIn, useAfter, RecordsUsed, SourcesUsed, finalUse}
 use Rattle.base.proofs.Sames.{same-refl, same-true}
 use Rattle.annotation.proofs.Places.{uses-used, uses-other}
 use Rattle.annotation.proofs.Numbers.{sources-differ}
+use Rattle.annotation.proofs.Each.{cell-front, count-more, by-place, each-length, tally-each}
+use Rattle.standing.proofs.Swept.{placed-groups}
+use Rattle.uses.proofs.Fields.{item-field}
 
 -- one more item
 uses-none-more : (x : List ℕ) (is : List (Option (List ℕ))) → usesIn x (is ++ (none ∷ [])) ≡ usesIn x is
@@ -44,39 +45,24 @@ uses-some-more x key (some k ∷ is) = omega (arith, uses-some-more x key is)
 -- the records, the sources and the items so far
 record UsedSo (pooled : Bool) (t : Tally) (is : List (Option (List ℕ))) : Type 0 where
   count : length (t .rows) ≡ itemWidth * length is
-  cells : (k : ℕ) → k < length is → getD (t .rows) (itemWidth * k + 13) 0 ≡ useAfter pooled (take k is) (getD is k none)
+  cells : (k : ℕ) → k < length is → itemField (t .rows) k 13 ≡ useAfter pooled (take k is) (getD is k none)
   uses : (x : List ℕ) → usesOf x (t .sources) ≡ usesIn x is
 
 -- one more record, with the use of its item
 cells-on : (pooled : Bool) (t : Tally) (is : List (Option (List ℕ))) (i : Option (List ℕ)) (row : List ℕ) → UsedSo pooled t is
     → getD row 13 0 ≡ useAfter pooled is i
     → (k : ℕ) → k < length (is ++ (i ∷ []))
-    → getD (t .rows ++ row) (itemWidth * k + 13) 0 ≡ useAfter pooled (take k (is ++ (i ∷ []))) (getD (is ++ (i ∷ [])) k none)
-cells-on pooled t is i row u e k h = go (ltb k (length is)) refl
-  where
-    go : (b : Bool) → ltb k (length is) ≡ b
-        → getD (t .rows ++ row) (itemWidth * k + 13) 0 ≡ useAfter pooled (take k (is ++ (i ∷ []))) (getD (is ++ (i ∷ [])) k none)
-    go true q =
-        let b = ltb-true k (length is) q in
-        rw (take-append-le k is (i ∷ []) (omega arith), List·getD-append is (i ∷ []) none k b)
-        (List·getD-append (t .rows) row 0 (itemWidth * k + 13) (omega (arith, u .count)) ∙ u .cells k b)
-    go false q =
-        let a : length is ≡ k = omega (arith, ltb-false k (length is) q, length-append is (i ∷ []), h) in
-        let b : length (t .rows) + 13 ≡ itemWidth * k + 13 = omega (arith, u .count, a) in
-        rw (take-at is (i ∷ []) k a, getD-at is i [] none k a)
-        (ap (λ (m : ℕ). getD (t .rows ++ row) m 0) (sym b) ∙ getD-append-add (t .rows) row 13 0 ∙ e)
-
-count-on : (t : Tally) (is : List (Option (List ℕ))) (i : Option (List ℕ)) (row : List ℕ) → length (t .rows) ≡ itemWidth * length is
-    → length row ≡ itemWidth → length (t .rows ++ row) ≡ itemWidth * length (is ++ (i ∷ []))
-count-on t is i row h l = omega (arith, length-append (t .rows) row, length-append is (i ∷ []))
-
--- an item of a group
-abbrev its : List ℕ → Placed → Item → Option (List ℕ)
-its text p i = pick (eqb (p .standing) 2) (some (keyOf text i)) none
+    → itemField (t .rows ++ row) k 13 ≡ useAfter pooled (take k (is ++ (i ∷ []))) (getD (is ++ (i ∷ [])) k none)
+cells-on pooled t is i row u e =
+    by-place (λ k. itemField (t .rows ++ row) k 13 ≡ useAfter pooled (take k (is ++ (i ∷ []))) (getD (is ++ (i ∷ [])) k none)) is i
+    (λ k l. rw (take-append-le k is (i ∷ []) (omega arith), List·getD-append is (i ∷ []) none k l)
+    (cell-front (t .rows) row (length is) k 13 (u .count) l (omega arith) ∙ u .cells k l))
+    (rw (take-at is (i ∷ []) (length is) refl, getD-at is i [] none (length is) refl)
+    (item-field (t .rows) row (length is) 13 (u .count) ∙ e))
 
 module _ (text : List ℕ) (mode : ℕ) (all : List Group) (pool : List ℕ) where
   item-used : (p : Placed) (t : Tally) (i : Item) (is : List (Option (List ℕ))) → UsedSo (hasPool pool) t is
-      → UsedSo (hasPool pool) (addItem text mode all pool p t i) (is ++ (its text p i ∷ []))
+      → UsedSo (hasPool pool) (addItem text mode all pool p t i) (is ++ (pick (eqb (p .standing) 2) (some (keyOf text i)) none ∷ []))
   unfolding addItem numbered unnumbered cited rowOf recordOf useAfter useOf
   item-used p t i is u = go (eqb (p .standing) 2)
     where
@@ -95,56 +81,27 @@ module _ (text : List ℕ) (mode : ℕ) (all : List Group) (pool : List ℕ) whe
           → UsedSo (hasPool pool) (pick b (numbered text mode all pool (p .group .integral) t i) (unnumbered (p .group .integral) t i))
           (is ++ (pick b (some (keyOf text i)) none ∷ []))
       go true = record {
-        count = count-on t is (some (keyOf text i)) row (u .count) refl;
+        count = count-more (t .rows) row is (some (keyOf text i)) (u .count) refl;
         cells = cells-on (hasPool pool) t is (some (keyOf text i)) row u (ap (λ (n : ℕ). pick (hasPool pool) (n + 1) 0) (u .uses (keyOf text i)));
         uses = λ x. more x (same (keyOf text i) x) refl ∙ sym (uses-some-more x (keyOf text i) is);
       }
       go false = record {
-        count = count-on t is none (rowOf (p .group .integral) i) (u .count) refl;
+        count = count-more (t .rows) (rowOf (p .group .integral) i) is none (u .count) refl;
         cells = cells-on (hasPool pool) t is none (rowOf (p .group .integral) i) u refl;
         uses = λ x. u .uses x ∙ sym (uses-none-more x is);
       }
 
-  items-used : (p : Placed) (more : List Item) (t : Tally) (is : List (Option (List ℕ))) → UsedSo (hasPool pool) t is
-      → UsedSo (hasPool pool) (fold (addItem text mode all pool p) t more) (is ++ map (its text p) more)
-  unfolding fold
-  items-used p [] t is u = subst (λ (l : List (Option (List ℕ))). UsedSo (hasPool pool) t l) (sym (append-nil is)) u
-  items-used p (i ∷ more) t is u =
-      subst (λ (l : List (Option (List ℕ))). UsedSo (hasPool pool) (fold (addItem text mode all pool p) (addItem text mode all pool p t i) more) l)
-      (append-assoc is (its text p i ∷ []) (map (its text p) more))
-      (items-used p more (addItem text mode all pool p t i) (is ++ (its text p i ∷ [])) (item-used p t i is u))
-
-  groups-used : (ps : List Placed) (t : Tally) (is : List (Option (List ℕ))) → UsedSo (hasPool pool) t is
-      → UsedSo (hasPool pool) (fold (addGroup text mode all pool) t ps) (is ++ itemKeys text ps)
-  unfolding fold addGroup itemKeys
-  groups-used [] t is u = subst (λ (l : List (Option (List ℕ))). UsedSo (hasPool pool) t l) (sym (append-nil is)) u
-  groups-used (p ∷ ps) t is u =
-      subst (λ (l : List (Option (List ℕ))). UsedSo (hasPool pool) (fold (addGroup text mode all pool) (addGroup text mode all pool t p) ps) l)
-      (append-assoc is (map (its text p) (p .group .items)) (itemKeys text ps))
-      (groups-used ps (addGroup text mode all pool t p) (is ++ map (its text p) (p .group .items)) (items-used p (p .group .items) t is u))
-
--- there is one for each item
-keys-length : (text : List ℕ) (all : List Group) (pool : List ℕ) (before : Bool) (from : ℕ) (gs : List Group)
-    → length (itemKeys text (placedFrom text all pool before from gs)) ≡ itemCount gs
-unfolding itemKeys placedFrom itemCount
-keys-length text all pool before from [] = refl
-keys-length text all pool before from (g ∷ gs) =
-    let inside = inLine text before from g in
-    let one = its text (placed g (standingOf inside (allDefined text all pool (g .items)))) in
-    let more = itemKeys text (placedFrom text all pool inside (groupEnd g) gs) in
-    omega (arith, length-append (map one (g .items)) more, length-map (g .items) one, keys-length text all pool inside (groupEnd g) gs)
-
-all-used : (text : List ℕ) (mode : ℕ) (all : List Group) (pool : List ℕ)
-    → UsedSo (hasPool pool) (tallyOf text mode all pool) (itemKeys text (placedOf text all pool))
-unfolding tallyOf usesOf usesIn
-all-used text mode all pool =
-    groups-used text mode all pool (placedOf text all pool) (tally [] [] []) []
-    (record { count = refl; cells = λ j l. absurd (omega arith); uses = λ x. refl })
+  all-used : UsedSo (hasPool pool) (tallyOf text mode all pool) (itemKeys text (placedOf text all pool))
+  unfolding usesOf usesIn
+  all-used =
+      tally-each text mode all pool _ _ (UsedSo (hasPool pool)) (λ p t i is ps xs e u. item-used p t i xs u) refl
+      (record { count = refl; cells = λ j l. absurd (omega arith); uses = λ x. refl })
 
 pub records-used : RecordsUsed
-unfolding placedOf itemField
+unfolding placedOf
 records-used text mode all pool k h =
-    all-used text mode all pool .cells k (omega (arith, keys-length text all pool false 0 all))
+    all-used text mode all pool .cells k
+    (rw (each-length (λ numbered (i : Item). pick numbered (some (keyOf text i)) none) (placedOf text all pool), placed-groups _ text false 0 all) h)
 
 -- of the sources -----------------------------------------------------------------------------------------------------------------------
 
@@ -201,7 +158,7 @@ module _ (rows key : List ℕ) (all : List (Option (List ℕ)))
 
 pub final-use : (text : List ℕ) (mode : ℕ) (all : List Group) (pool : List ℕ) → hasPool pool ≡ true → (key : List ℕ)
     → finalUse (tallyOf text mode all pool .rows) key 0 0 (itemKeys text (placedOf text all pool)) ≡ usesIn key (itemKeys text (placedOf text all pool))
-unfolding usesIn itemField
+unfolding usesIn
 final-use text mode all pool pooled key =
     let keys = itemKeys text (placedOf text all pool) in
     final-uses (tallyOf text mode all pool .rows) key keys

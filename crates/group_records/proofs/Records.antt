@@ -2,7 +2,7 @@
 use Prim.Native.Nat.{ℕ, _+_, _-_, _*_, _≤_}
 use native.Mathlib.Omega.{arith}
 use mathlib.Core.Path.{_≡_, refl, sym, _∙_, ap}
-use mathlib.Core.List.{List, [], _∷_, _++_, append-nil}
+use mathlib.Core.List.{List, [], _∷_, _++_, flatMap, append-nil}
 use mathlib.Core.Bool.{Bool, true, false, _&&_, not, true≢false}
 use lib.ListN.{length, take, drop, length-take, length-drop}
 use lib.Dec.{leb}
@@ -19,7 +19,7 @@ use Rattle.rows.specs.Rows.{rowsOf, rowsLength}
 use Rattle.rows.proofs.RowLaws.{rows-length}
 use Rattle.definition_line.specs.Lines.{inLine}
 use Rattle.group_records.specs.declared.SweepState.{SweepState}
-use Rattle.standing.specs.Rows.{groupRow, groupRows, itemCount, itemRows, sweptFrom, insideAfter, endAfter}
+use Rattle.standing.specs.Rows.{groupRow, groupRows, itemCount, itemRows, placedBy, sweptFrom, insideAfter, endAfter}
 use Rattle.group_records.specs.Areas.{writtenAt}
 use Rattle.group_records.specs.Recording.{recordsFit, Counted, ItemsRoom, Recordable, afterGroup, RecordedOne}
 use Rattle.standing.proofs.ItemSizes.{items-size}
@@ -33,7 +33,7 @@ module _ (text : List ℕ) (at close n : ℕ) (items : List ℕ) (h : ItemsRoom 
 
   pub items-good : goodItems text at close ≡ true
   unfolding groupAccepted
-  items-good = and-right (not (barred text close)) _ (h .good)
+  items-good = and-right (not (barred text close)) _ (h .stands .good)
 
   pub items-rest : rowsLength (groupOf text at close) ≤ length (take (length items - 16 * n) (drop (16 * n) items))
   unfolding rowsLength groupOf
@@ -100,7 +100,7 @@ pub ruleset room-laws = (items-few, items-word, first-few, count-few, items-room
 row-alone : (text : List ℕ) (n at close count : ℕ) (before : Bool) (from : ℕ) → count ≡ length (itemsOf text at close)
     → groupRows n (sweptFrom text before from (groupOf text at close ∷ []))
     ≡ at ∷ (close + 1 - at) ∷ n ∷ count ∷ pick (inLine text before from (groupOf text at close)) 0 1 ∷ []
-unfolding groupRows sweptFrom groupRow groupOf
+unfolding groupRows placedBy groupRow groupOf
 row-alone text n at close count before from e = rw (← e)
 
 module _ (text : List ℕ) (at close count : ℕ) (s : SweepState) (items groups : List ℕ)
@@ -133,7 +133,7 @@ module _ (text : List ℕ) (at close count : ℕ) (s : SweepState) (items groups
   after-end = refl
 
   items-alone : itemRows (groupOf text at close ∷ []) ≡ rowsOf (groupOf text at close)
-  unfolding itemRows
+  unfolding flatMap
   items-alone = append-nil (rowsOf (groupOf text at close))
 
   rows-count : length (rowsOf (groupOf text at close)) ≡ 16 * length (itemsOf text at close)

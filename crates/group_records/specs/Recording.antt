@@ -1,5 +1,5 @@
 -- Groups recorded: the states of a sweep, and what the two areas are then.
-use Prim.Native.Nat.{ℕ, _+_, _*_, _≤_, _<_}
+use Prim.Native.Nat.{ℕ, _+_, _*_, _≤_}
 use mathlib.Core.Path.{_≡_}
 use mathlib.Core.List.{List, [], _∷_}
 use mathlib.Core.Bool.{Bool, true, false, _&&_}
@@ -7,7 +7,6 @@ use lib.ListN.{length}
 use lib.Dec.{leb}
 use Rattle.item.specs.Pieces.{itemsOf}
 use Rattle.item.specs.Group.{Group, groupOf}
-use Rattle.resolve.specs.Groups.{groupAccepted}
 use Rattle.rows.specs.Rows.{itemWidth}
 use Rattle.standing.specs.Rows.{groupWidth, groupRows, itemCount, itemRows, sweptFrom, insideAfter, endAfter}
 use Rattle.standing.specs.Stands.{GroupFrom}
@@ -43,10 +42,8 @@ pub record Recorded (text : List ℕ) (gs : List Group) (s : SweepState) (items 
 
 -- the item records of the group from `at` to `close` can be written from item record `n` on
 pub record ItemsRoom (text : List ℕ) (at close n : ℕ) (items : List ℕ) : Type 0 where
+  pub stands : GroupFrom text at close (length (itemsOf text at close))
   pub short : length text ≤ 65535
-  pub after : at < close
-  pub inside : close < length text
-  pub good : groupAccepted text at close ≡ true
   pub room : itemWidth * (n + length (itemsOf text at close)) ≤ length items
 
 -- that group can be recorded from the state `s`, the areas being `items` and `groups` numbers long

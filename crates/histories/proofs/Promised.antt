@@ -14,7 +14,7 @@ use Rattle.annotation.specs.Call.{Annotated, AnnotateRan, annotateRun}
 use Rattle.annotation_answer.specs.Values.{annotationValues}
 use Rattle.annotation.specs.Values.{annotationNumbers}
 use Rattle.histories.specs.Histories.{OfLookUp, OfAnnotation, State, state, runCall, lookUpLeft, annotateLeft, putBack, answersOf, plain}
-use Rattle.histories.specs.Promises.{Done, LookedUpOnce, AnnotatedOnce, callOf, Met, lookUpShows, annotationShows, shown, lookUpNote, annotationNote, stateAfter, AllMet, PromisedHistories}
+use Rattle.histories.specs.Promises.{RanCall, LookedUpOnce, AnnotatedOnce, callOf, Met, lookUpShows, annotationShows, shown, lookUpNote, annotationNote, stateAfter, AllMet, PromisedHistories}
 use Rattle.histories.proofs.FromCalls.{both}
 use Rattle.histories.proofs.Demand3.{demand-3}
 
@@ -65,7 +65,7 @@ annotation-note ran (Refused number note) e = ap (λ (l : List ℕ). getD l 5 0)
 same-state : (k : ℕ) (area x y : List ℕ) (m n : ℕ) → x ≡ y → m ≡ n → state (putBack k x area) m ≡ state (putBack k y area) n
 same-state k area x y m n p q = cc
 
-met-shows : (text : List ℕ) (st : State) (d : Done) → Met text st d → shown d ≡ runCall text st (callOf d) .answer
+met-shows : (text : List ℕ) (st : State) (d : RanCall) → Met text st d → shown d ≡ runCall text st (callOf d) .answer
 unfolding runCall lookUpLeft annotateLeft
 met-shows text st (LookedUpOnce k at records items r index' records' items') h =
     ap OfLookUp (look-up-shows (lookUpRun text at (st .note) (take k (st .index)) records items) r items' (h .0) (h .3))
@@ -73,7 +73,7 @@ met-shows text st (AnnotatedOnce k mode pool records areas r index' records' are
     let ran : AnnotateRan = annotateRun text mode pool (st .note) (take k (st .index)) records areas in
     ap OfAnnotation (annotation-shows ran r areas' (h .0) (four (ran .answer .areas) (h .3) (h .4) (h .5) (h .6)))
 
-met-leaves : (text : List ℕ) (st : State) (d : Done) → Met text st d → stateAfter st d ≡ runCall text st (callOf d) .after
+met-leaves : (text : List ℕ) (st : State) (d : RanCall) → Met text st d → stateAfter st d ≡ runCall text st (callOf d) .after
 unfolding runCall lookUpLeft annotateLeft
 met-leaves text st (LookedUpOnce k at records items r index' records' items') h =
     same-state k (st .index) _ _ _ _ (h .1) (look-up-note (lookUpRun text at (st .note) (take k (st .index)) records items) r (h .0))
@@ -81,7 +81,7 @@ met-leaves text st (AnnotatedOnce k mode pool records areas r index' records' ar
     same-state k (st .index) _ _ _ _ (h .1)
     (annotation-note (annotateRun text mode pool (st .note) (take k (st .index)) records areas) r (h .0))
 
-all-shown : (text : List ℕ) (done : List Done) (st : State) → AllMet text st done → map shown done ≡ answersOf text st (map callOf done)
+all-shown : (text : List ℕ) (done : List RanCall) (st : State) → AllMet text st done → map shown done ≡ answersOf text st (map callOf done)
 unfolding answersOf
 all-shown text [] st h = refl
 all-shown text (d ∷ ds) st h =

@@ -2,13 +2,13 @@
 use Prim.Native.Nat.{ℕ, _+_, _*_, _<_}
 use native.Mathlib.Omega.{arith}
 use mathlib.Core.Path.{_≡_, refl, sym, _∙_, ap, subst}
-use mathlib.Core.List.{List, [], _∷_, _++_, map, append-nil, append-assoc}
+use mathlib.Core.List.{List, [], _∷_, _++_, map, flatMap, flatten, append-nil, append-assoc}
 use mathlib.Core.Bool.{Bool, true, false}
 use mathlib.Core.Option.{Option, none, some}
 use lib.ListN.{length, getD, take, length-append, List·getD-append}
-use lib.Seq.{getD-append-add, getD-at, getD-take, take-at, take-append-le}
-use lib.Dec.{eqb, ltb}
-use borrow.Author.Tests.{ltb-true, ltb-false, eqb-true}
+use lib.Seq.{getD-at, getD-take, take-at, take-append-le}
+use lib.Dec.{eqb}
+use borrow.Author.Tests.{eqb-true}
 use Rattle.base.specs.Pick.{pick}
 use Rattle.base.specs.Fold.{fold}
 use Rattle.base.specs.Spans.{span}
@@ -16,37 +16,29 @@ use Rattle.item.specs.declared.Item.{Item}
 use Rattle.item.specs.Group.{Group}
 use Rattle.rows.specs.Rows.{itemWidth, recordOf, rowOf, rowsIn, rowsOf}
 use Rattle.pool.specs.Layout.{hasPool}
-use Rattle.definition_line.specs.Lines.{inLine, groupEnd, keyOf}
+use Rattle.definition_line.specs.Lines.{keyOf}
 use Rattle.definition.specs.Defs.{defOf}
 use Rattle.label.specs.Labels.{labelText}
 use Rattle.standing.specs.Rows.{Placed, itemRows}
+use Rattle.standing.proofs.Swept.{groupsOf, placed-groups}
 use Rattle.records.specs.Records.{itemField}
+use Rattle.uses.proofs.Fields.{item-field}
 use Rattle.sweep.proofs.Laws.{item-rows-length}
 use Rattle.annotation.specs.Sources.{Source, numberOf, useOf, used}
-use Rattle.annotation.specs.Content.{Tally, tally, placedFrom, placedOf, labelFor, cited, numbered, unnumbered, addItem, addGroup, tallyOf, contentOf}
-use Rattle.annotation.specs.Facts.{itemKeys}
+use Rattle.annotation.specs.Content.{Tally, tally, placedOf, labelFor, cited, numbered, unnumbered, addItem, addGroup, tallyOf, contentOf}
+use Rattle.annotation.specs.Facts.{eachItem, itemKeys}
 use Rattle.annotation.proofs.Numbers.{sources-in-order, numbers-stay}
+use Rattle.annotation.proofs.Each.{cell-front, count-more, by-place}
 use Rattle.annotation.proofs.Records.{records-numbered}
 use Rattle.annotation.proofs.UsesRun.{records-used}
-use Rattle.histories.specs.Said.{itemLabels, joined, labelAfter, Says}
+use Rattle.histories.specs.Said.{itemLabels, labelAfter, Says}
 
 -- lists ----------------------------------------------------------------------------------------------------------------------------
 
-joined-more : (ls : List (List ℕ)) (x : List ℕ) → joined (ls ++ (x ∷ [])) ≡ joined ls ++ x
-unfolding joined
-joined-more [] x = append-nil x
-joined-more (l ∷ ls) x = ap (λ (r : List ℕ). l ++ r) (joined-more ls x) ∙ sym (append-assoc l (joined ls) x)
-
--- the records before, and the one after them
-cell-front : (rows row : List ℕ) (n k c : ℕ) → length rows ≡ itemWidth * n → k < n → c < itemWidth → itemField (rows ++ row) k c ≡ itemField rows k c
-unfolding itemField
-cell-front rows row n k c e h g = List·getD-append rows row 0 (itemWidth * k + c) (omega (arith, e, h, g))
-
-cell-back : (rows row : List ℕ) (n c : ℕ) → length rows ≡ itemWidth * n → itemField (rows ++ row) n c ≡ getD row c 0
-unfolding itemField
-cell-back rows row n c e =
-    let b : itemWidth * n + c ≡ length rows + c = omega (arith, e) in
-    ap (λ (m : ℕ). getD (rows ++ row) m 0) b ∙ getD-append-add rows row c 0
+flatten-more : (ls : List (List ℕ)) (x : List ℕ) → flatten (ls ++ (x ∷ [])) ≡ flatten ls ++ x
+unfolding flatten
+flatten-more [] x = append-nil x
+flatten-more (l ∷ ls) x = ap (λ (r : List ℕ). l ++ r) (flatten-more ls x) ∙ sym (append-assoc l (flatten ls) x)
 
 -- one item more ---------------------------------------------------------------------------------------------------------------------
 
@@ -58,17 +50,7 @@ record So (t : Tally) (rows : List ℕ) (ls : List (List ℕ)) (is : List (Optio
   found : (k c : ℕ) → k < length ls → c < 12 → itemField (t .rows) k c ≡ itemField rows k c
   offsets : (k : ℕ) → k < length ls → itemField (t .rows) k 14 ≡ labelAfter (take k ls) (getD is k none)
   lengths : (k : ℕ) → k < length ls → itemField (t .rows) k 15 ≡ length (getD ls k [])
-  joins : t .labels ≡ joined ls
-
-by-place : (P : ℕ → Type 0) (ls : List (List ℕ)) (x : List ℕ) → ((k : ℕ) → k < length ls → P k) → P (length ls)
-    → (k : ℕ) → k < length (ls ++ (x ∷ [])) → P k
-by-place P ls x front back k h = go (ltb k (length ls)) refl
-  where
-    go : (b : Bool) → ltb k (length ls) ≡ b → P k
-    go true q = front k (ltb-true k (length ls) q)
-    go false q =
-        let e : length ls ≡ k = omega (arith, h, length-append ls (x ∷ []), ltb-false k (length ls) q) in
-        subst P e back
+  joins : t .labels ≡ flatten ls
 
 -- its record `row`, its record `flat` when looked up, its label and its key
 module _ (t : Tally) (rows : List ℕ) (ls : List (List ℕ)) (is : List (Option (List ℕ))) (u : So t rows ls is) (sources : List Source)
@@ -78,18 +60,18 @@ module _ (t : Tally) (rows : List ℕ) (ls : List (List ℕ)) (is : List (Option
   front k c h g = cell-front (t .rows) row (length ls) k c (u .count) h g
 
   back : (c : ℕ) → itemField (t .rows ++ row) (length ls) c ≡ getD row c 0
-  back c = cell-back (t .rows) row (length ls) c (u .count)
+  back c = item-field (t .rows) row (length ls) c (u .count)
 
   more : So (tally sources (t .rows ++ row) (t .labels ++ label)) (rows ++ flat) (ls ++ (label ∷ [])) (is ++ (key ∷ []))
   more = record {
-    count = omega (arith, length-append (t .rows) row, length-append ls (label ∷ []), u .count, wide);
-    alike = omega (arith, length-append rows flat, length-append ls (label ∷ []), u .alike, as-wide);
+    count = count-more (t .rows) row ls label (u .count) wide;
+    alike = count-more rows flat ls label (u .alike) as-wide;
     keyed = omega (arith, length-append is (key ∷ []), length-append ls (label ∷ []), u .keyed);
     found = λ k c h g.
         by-place (λ k. itemField (t .rows ++ row) k c ≡ itemField (rows ++ flat) k c) ls label
         (λ k l. front k c l (omega (arith, g)) ∙ u .found k c l g ∙ sym (cell-front rows flat (length ls) k c (u .alike) l (omega (arith, g))))
         (back c ∙ sym (getD-take 12 row c 0 g) ∙ ap (λ (r : List ℕ). getD r c 0) same ∙ getD-take 12 flat c 0 g
-        ∙ sym (cell-back rows flat (length ls) c (u .alike)))
+        ∙ sym (item-field rows flat (length ls) c (u .alike)))
         k h;
     offsets = by-place
         (λ k. itemField (t .rows ++ row) k 14 ≡ labelAfter (take k (ls ++ (label ∷ []))) (getD (is ++ (key ∷ [])) k none))
@@ -100,7 +82,7 @@ module _ (t : Tally) (rows : List ℕ) (ls : List (List ℕ)) (is : List (Option
     lengths = by-place (λ k. itemField (t .rows ++ row) k 15 ≡ length (getD (ls ++ (label ∷ [])) k [])) ls label
         (λ k l. rw (List·getD-append ls (label ∷ []) [] k l) (front k 15 l (omega arith) ∙ u .lengths k l))
         (rw (getD-at ls label [] [] (length ls) refl) (back 15 ∙ long));
-    joins = ap (λ (r : List ℕ). r ++ label) (u .joins) ∙ sym (joined-more ls label);
+    joins = ap (λ (r : List ℕ). r ++ label) (u .joins) ∙ sym (flatten-more ls label);
   }
 
 -- the groups -----------------------------------------------------------------------------------------------------------------------
@@ -161,7 +143,7 @@ module _ (text : List ℕ) (mode : ℕ) (all : List Group) (pool : List ℕ) whe
       → fold (addGroup text mode all pool) (fold (addItem text mode all pool p) t more) ps .sources ≡ last → So t rows ls is
       → So (fold (addItem text mode all pool p) t more) (rows ++ rowsIn (p .group .integral) more) (ls ++ map (its p last) more)
       (is ++ map (key-of p) more)
-  unfolding fold rowsIn
+  unfolding fold flatMap
   items-so p [] t rows ls is ps last e u = rw (append-nil rows, append-nil ls, append-nil is) u
   items-so p (i ∷ more) t rows ls is ps last e u =
       rw (
@@ -175,15 +157,15 @@ module _ (text : List ℕ) (mode : ℕ) (all : List Group) (pool : List ℕ) whe
 
   groups-so : (ps : List Placed) (t : Tally) (rows : List ℕ) (ls : List (List ℕ)) (is : List (Option (List ℕ))) (last : List Source)
       → fold (addGroup text mode all pool) t ps .sources ≡ last → So t rows ls is
-      → So (fold (addGroup text mode all pool) t ps) (rows ++ itemRows (map (λ (p : Placed). p .group) ps))
+      → So (fold (addGroup text mode all pool) t ps) (rows ++ itemRows (groupsOf ps))
       (ls ++ itemLabels text mode all pool last ps) (is ++ itemKeys text ps)
-  unfolding fold addGroup itemRows itemLabels itemKeys rowsOf
+  unfolding fold addGroup flatMap eachItem rowsOf
   groups-so [] t rows ls is last e u = rw (append-nil rows, append-nil ls, append-nil is) u
   groups-so (p ∷ ps) t rows ls is last e u =
       let labels : ls ++ itemLabels text mode all pool last (p ∷ ps) ≡ (ls ++ map (its p last) (p .group .items)) ++ itemLabels text mode all pool last ps
       = sym (append-assoc ls (map (its p last) (p .group .items)) (itemLabels text mode all pool last ps)) in
       rw (
-        ← append-assoc rows (rowsIn (p .group .integral) (p .group .items)) (itemRows (map (λ (p : Placed). p .group) ps)),
+        ← append-assoc rows (rowsIn (p .group .integral) (p .group .items)) (itemRows (groupsOf ps)),
         labels,
         ← append-assoc is (map (key-of p) (p .group .items)) (itemKeys text ps),
       )
@@ -191,18 +173,12 @@ module _ (text : List ℕ) (mode : ℕ) (all : List Group) (pool : List ℕ) whe
       (ls ++ map (its p last) (p .group .items)) (is ++ map (key-of p) (p .group .items)) last e
       (items-so p (p .group .items) t rows ls is ps last e u))
 
-  -- the groups with their standings are the groups
-  placed-all : (before : Bool) (from : ℕ) (gs : List Group) → map (λ (p : Placed). p .group) (placedFrom text all pool before from gs) ≡ gs
-  unfolding placedFrom
-  placed-all before from [] = refl
-  placed-all before from (g ∷ gs) = ap (λ (l : List Group). g ∷ l) (placed-all (inLine text before from g) (groupEnd g) gs)
-
   all-so : So (tallyOf text mode all pool) (itemRows all) (itemLabels text mode all pool (tallyOf text mode all pool .sources) (placedOf text all pool))
       (itemKeys text (placedOf text all pool))
-  unfolding tallyOf placedOf joined
+  unfolding tallyOf placedOf flatten
   all-so =
       subst (λ (gs : List Group). So (tallyOf text mode all pool) (itemRows gs) (itemLabels text mode all pool (tallyOf text mode all pool .sources) (placedOf text all pool)) (itemKeys text (placedOf text all pool)))
-      (placed-all false 0 all)
+      (placed-groups _ text false 0 all)
       (groups-so (placedOf text all pool) (tally [] [] []) [] [] [] (tallyOf text mode all pool .sources) refl
       (record {
         count = refl;

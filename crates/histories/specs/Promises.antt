@@ -37,17 +37,17 @@ AnnotatePromise text mode pool note index records areas r index' records' areas'
     × (r ≡ annotationAnswer (annotateRun text mode pool note index records areas))
 
 -- a call that was run: its arguments as in `Call`, what it returned, and the index and bracket records lent and the answer areas after it
-pub data Done : Type 0 where
-  LookedUpOnce : ℕ → ℕ → List Bracket → List ℕ → LookUp → List ℕ → List Bracket → List ℕ → Done
-  AnnotatedOnce : ℕ → ℕ → List ℕ → List Bracket → Areas → Annotation → List ℕ → List Bracket → Areas → Done
+pub data RanCall : Type 0 where
+  LookedUpOnce : ℕ → ℕ → List Bracket → List ℕ → LookUp → List ℕ → List Bracket → List ℕ → RanCall
+  AnnotatedOnce : ℕ → ℕ → List ℕ → List Bracket → Areas → Annotation → List ℕ → List Bracket → Areas → RanCall
 
 -- the call that was run
-abbrev pub callOf : Done → Call
+abbrev pub callOf : RanCall → Call
 callOf (LookedUpOnce k at records items r index' records' items') = LookUpCall k at records items
 callOf (AnnotatedOnce k mode pool records areas r index' records' areas') = AnnotateCall k mode pool records areas
 
 -- it met its promise, the index area and the note being those of a state
-abbrev pub Met : List ℕ → State → Done → Type 0
+abbrev pub Met : List ℕ → State → RanCall → Type 0
 Met text st (LookedUpOnce k at records items r index' records' items') =
     LookUpPromise text at (st .note) (take k (st .index)) records items r index' records' items'
 Met text st (AnnotatedOnce k mode pool records areas r index' records' areas') =
@@ -65,7 +65,7 @@ annotationShows (Accepted groups items sources labelBytes note) areas =
 annotationShows (Refused number note) areas = annotateRefused number areas
 
 -- what either showed
-abbrev pub shown : Done → Answer
+abbrev pub shown : RanCall → Answer
 shown (LookedUpOnce k at records items r index' records' items') = OfLookUp (lookUpShows r items')
 shown (AnnotatedOnce k mode pool records areas r index' records' areas') = OfAnnotation (annotationShows r areas')
 
@@ -80,12 +80,12 @@ annotationNote (Accepted groups items sources labelBytes note) = note
 annotationNote (Refused number note) = note
 
 -- the index area and the note for the next call
-abbrev pub stateAfter : State → Done → State
+abbrev pub stateAfter : State → RanCall → State
 stateAfter st (LookedUpOnce k at records items r index' records' items') = state (putBack k index' (st .index)) (lookUpNote r)
 stateAfter st (AnnotatedOnce k mode pool records areas r index' records' areas') = state (putBack k index' (st .index)) (annotationNote r)
 
 -- all calls of a list did, each with what the call before left
-abbrev pub AllMet : List ℕ → State → List Done → Type 0
+abbrev pub AllMet : List ℕ → State → List RanCall → Type 0
 AllMet text st [] = Unit {0}
 AllMet text st (d ∷ ds) = Met text st d × AllMet text (stateAfter st d) ds
 
@@ -93,5 +93,5 @@ AllMet text st (d ∷ ds) = Met text st d × AllMet text (stateAfter st d) ds
 -- of its answer areas, are those of its plain answer."
 abbrev pub PromisedHistories : Type 0
 PromisedHistories =
-    (text index : List ℕ) (note : ℕ) → (note ≡ 1 → ⊥) → (done : List Done) → AllMet text (state index note) done
-    → map shown done ≡ map (λ (d : Done). plain text (length index) (callOf d)) done
+    (text index : List ℕ) (note : ℕ) → (note ≡ 1 → ⊥) → (done : List RanCall) → AllMet text (state index note) done
+    → map shown done ≡ map (λ (d : RanCall). plain text (length index) (callOf d)) done

@@ -1,12 +1,10 @@
 -- What an annotation says of each item of a text's groups, record by record.
 use Prim.Native.Nat.{ℕ, _*_, _<_}
 use mathlib.Core.Path.{_≡_}
-use mathlib.Core.List.{List, [], _∷_, _++_, map}
+use mathlib.Core.List.{List, [], map, flatten}
 use mathlib.Core.Option.{Option, none, some}
 use lib.ListN.{length, getD, take}
-use lib.Dec.{eqb}
 use Rattle.base.specs.Pick.{pick}
-use Rattle.item.specs.declared.Item.{Item}
 use Rattle.item.specs.Group.{Group}
 use Rattle.rows.specs.Rows.{itemWidth}
 use Rattle.pool.specs.Layout.{hasPool}
@@ -14,24 +12,16 @@ use Rattle.standing.specs.Rows.{Placed, itemCount, itemRows, groupRows}
 use Rattle.records.specs.Records.{itemField}
 use Rattle.annotation.specs.Sources.{Source}
 use Rattle.annotation.specs.Content.{Areas, placedOf, labelFor, tallyOf}
-use Rattle.annotation.specs.Facts.{numberedKeys, firstUses, itemNumbers, itemKeys, useAfter}
+use Rattle.annotation.specs.Facts.{numberedKeys, firstUses, eachItem, itemNumbers, itemKeys, useAfter}
 
--- the labels of the items, in item order: in a numbered group by the number of the item's source, in another none
-unfoldable pub itemLabels : List ℕ → ℕ → List Group → List ℕ → List Source → List Placed → List (List ℕ)
-itemLabels text mode all pool sources [] = []
-itemLabels text mode all pool sources (p ∷ ps) =
-    map (λ (i : Item). pick (eqb (p .standing) 2) (labelFor text mode all pool sources i) []) (p .group .items)
-    ++ itemLabels text mode all pool sources ps
-
--- lists one after the other
-unfoldable pub joined : List (List ℕ) → List ℕ
-joined [] = []
-joined (l ∷ ls) = l ++ joined ls
+-- the labels of the items: in a numbered group by the number of the item's source, in another none
+abbrev pub itemLabels : List ℕ → ℕ → List Group → List ℕ → List Source → List Placed → List (List ℕ)
+itemLabels text mode all pool sources = eachItem (λ numbered i. pick numbered (labelFor text mode all pool sources i) [])
 
 -- The offset of an item's label: in a numbered group (the item has a key in `itemKeys`) the length of the labels before it; 0 in another.
 unfoldable pub labelAfter : List (List ℕ) → Option (List ℕ) → ℕ
 labelAfter before none = 0
-labelAfter before (some key) = length (joined before)
+labelAfter before (some key) = length (flatten before)
 
 -- `content` says of the groups `all`, which have the standings in `placed`, and of their items:
 pub record SaysOf (text : List ℕ) (mode : ℕ) (pool : List ℕ) (all : List Group) (placed : List Placed) (sources : List Source) (content : Areas)
@@ -48,7 +38,7 @@ pub record SaysOf (text : List ℕ) (mode : ℕ) (pool : List ℕ) (all : List G
   pub uses : (k : ℕ) → k < itemCount all
       → itemField (content .items) k 13 ≡ useAfter (hasPool pool) (take k (itemKeys text placed)) (getD (itemKeys text placed) k none)
   -- "Labels follow each other from offset 0 in item order."
-  pub labels : content .labels ≡ joined (itemLabels text mode all pool sources placed)
+  pub labels : content .labels ≡ flatten (itemLabels text mode all pool sources placed)
   -- "label pair into the label bytes": its offset, also where the label is empty ("A numbered empty label is its offset with length 0"), and
   -- 0 "where not numbered"
   pub label-offsets : (k : ℕ) → k < itemCount all

@@ -10,8 +10,8 @@ use Rattle.base.specs.Ascii.{ascii}
 use Rattle.decimal.specs.Decimal.{decimal}
 use Rattle.records.specs.Records.{itemField, groupField, keyIn}
 use Rattle.line_writers.specs.declared.Told.{Told}
-use Rattle.line_writers.specs.Lines.{itemLine, itemLines, groupLines, countLine, refusedLine, listed}
-use Rattle.line_writers.specs.Writes.{Put, Room, groupPart, itemPart, linesOf, answerBy}
+use Rattle.line_writers.specs.Lines.{groupPart, itemPart, itemLine, itemLines, linesOf, groupLines, countLine, refusedLine, listed}
+use Rattle.line_writers.specs.Writes.{Put, Room, answerBy}
 use Rattle.line_writers.proofs.Puts.{two-first, two-second, two-put, Along, along-start, along-end, along-room, along-next}
 
 -- a number and the byte after it
@@ -124,8 +124,8 @@ pub ruleset item-laws = (item-first, item-second, item-third, item-fourth, item-
 -- a line -----------------------------------------------------------------------------------------------------------------------------
 
 line-is : (text group item : List ℕ) → itemLine text group item ≡ groupPart group ++ itemPart text item
-unfolding itemLine groupPart itemPart
-line-is text group item = simp append-assoc refl
+unfolding itemLine
+line-is text group item = refl
 
 module _ (k : ℕ) (text group item out : List ℕ) (h : Room k (itemLine text group item) out) where
   pub line-first : Room k (groupPart group) out
@@ -193,7 +193,7 @@ pub ruleset lines-laws = (lines-start, lines-room, lines-next, lines-end)
 groups-more : (n : ℕ) (text groups items : List ℕ) (g : ℕ) → 0 < n
     → groupLines n text (drop (5 * g) groups) items
     ≡ linesOf text (drop (5 * g) groups) items ++ groupLines (n - 1) text (drop (5 * (g + 1)) groups) items
-unfolding groupLines linesOf
+unfolding groupLines
 groups-more zero text groups items g h = absurd (omega arith)
 groups-more (suc n) text groups items g h =
     let p : suc n - 1 ≡ n = omega arith in

@@ -9,23 +9,34 @@ use Rattle.base.specs.Ascii.{ascii}
 use Rattle.decimal.specs.Decimal.{decimal}
 use Rattle.annotation.specs.Call.{Annotated}
 
--- numbers with a space between them, and the key after the third: "group offset, length, standing, key, label code, number"
-unfoldable pub itemLine : List ℕ → List ℕ → List ℕ → List ℕ
-itemLine text group item =
+-- what a line says of its group, with a space after each number: "group offset, length, standing"
+unfoldable pub groupPart : List ℕ → List ℕ
+groupPart group =
     decimal (getD group 0 0) ++ ascii " " ++ decimal (getD group 1 0) ++ ascii " " ++ decimal (getD group 4 0) ++ ascii " "
-    ++ part text (getD item 2 0) (getD item 2 0 + getD item 3 0)
-    ++ ascii " " ++ decimal (getD item 10 0) ++ ascii " " ++ decimal (getD item 12 0) ++ ascii "\n"
+
+-- what it says of its item: "key, label code, number"
+unfoldable pub itemPart : List ℕ → List ℕ → List ℕ
+itemPart text item =
+    part text (getD item 2 0) (getD item 2 0 + getD item 3 0) ++ ascii " " ++ decimal (getD item 10 0) ++ ascii " "
+    ++ decimal (getD item 12 0) ++ ascii "\n"
+
+-- the line of an item
+unfoldable pub itemLine : List ℕ → List ℕ → List ℕ → List ℕ
+itemLine text group item = groupPart group ++ itemPart text item
 
 -- the lines of the `k` items from the front of the item records
 unfoldable pub itemLines : ℕ → List ℕ → List ℕ → List ℕ → List ℕ
 itemLines zero text group items = []
 itemLines (suc k) text group items = itemLine text group items ++ itemLines k text group (drop 16 items)
 
+-- the lines of the group whose record is at the front
+unfoldable pub linesOf : List ℕ → List ℕ → List ℕ → List ℕ
+linesOf text groups items = itemLines (getD groups 3 0) text groups (drop (16 * getD groups 2 0) items)
+
 -- "then per item": the lines of the `g` groups from the front of the group records
 unfoldable pub groupLines : ℕ → List ℕ → List ℕ → List ℕ → List ℕ
 groupLines zero text groups items = []
-groupLines (suc g) text groups items =
-    itemLines (getD groups 3 0) text groups (drop (16 * getD groups 2 0) items) ++ groupLines g text (drop 5 groups) items
+groupLines (suc g) text groups items = linesOf text groups items ++ groupLines g text (drop 5 groups) items
 
 -- "counts (sources = distinct numbered keys)"
 unfoldable pub countLine : Annotated → List ℕ

@@ -7,8 +7,8 @@ ghost use mathlib.Core.List.{[], _∷_, _++_};
 ghost use Prim.Native.Nat.{_*_, _≤_, _<_};
 ghost use lib.ListN.{drop};
 ghost use Rattle.decimal.specs.Decimal.{decimal};
-ghost use Rattle.line_writers.specs.Lines.{itemLine, groupLines, countLine, listed};
-ghost use Rattle.line_writers.specs.Writes.{Put, Room, groupPart, itemPart, linesOf, answerBy};
+ghost use Rattle.line_writers.specs.Lines.{groupPart, itemPart, itemLine, linesOf, groupLines, countLine, listed};
+ghost use Rattle.line_writers.specs.Writes.{Put, Room, answerBy};
 
 // The numbers of an answer that the listing says: the number of a refusal, or 0 and the counts of groups, items and sources.
 pub struct Told {

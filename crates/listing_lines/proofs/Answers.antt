@@ -7,6 +7,7 @@ use mathlib.Core.Bool.{Bool, true, false, _&&_}
 use lib.ListN.{length, take, replicate, length-replicate}
 use lib.Dec.{eqb, leb}
 use borrow.Author.Tests.{leb-true, le-ltb}
+use Rattle.base.specs.Lists.{Wrote}
 use Rattle.base.specs.Pick.{pick}
 use Rattle.index.specs.Built.{blank}
 use Rattle.base.proofs.Bools.{and-left, and-right}
@@ -25,10 +26,10 @@ use Rattle.preparation.specs.Refusal.{annotateRefusal}
 use Rattle.annotation.proofs.Truth.{annotate-true}
 use Rattle.line_writers.specs.declared.Told.{Told}
 use Rattle.line_writers.specs.Lines.{countLine, listed}
-use Rattle.annotation.proofs.ByRecords.{placed-length}
+use Rattle.standing.proofs.Swept.{placed-length}
 use Rattle.listing_lines.specs.Listing.{listingAreas, listingAnswer, listingOf}
 use Rattle.line_writers.specs.Writes.{Put, Room, answerBy}
-use Rattle.listing_lines.specs.Ready.{zeroes, Ready, Listed}
+use Rattle.listing_lines.specs.Ready.{Ready}
 
 -- the numbers of an answer, in the arms of a `match` on it
 module _ {a : Annotation} where
@@ -62,7 +63,7 @@ module _ (text index items groups references labels out : List ℕ) (z : Ready t
   ran = annotateRun text 0 [] 0 index (replicate 65535 blank) (areas items groups references labels)
 
   answer-is : ran .answer ≡ listingAnswer text
-  unfolding listingAnswer listingAreas zeroes
+  unfolding listingAnswer listingAreas
   answer-is =
       let l : length index ≡ length text = ap length (z .index-area) ∙ length-replicate (length text) 0 in
       let m : length (replicate 65535 blank) ≡ 65535 = length-replicate 65535 blank in
@@ -74,7 +75,7 @@ module _ (text index items groups references labels out : List ℕ) (z : Ready t
 pub content-groups : (text : List ℕ) (mode : ℕ) (all : List Group) (pool : List ℕ) → length (contentOf text mode all pool .groups) ≡ 5 * length all
 unfolding contentOf placedOf
 content-groups text mode all pool =
-    group-rows-length 0 (placedFrom text all pool false 0 all) ∙ ap (λ (n : ℕ). 5 * n) (placed-length text all pool false 0 all)
+    group-rows-length 0 (placedFrom text all pool false 0 all) ∙ ap (λ (n : ℕ). 5 * n) (placed-length _ text false 0 all)
 
 room-groups : (content given : Areas) → roomFor content given ≡ true → length (content .groups) ≤ length (given .groups)
 unfolding roomFor
@@ -157,7 +158,7 @@ module _ (text index items groups references labels out : List ℕ) (z : Ready t
   pub in-room : Room 0 (listed text (answerBy c items′ groups′)) out
   in-room = rw gives (omega (arith, z .room))
 
-  pub in-listed : {out′ : List ℕ} {r : ℕ} → Put 0 (listed text (answerBy c items′ groups′)) out out′ r → Listed text out out′ r
+  pub in-listed : {out′ : List ℕ} {r : ℕ} → Put 0 (listed text (answerBy c items′ groups′)) out out′ r → Wrote (listingOf text) out out′ r
   in-listed {out′} {r} p = record {
     count = let e = ap length gives in omega (arith, p .end);
     area = p .area ∙ rw gives (written-front (listingOf text) out);

@@ -2,8 +2,8 @@
 -- at most a third as many lines as the text has bytes, and all keys together are no longer than the text.
 use Prim.Native.Nat.{ℕ, zero, suc, _+_, _-_, _*_, _≤_}
 use native.Mathlib.Omega.{arith}
-use mathlib.Core.Path.{_≡_, refl, _∙_, ap, subst}
-use mathlib.Core.List.{List, [], _∷_, _++_, append-assoc}
+use mathlib.Core.Path.{_≡_, refl, _∙_, subst}
+use mathlib.Core.List.{List, [], _∷_, _++_, flatMap, append-assoc}
 use mathlib.Core.Bool.{Bool, true, false, _&&_}
 use lib.ListN.{length, getD, take, drop, length-append, length-take}
 use lib.Dec.{eqb, leb, ltb}
@@ -16,10 +16,12 @@ use Rattle.item.specs.declared.Item.{Item}
 use Rattle.item.specs.Group.{Group}
 use Rattle.rows.specs.Rows.{recordOf, rowOf, rowsIn, rowsOf, rowsLength}
 use Rattle.rows.proofs.RowLaws.{row-length, rows-length}
-use Rattle.definition_line.specs.Lines.{inLine, groupEnd}
 use Rattle.decimal.proofs.Laws.{decimal-short}
 use Rattle.sweep.specs.Sweep.{lentOf, sweepOf, sweepRun}
 use Rattle.standing.specs.Rows.{Placed, groupRow, groupRows, itemCount, itemRows}
+use Rattle.standing.proofs.ItemSizes.{weight}
+use Rattle.standing.proofs.Swept.{groupsOf, placed-groups, placed-length}
+use Rattle.sweep.proofs.Sizes.{weights}
 use Rattle.sweep.proofs.Sweeps.{sweep-same}
 use Rattle.records.specs.Records.{itemField}
 use Rattle.uses.proofs.Fields.{item-field, SameItems}
@@ -29,10 +31,9 @@ use Rattle.preparation.specs.Refusal.{annotateRefusal}
 use Rattle.annotation.specs.Steps.{Fits}
 use Rattle.annotation.proofs.Found.{swept-fits}
 use Rattle.annotation.proofs.Passes.{tally-agrees}
-use Rattle.line_writers.specs.Lines.{itemLine, itemLines, groupLines, countLine, refusedLine, listed}
-use Rattle.annotation.proofs.ByRecords.{placed-length}
+use Rattle.line_writers.specs.Lines.{groupPart, itemPart, itemLine, itemLines, linesOf, groupLines, countLine, refusedLine, listed}
 use Rattle.listing_lines.specs.Listing.{listingAreas, listingAnswer, listingOf}
-use Rattle.listing_lines.proofs.KeyBytes.{keysIn, keysOf, sweep-keys-by}
+use Rattle.listing_lines.proofs.KeyBytes.{keyWeight, sweep-keys}
 
 -- lines ------------------------------------------------------------------------------------------------------------------------------
 
@@ -45,7 +46,7 @@ part-short s a n = go (leb a (a + n) && leb (a + n) (length s))
     go false = omega arith
 
 line-short : (text group item : List ℕ) → length (itemLine text group item) ≤ 106 + getD item 3 0
-unfolding itemLine ascii
+unfolding itemLine groupPart itemPart ascii
 line-short text group item =
     let p = part-short text (getD item 2 0) (getD item 3 0) in
     let a = decimal-short (getD group 0 0) in
@@ -87,27 +88,15 @@ lines-short (suc k) text group items n =
     let f = getD-drop (16 * n) items 3 0 in
     rw (length-append, drop-drop 16 (16 * n) items, p) (omega arith)
 
--- how many items groups with their standing have
-unfoldable countOf : List Placed → ℕ
-countOf [] = 0
-countOf (p ∷ ps) = length (p .group .items) + countOf ps
-
-count-placed : (text : List ℕ) (all : List Group) (pool : List ℕ) (before : Bool) (from : ℕ) (gs : List Group)
-    → countOf (placedFrom text all pool before from gs) ≡ itemCount gs
-unfolding placedFrom countOf itemCount
-count-placed text all pool before from [] = refl
-count-placed text all pool before from (g ∷ gs) =
-    ap (λ (n : ℕ). length (g .items) + n) (count-placed text all pool (inLine text before from g) (groupEnd g) gs)
-
 groups-short : (ps : List Placed) (text : List ℕ) (n : ℕ) (rest items : List ℕ)
-    → length (groupLines (length ps) text (groupRows n ps ++ rest) items) ≤ 106 * countOf ps + keySum items n (countOf ps)
-unfolding groupLines groupRows groupRow countOf
+    → length (groupLines (length ps) text (groupRows n ps ++ rest) items) ≤ 106 * itemCount (groupsOf ps) + keySum items n (itemCount (groupsOf ps))
+unfolding groupLines linesOf groupRows groupRow itemCount
 groups-short [] text n rest items = omega arith
 groups-short (p ∷ ps) text n rest items =
     let k : ℕ = length (p .group .items) in
     let a = lines-short k text ((groupRow n p ++ groupRows (n + k) ps) ++ rest) items n in
     let b = groups-short ps text (n + k) rest items in
-    let s = sum-add items n k (countOf ps) in
+    let s = sum-add items n k (itemCount (groupsOf ps)) in
     rw length-append (omega arith)
 
 -- keys -------------------------------------------------------------------------------------------------------------------------------
@@ -117,8 +106,8 @@ unfolding rowOf recordOf
 key-there b it more rest = refl
 
 row-sum : (is : List Item) (integral : Bool) (before rest : List ℕ) (n : ℕ) → length before ≡ 16 * n
-    → keySum (before ++ (rowsIn integral is ++ rest)) n (length is) + 2 * length is ≡ keysIn is
-unfolding keySum rowsIn keysIn
+    → keySum (before ++ (rowsIn integral is ++ rest)) n (length is) + 2 * length is ≡ weight keyWeight is
+unfolding keySum flatMap weight
 row-sum [] integral before rest n e = refl
 row-sum (i ∷ is) integral before rest n e =
     let l : length (before ++ rowOf integral i) ≡ 16 * (n + 1) = let r = row-length integral i in rw length-append (omega arith) in
@@ -134,8 +123,8 @@ unfolding keySum
 zero-sum items n = refl
 
 rows-sum : (gs : List Group) (before rest : List ℕ) (n : ℕ) → length before ≡ 16 * n
-    → keySum (before ++ (itemRows gs ++ rest)) n (itemCount gs) + 2 * itemCount gs ≡ keysOf gs
-unfolding itemRows itemCount keysOf rowsOf rowsLength
+    → keySum (before ++ (itemRows gs ++ rest)) n (itemCount gs) + 2 * itemCount gs ≡ weights keyWeight gs
+unfolding flatMap itemCount weights rowsOf rowsLength
 rows-sum [] before rest n e = zero-sum (before ++ rest) n
 rows-sum (g ∷ gs) before rest n e =
     let l : length (before ++ rowsIn (g .integral) (g .items)) ≡ 16 * (n + length (g .items)) =
@@ -167,7 +156,7 @@ module _ (text rest : List ℕ) (h : length text ≤ 65535) where
       let a = tally-agrees text 0 (sweepOf text) [] rest [] (swept-fits-plain text h) in
       let e = rows-sum (sweepOf text) [] rest 0 refl in
       let s = sum-same _ _ (a .same-items) 0 (itemCount (sweepOf text)) in
-      let k = sweep-keys-by text in
+      let k = sweep-keys text in
       rw (← a .items) (omega arith)
 
   all-short : (more : List ℕ)
@@ -176,7 +165,7 @@ module _ (text rest : List ℕ) (h : length text ≤ 65535) where
   unfolding placedOf
   all-short more =
       let g = groups-short (placedFrom text (sweepOf text) [] false 0 (sweepOf text)) text 0 more (tallyOf text 0 (sweepOf text) [] .rows ++ rest) in
-      rw (placed-length text (sweepOf text) [] false 0 (sweepOf text), count-placed text (sweepOf text) [] false 0 (sweepOf text)) at g
+      rw (placed-length _ text false 0 (sweepOf text), placed-groups _ text false 0 (sweepOf text)) at g
 
   lines-by : (more : List ℕ)
       → length (groupLines (length (sweepOf text)) text (groupRows 0 (placedOf text (sweepOf text) []) ++ more) (tallyOf text 0 (sweepOf text) [] .rows ++ rest))

@@ -2,7 +2,7 @@
 use Prim.Native.Nat.{ℕ, zero, suc, _+_, _*_, _/_, _≤_, _<_}
 use native.Mathlib.Omega.{arith}
 use mathlib.Core.Path.{_≡_, refl, sym, ap}
-use mathlib.Core.List.{List, [], _∷_, _++_, map}
+use mathlib.Core.List.{List, [], _∷_, _++_, map, flatMap, flatten}
 use mathlib.Core.Bool.{Bool, true, false}
 use lib.ListN.{length, length-append, length-replicate}
 use lib.Dec.{eqb, leb, ltb}
@@ -17,18 +17,20 @@ use Rattle.lookup.specs.Refusals.{tooFew}
 use Rattle.pool.specs.Layout.{wellFormed}
 use Rattle.decimal.specs.Decimal.{countIn, decimal}
 use Rattle.decimal.proofs.Laws.{decimal-length}
-use Rattle.definition_line.specs.Lines.{inLine, groupEnd, keyOf}
-use Rattle.standing.specs.Rows.{itemCount}
+use Rattle.definition_line.specs.Lines.{groupEnd, keyOf}
+use Rattle.standing.specs.Rows.{Placed, itemCount}
+use Rattle.standing.proofs.Swept.{groupsOf, placed-groups}
 use Rattle.sweep.specs.Sweep.{listed, nextAt, foundAt, sweepIn, sweepOf}
 use Rattle.sweep.proofs.Sizes.{size-enough}
 use Rattle.label.specs.Labels.{labelBy, labelText}
 use Rattle.preparation.specs.Refusal.{annotateRefusal}
 use Rattle.annotation.specs.Sources.{Source, placeOf, numberOf}
-use Rattle.annotation.specs.Content.{Areas, allDefined, standingOf, placedFrom, placedOf, labelFor, tallyOf, contentOf}
+use Rattle.annotation.specs.Content.{Areas, placedOf, labelFor, tallyOf, contentOf}
 use Rattle.annotation.specs.Call.{annotateRefused, roomFor, annotateGives, answerOf, annotatePlain}
 use Rattle.annotation.proofs.Counts.{sources-by}
 use Rattle.annotation.proofs.ByRecords.{references-length}
-use Rattle.histories.specs.Said.{itemLabels, joined}
+use Rattle.annotation.specs.Facts.{eachItem}
+use Rattle.histories.specs.Said.{itemLabels}
 use Rattle.histories.proofs.SaidSo.{says}
 use Rattle.listing_lines.specs.Listing.{listingAreas, listingAnswer, TextRefusalsOnly}
 use Rattle.listing_lines.proofs.Answers.{content-groups}
@@ -78,35 +80,25 @@ place-most key (s ∷ ss) = go (same (s .key) key) (place-most key ss)
     go false h = omega arith
 
 module _ (text : List ℕ) (all : List Group) (pool : List ℕ) (sources : List Source) (few : length sources ≤ 4096) where
-  label-by : (i : Item) → length (labelFor text 0 all pool sources i) ≤ 5
+  label-by : (b : Bool) (i : Item) → length (pick b (labelFor text 0 all pool sources i) []) ≤ 5
   unfolding labelFor labelText labelBy numberOf
-  label-by i = digits-five (placeOf (keyOf text i) sources + 1) (omega (arith, place-most (keyOf text i) sources, few))
+  label-by true i = digits-five (placeOf (keyOf text i) sources + 1) (omega (arith, place-most (keyOf text i) sources, few))
+  label-by false i = omega arith
 
   items-by : (b : Bool) (is : List Item) (more : List (List ℕ))
-      → length (joined (map (λ (i : Item). pick b (labelFor text 0 all pool sources i) []) is ++ more)) ≤ 5 * length is + length (joined more)
-  unfolding joined
+      → length (flatten (map (λ (i : Item). pick b (labelFor text 0 all pool sources i) []) is ++ more)) ≤ 5 * length is + length (flatten more)
+  unfolding flatten
   items-by b [] more = omega arith
-  items-by b (i ∷ is) more = rw length-append (go b (items-by b is more))
-    where
-      rest : ℕ
-      rest = length (joined (map (λ (i : Item). pick b (labelFor text 0 all pool sources i) []) is ++ more))
+  items-by b (i ∷ is) more = rw length-append (omega (arith, items-by b is more, label-by b i))
 
-      go : (c : Bool) → rest ≤ 5 * length is + length (joined more)
-          → length (pick c (labelFor text 0 all pool sources i) []) + rest ≤ 5 * suc (length is) + length (joined more)
-      go true h = omega (arith, h, label-by i)
-      go false h = omega (arith, h)
-
-  labels-by : (before : Bool) (from : ℕ) (gs : List Group)
-      → length (joined (itemLabels text 0 all pool sources (placedFrom text all pool before from gs))) ≤ 5 * itemCount gs
-  unfolding itemLabels placedFrom itemCount joined
-  labels-by before from [] = omega arith
-  labels-by before from (g ∷ gs) =
-      let inside = inLine text before from g in
-      let rest = itemLabels text 0 all pool sources (placedFrom text all pool inside (groupEnd g) gs) in
+  labels-by : (ps : List Placed) → length (flatten (itemLabels text 0 all pool sources ps)) ≤ 5 * itemCount (groupsOf ps)
+  unfolding eachItem flatMap flatten itemCount
+  labels-by [] = omega arith
+  labels-by (p ∷ ps) =
       omega (
         arith,
-        items-by (eqb (standingOf inside (allDefined text all pool (g .items))) 2) (g .items) rest,
-        labels-by inside (groupEnd g) gs,
+        items-by (eqb (p .standing) 2) (p .group .items) (itemLabels text 0 all pool sources ps),
+        labels-by ps,
       )
 
 module _ (text : List ℕ) (h : length text ≤ 4096) where
@@ -132,8 +124,9 @@ module _ (text : List ℕ) (h : length text ≤ 4096) where
   unfolding placedOf
   enough-labels =
       let few : length (tallyOf text 0 all [] .sources) ≤ 4096 = omega (arith, sources-by text 0 all [], size-enough text, h) in
+      let g : itemCount (groupsOf (placedOf text all [])) ≡ itemCount all = ap itemCount (placed-groups _ text false 0 all) in
       omega
-      (arith, ap length (says text 0 all [] .labels), labels-by text all [] (tallyOf text 0 all [] .sources) few false 0 all, size-enough text)
+      (arith, ap length (says text 0 all [] .labels), labels-by text all [] (tallyOf text 0 all [] .sources) few (placedOf text all []), size-enough text)
 
   room : roomFor content (listingAreas (length text)) ≡ true
   unfolding roomFor listingAreas

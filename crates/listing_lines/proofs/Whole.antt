@@ -6,7 +6,7 @@ use mathlib.Core.List.{List, [], _∷_, _++_, append-assoc}
 use lib.ListN.{length, take, replicate, length-append, length-replicate, replicate-append-replicate}
 use lib.Seq.{take-at, length-take-le}
 use borrow.Author.Tests.{lt-ltb}
-use Rattle.base.specs.Lists.{written}
+use Rattle.base.specs.Lists.{written, Wrote}
 use Rattle.base.specs.Ascii.{ascii}
 use Rattle.decimal.specs.Decimal.{decimal}
 use Rattle.decimal.proofs.Laws.{decimal-short}
@@ -16,12 +16,12 @@ use Rattle.base.proofs.Areas.{written-length}
 use Rattle.line_writers.specs.Lines.{refusedLine}
 use Rattle.listing_lines.specs.Listing.{listingOf}
 use Rattle.line_writers.specs.Writes.{Put, Room}
-use Rattle.listing_lines.specs.Ready.{zeroes, Ready, Listed, Counts}
+use Rattle.listing_lines.specs.Ready.{Ready, Counts}
 use Rattle.line_writers.proofs.Lines.{field, refused-word}
 use Rattle.listing_lines.proofs.Bound.{listing-short}
 
 -- what `list` promises of an answer
-pub said : (text before : List ℕ) {after : List ℕ} {r : ℕ} → 150000 ≤ length before → Listed text before after r
+pub said : (text before : List ℕ) {after : List ℕ} {r : ℕ} → 150000 ≤ length before → Wrote (listingOf text) before after r
     → (r ≡ length (listingOf text)) × (after ≡ written (listingOf text) before) × Counts r after
 said text before {after} {r} h l =
     let e = l .count in
@@ -31,18 +31,16 @@ said text before {after} {r} h l =
     (l .count, l .area, (f, sym (length-take-le r after f)))
 
 -- the first of some zeros
-zeroes-take : (n m : ℕ) → take n (zeroes (n + m)) ≡ zeroes n
-unfolding zeroes
-zeroes-take n m =
+zeros-take : (n m : ℕ) → take {A = ℕ} n (replicate (n + m) 0) ≡ replicate n 0
+zeros-take n m =
     ap (take n) (sym (replicate-append-replicate n m 0)) ∙ take-at (replicate n 0) (replicate m 0) n (length-replicate n 0)
 
-module _ (n m : ℕ) (a : List ℕ) (e : a ≡ zeroes m) (h : n ≤ m) where
-  pub zeroes-cut : take n a ≡ zeroes n
-  zeroes-cut = let p : n + (m - n) ≡ m = omega arith in rw (e, ← p) (zeroes-take n (m - n))
+module _ (n m : ℕ) (a : List ℕ) (e : a ≡ replicate m 0) (h : n ≤ m) where
+  pub zeros-cut : take n a ≡ replicate n 0
+  zeros-cut = let p : n + (m - n) ≡ m = omega arith in rw (e, ← p) (zeros-take n (m - n))
 
-  pub zeroes-counted : n ≡ length (take n a)
-  unfolding zeroes
-  zeroes-counted = rw zeroes-cut (sym (length-replicate n 0))
+  pub zeros-counted : n ≡ length (take n a)
+  zeros-counted = rw zeros-cut (sym (length-replicate n 0))
 
 -- a text above 4,096 bytes
 pub long-room : (out : List ℕ) → 150000 ≤ length out → Room 0 (refused-word ++ field 1 10) out
@@ -53,23 +51,23 @@ module _ (text out : List ℕ) where
   unfolding listingOf refusedLine ascii
   long-is h = rw (lt-ltb 4096 (length text) h) (simp append-assoc refl)
 
-  pub long-listed : {out′ : List ℕ} {r : ℕ} → 4096 < length text → Put 0 (refused-word ++ field 1 10) out out′ r → Listed text out out′ r
+  pub long-listed : {out′ : List ℕ} {r : ℕ} → 4096 < length text → Put 0 (refused-word ++ field 1 10) out out′ r → Wrote (listingOf text) out out′ r
   long-listed h p = record {
     count = let e = p .end in let s = ap length (long-is h) in omega arith;
     area = p .area ∙ ap (λ (w : List ℕ). writtenAt 0 w out) (sym (long-is h)) ∙ written-front (listingOf text) out;
   }
 
 -- any other text
-pub all-ready : (text index items groups references labels out : List ℕ) → length text ≤ 4096 → index ≡ zeroes 4096 → items ≡ zeroes 65536
-    → groups ≡ zeroes 20480 → references ≡ zeroes 4096 → labels ≡ zeroes 20480 → 150000 ≤ length out
+pub all-ready : (text index items groups references labels out : List ℕ) → length text ≤ 4096 → index ≡ replicate 4096 0 → items ≡ replicate 65536 0
+    → groups ≡ replicate 20480 0 → references ≡ replicate 4096 0 → labels ≡ replicate 20480 0 → 150000 ≤ length out
     → Ready text (take (length text) index) (take (16 * length text) items) (take (5 * length text) groups) (take (length text) references)
     (take (5 * length text) labels) out
 all-ready text index items groups references labels out h a b c d e r = record {
   short = h;
-  index-area = zeroes-cut (length text) 4096 index a h;
-  item-area = zeroes-cut (16 * length text) 65536 items b (omega arith);
-  group-area = zeroes-cut (5 * length text) 20480 groups c (omega arith);
-  reference-area = zeroes-cut (length text) 4096 references d h;
-  label-area = zeroes-cut (5 * length text) 20480 labels e (omega arith);
+  index-area = zeros-cut (length text) 4096 index a h;
+  item-area = zeros-cut (16 * length text) 65536 items b (omega arith);
+  group-area = zeros-cut (5 * length text) 20480 groups c (omega arith);
+  reference-area = zeros-cut (length text) 4096 references d h;
+  label-area = zeros-cut (5 * length text) 20480 labels e (omega arith);
   room = let l = listing-short text in omega arith;
 }

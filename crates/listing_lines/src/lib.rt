@@ -4,11 +4,11 @@ use annotation_answer::Annotation;
 use line_writers::Told;
 ghost use mathlib.Core.Path.{_≡_};
 ghost use mathlib.Core.List.{[], _∷_};
-ghost use lib.ListN.{length, take};
-ghost use Rattle.base.specs.Lists.{written};
+ghost use lib.ListN.{length, take, replicate};
+ghost use Rattle.base.specs.Lists.{written, Wrote};
 ghost use Rattle.annotation_answer.specs.Values.{annotationValues};
 ghost use Rattle.listing_lines.specs.Listing.{listingOf, TextRefusalsOnly};
-ghost use Rattle.listing_lines.specs.Ready.{zeroes, Ready, Listed, Counts};
+ghost use Rattle.listing_lines.specs.Ready.{Ready, Counts};
 
 // The numbers of an answer.
 fn told_by(answer: Annotation) -> Told
@@ -47,7 +47,7 @@ fn list_in(
     out: &mut [u8],
 ) -> usize
     requires { ⌜ Ready (now text) (now index) (now items) (now groups) (now references) (now labels) (now out) ⌝ }
-    ensures { λ r. ⌜ Listed (now (text .entry)) (now (out .entry)) (now (out .exit)) r ⌝ }
+    ensures { λ r. ⌜ Wrote (listingOf (now (text .entry))) (now (out .entry)) (now (out .exit)) r ⌝ }
 {
     let no_pool = &text[..0];
     let answer = local_records::annotate(
@@ -67,28 +67,28 @@ fn list_in(
 
 // Zeros for the index and the references of a text of 4,096 bytes.
 fn words() -> [u16; 4096]
-    ensures { λ r. ⌜ r ≡ zeroes 4096 ⌝ }
+    ensures { λ r. ⌜ r ≡ replicate 4096 0 ⌝ }
 {
     [0; 4096]
 }
 
 // For its items.
 fn item_words() -> [u16; 65536]
-    ensures { λ r. ⌜ r ≡ zeroes 65536 ⌝ }
+    ensures { λ r. ⌜ r ≡ replicate 65536 0 ⌝ }
 {
     [0; 65536]
 }
 
 // For its groups.
 fn group_words() -> [u16; 20480]
-    ensures { λ r. ⌜ r ≡ zeroes 20480 ⌝ }
+    ensures { λ r. ⌜ r ≡ replicate 20480 0 ⌝ }
 {
     [0; 20480]
 }
 
 // For its labels.
 fn label_bytes() -> [u8; 20480]
-    ensures { λ r. ⌜ r ≡ zeroes 20480 ⌝ }
+    ensures { λ r. ⌜ r ≡ replicate 20480 0 ⌝ }
 {
     [0; 20480]
 }

@@ -2,7 +2,7 @@
 use Prim.Native.Nat.{ℕ, suc, _+_, _-_, _*_, _%_, _<_}
 use native.Mathlib.Omega.{arith}
 use mathlib.Core.Path.{_≡_, refl, sym, _∙_, ap}
-use mathlib.Core.List.{List, [], _∷_, _++_, map, append-assoc}
+use mathlib.Core.List.{List, [], _∷_, _++_, flatMap, append-assoc}
 use mathlib.Core.Bool.{Bool, true, false, _&&_, not}
 use mathlib.Core.Option.{Option, none, some, orElse}
 use lib.ListN.{length, length-append}
@@ -17,7 +17,7 @@ use Rattle.item.specs.Group.{Group}
 use Rattle.rows.specs.Rows.{itemWidth, marksOf, recordOf, rowOf, rowsIn, rowsOf, rowsLength}
 use Rattle.rows.proofs.RowLaws.{rows-length}
 use Rattle.pool.specs.Layout.{countOf, entryAt, entriesOf}
-use Rattle.standing.specs.Rows.{Placed, groupWidth, groupRow, groupRows, sweptFrom, itemRows}
+use Rattle.standing.specs.Rows.{Placed, groupWidth, groupRow, groupRows, placedBy, sweptFrom, itemRows}
 use Rattle.definition_line.specs.Lines.{startsLine, colonAfter, bareItem, onlyKey, defines, inLine, groupEnd, nextOpen, keyOf, definedKey}
 use Rattle.definition.specs.Defs.{Def, lineDef, entryDef, definesKey, lastLine, firstEntry, defOf}
 use Rattle.defined.specs.Lines.{definesIn, definesKeyIn, lineIn, lineDefIn}
@@ -29,7 +29,7 @@ use Rattle.entries.specs.Entries.{entryIn}
 use Rattle.entries.proofs.EntryLaws.{first-entry}
 use Rattle.records.specs.Records.{groupField, keyIn, suppressedIn, bareIn, closeOfRecord, nextIn}
 use Rattle.base.proofs.Lasts.{lastFrom, last-from, last-same}
-use Rattle.standing.proofs.Swept.{swept-length}
+use Rattle.standing.proofs.Swept.{groupsOf, placed-groups, placed-length}
 use Rattle.uses.proofs.Fields.{item-field, group-field, SameItems, SameGroups}
 
 -- areas whose records agree, but for numbers, uses, labels and standings -------------------------------------------------------------
@@ -121,7 +121,7 @@ one-key : (text key before : List ℕ) (integral : Bool) (is : List Item) (after
     → (s && eqb (length is) 1 && bareIn (before ++ (rowsIn integral is ++ after)) k && c)
     && same (keyIn text (before ++ (rowsIn integral is ++ after)) k) key
     ≡ (s && onlyKey is && c) && same (definedKey text is) key
-unfolding onlyKey definedKey rowsIn
+unfolding onlyKey definedKey flatMap
 one-key text key before integral [] after k true c h = refl
 one-key text key before integral [] after k false c h = refl
 one-key text key before integral (i ∷ []) after k s c h =
@@ -145,9 +145,6 @@ one-key text key before integral (i ∷ j ∷ more) after k s c h = rw (ne-eqb (
 pub regroup : (a b c d : List ℕ) → a ++ ((b ++ c) ++ d) ≡ (a ++ b) ++ (c ++ d)
 regroup a b c d = simp append-assoc
 
-abbrev pub groupsOf : List Placed → List Group
-groupsOf ps = map (λ (p : Placed). p .group) ps
-
 -- a group that closes after it opens
 abbrev pub Closes : Group → Type 0
 Closes g = g .at < g .close
@@ -162,7 +159,7 @@ pub record LieAt (groups items : List ℕ) (g k : ℕ) (ps : List Placed) (befor
 module _ (groups items : List ℕ) (g k : ℕ) (p : Placed) (ps : List Placed) (gb ga ib ia : List ℕ) (l : LieAt groups items g k (p ∷ ps) gb ga ib ia) where
   -- the group after the first
   pub lie-next : LieAt groups items (g + 1) (k + length (p .group .items)) ps (gb ++ groupRow k p) ga (ib ++ rowsOf (p .group)) ia
-  unfolding groupRows groupRow itemRows rowsOf rowsLength
+  unfolding groupRows groupRow flatMap rowsOf rowsLength
   lie-next = record {
     gcount = omega (arith, length-append gb (groupRow k p), l .gcount);
     icount = omega (arith, length-append ib (rowsOf (p .group)), rows-length (p .group), l .icount);
@@ -196,7 +193,7 @@ module _ (groups items : List ℕ) (g k : ℕ) (p : Placed) (ps : List Placed) (
   group-close h = rw (group-at, group-len) (omega arith)
 
   group-defines : (text key : List ℕ) → Closes (p .group) → definesKeyIn text groups items key g ≡ definesKey text key (p .group)
-  unfolding definesKeyIn definesIn definesKey defines itemRows rowsOf
+  unfolding definesKeyIn definesIn definesKey defines flatMap rowsOf
   group-defines text key h =
       rw (group-at, group-items, group-first, group-close h, l .iis, append-assoc (rowsOf (p .group)) (itemRows (groupsOf ps)) ia)
       (one-key text key ib (p .group .integral) (p .group .items) (itemRows (groupsOf ps) ++ ia) k
@@ -280,14 +277,9 @@ definition-placed text groups items ps ga ia pool key l c =
 
 -- the records that a sweep leaves ----------------------------------------------------------------------------------------------------
 
-pub swept-groups : (text : List ℕ) (before : Bool) (from : ℕ) (gs : List Group) → groupsOf (sweptFrom text before from gs) ≡ gs
-unfolding sweptFrom
-swept-groups text before from [] = refl
-swept-groups text before from (g ∷ gs) = ap (λ (hs : List Group). g ∷ hs) (swept-groups text (inLine text before from g) (groupEnd g) gs)
-
 swept-each : (P : Group → Type 0) (text : List ℕ) (before : Bool) (from : ℕ) (gs : List Group) → Each P gs
     → Each (λ (p : Placed). P (p .group)) (sweptFrom text before from gs)
-unfolding sweptFrom
+unfolding placedBy
 swept-each P text before from [] h = tt
 swept-each P text before from (g ∷ gs) h = (h .0, swept-each P text (inLine text before from g) (groupEnd g) gs (h .1))
 
@@ -297,13 +289,13 @@ lie-swept text all restG restI = record {
   gcount = refl;
   icount = refl;
   gis = refl;
-  iis = ap (λ (gs : List Group). itemRows gs ++ restI) (sym (swept-groups text false 0 all));
+  iis = ap (λ (gs : List Group). itemRows gs ++ restI) (sym (placed-groups _ text false 0 all));
 }
 
 pub definition-swept : (text : List ℕ) (all : List Group) (restG restI pool key : List ℕ) → Each Closes all
     → definitionIn text (groupRows 0 (sweptFrom text false 0 all) ++ restG) (itemRows all ++ restI) (length all) pool key ≡ defOf text all pool key
 definition-swept text all restG restI pool key h =
     ap (λ (n : ℕ). definitionIn text (groupRows 0 (sweptFrom text false 0 all) ++ restG) (itemRows all ++ restI) n pool key)
-    (sym (swept-length text false 0 all))
+    (sym (placed-length _ text false 0 all))
     ∙ definition-placed text _ _ (sweptFrom text false 0 all) restG restI pool key (lie-swept text all restG restI) (swept-each Closes text false 0 all h)
-    ∙ ap (λ (gs : List Group). defOf text gs pool key) (swept-groups text false 0 all)
+    ∙ ap (λ (gs : List Group). defOf text gs pool key) (placed-groups _ text false 0 all)

@@ -2,7 +2,7 @@
 use Prim.Native.Nat.{ℕ, zero, suc, _+_, _-_, _*_, _≤_, _<_}
 use native.Mathlib.Omega.{arith}
 use mathlib.Core.Path.{_≡_, refl, sym, _∙_}
-use mathlib.Core.List.{List, [], _∷_, _++_, append-assoc}
+use mathlib.Core.List.{List, [], _∷_, _++_, flatMap, append-assoc}
 use mathlib.Core.Bool.{Bool, true, false, not, true≢false}
 use lib.ListN.{length, set, length-append, length-set}
 use lib.Dec.{eqb, ltb}
@@ -25,7 +25,7 @@ use Rattle.numbering.proofs.ByLines.{key-same, definition-same}
 -- the records that a sweep leaves: none of them has a number ---------------------------------------------------------------------------
 
 rows-unnumbered : (integral : Bool) (is : List Item) (after : List ℕ) (j : ℕ) → j < length is → itemField (rowsIn integral is ++ after) j 12 ≡ 0
-unfolding rowsIn rowOf recordOf itemField
+unfolding flatMap rowOf recordOf itemField
 rows-unnumbered integral [] after j l = absurd (omega arith)
 rows-unnumbered integral (i ∷ is) after zero l = refl
 rows-unnumbered integral (i ∷ is) after (suc j) l =
@@ -34,7 +34,7 @@ rows-unnumbered integral (i ∷ is) after (suc j) l =
     (item-skip (rowOf integral i) (rowsIn integral is ++ after) 1 j 12 refl ∙ rows-unnumbered integral is after j (omega arith))
 
 swept-numbers : (gs : List Group) (after : List ℕ) (j : ℕ) → j < itemCount gs → itemField (itemRows gs ++ after) j 12 ≡ 0
-unfolding itemRows itemCount rowsOf rowsLength
+unfolding flatMap itemCount rowsOf rowsLength
 swept-numbers [] after j l = absurd (omega arith)
 swept-numbers (g ∷ gs) after j l =
     rw (append-assoc (rowsOf g) (itemRows gs) after) (go (ltb j n) refl (swept-numbers gs after (j - n)))
@@ -51,7 +51,7 @@ swept-numbers (g ∷ gs) after j l =
         rw e at (item-skip (rowsOf g) (itemRows gs ++ after) n (j - n) 12 (rows-length g) ∙ rec (omega arith))
 
 swept-room : (gs : List Group) (after : List ℕ) → itemWidth * itemCount gs ≤ length (itemRows gs ++ after)
-unfolding itemRows itemCount rowsOf rowsLength
+unfolding flatMap itemCount rowsOf rowsLength
 swept-room [] after = omega arith
 swept-room (g ∷ gs) after =
     rw (append-assoc (rowsOf g) (itemRows gs) after, length-append)

@@ -2,7 +2,7 @@
 use Prim.Native.Nat.{ℕ, suc, _+_, _-_, _*_, _≤_, _<_}
 use native.Mathlib.Omega.{arith}
 use mathlib.Core.Path.{_≡_, refl, sym, _∙_, ap}
-use mathlib.Core.List.{List, [], _∷_, _++_, append-nil}
+use mathlib.Core.List.{List, [], _∷_, _++_, flatMap, append-nil}
 use mathlib.Core.Bool.{Bool, true, false, true≢false}
 use lib.ListN.{length, take, drop, set, length-append}
 use Rattle.base.specs.Pick.{pick}
@@ -32,7 +32,7 @@ unfolding rowOf recordOf
 row-length b it = refl
 
 rows-in-length : (b : Bool) (its : List Item) → length (rowsIn b its) ≡ 16 * length its
-unfolding rowsIn
+unfolding flatMap
 rows-in-length b [] = refl
 rows-in-length b (it ∷ its) = simp (length-append, row-length, rows-in-length b its) (omega arith)
 
@@ -119,7 +119,7 @@ pub ruleset piece-row-laws = (item-narrow, piece-good, piece-bad)
 
 -- a piece and those after it
 kept-rows : (b : Bool) (r : Parsed) (rest : List Item) → rowsIn b (kept r rest) ≡ pieceRow b r ++ rowsIn b rest
-unfolding rowsIn pieceRow
+unfolding flatMap pieceRow
 kept-rows b (Good it) rest = refl
 kept-rows b Bad rest = refl
 
@@ -194,7 +194,7 @@ module _ {s : List ℕ} {p c : ℕ} {items₀ : List ℕ} {b : Bool} {items : Li
         }
 
     pub writing-end : c ≤ q → take n items ++ (x ++ drop (length items - n) (drop n items)) ≡ written (rowsOf (groupOf s p c)) items₀
-    unfolding rowsIn
+    unfolding flatMap
     writing-end h =
         let r = pieceRow b (itemOf s from q) in
         let g = rw (items-last s from c d h, kept-rows b (itemOf s from q) [], append-nil r) at (w .gives) in

@@ -2,7 +2,7 @@
 -- marks (1 suppressed, 2 integral, added); number; use; label pair into the label bytes."
 use Prim.Native.Nat.{ℕ, _+_, _*_, _≤_, _<_}
 use mathlib.Core.Path.{_≡_}
-use mathlib.Core.List.{List, [], _∷_, _++_}
+use mathlib.Core.List.{List, [], _∷_, _++_, flatMap}
 use mathlib.Core.Bool.{Bool, true}
 use lib.ListN.{length, set}
 use Rattle.base.specs.Pick.{pick}
@@ -34,9 +34,8 @@ unfoldable pub rowOf : Bool → Item → List ℕ
 rowOf integral it = recordOf integral it 0 0 missing
 
 -- the records of some items
-unfoldable pub rowsIn : Bool → List Item → List ℕ
-rowsIn integral [] = []
-rowsIn integral (it ∷ its) = rowOf integral it ++ rowsIn integral its
+abbrev pub rowsIn : Bool → List Item → List ℕ
+rowsIn integral = flatMap (rowOf integral)
 
 -- the records of a group's items, one after the other
 unfoldable pub rowsOf : Group → List ℕ

@@ -1,20 +1,14 @@
 -- What the writers require, parts that lie in the pool and room for what is written, and what they leave.
 use Prim.Native.Nat.{ℕ, _≤_, _<_}
-use mathlib.Core.Path.{_≡_}
 use mathlib.Core.List.{List}
 use lib.ListN.{length, take}
 use Rattle.pool.specs.declared.NameParts.{NameParts}
 use Rattle.base.specs.Fold.{fold}
-use Rattle.base.specs.Lists.{byteAt, written}
+use Rattle.base.specs.Lists.{byteAt}
 use Rattle.pool.specs.Fields.{fieldsOf}
 use Rattle.pool.specs.Entries.{nameAt}
 use Rattle.pool.specs.Places.{Inside, nameAtParts, FieldsIn}
 use Rattle.source_text.specs.Text.{beside, addName}
-
--- `out` stands at the front of an area that was `before`, and is `r` bytes
-pub record Wrote (out before after : List ℕ) (r : ℕ) : Type 0 where
-  pub count : r ≡ length out
-  pub area : after ≡ written out before
 
 -- `b` has room beside the first `k` bytes of an area, with `sep` between them
 pub record Fit (area sep b : List ℕ) (k : ℕ) : Type 0 where

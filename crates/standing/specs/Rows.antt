@@ -1,6 +1,6 @@
 -- The records of a sweep: its groups with their standing, and their items.
 use Prim.Native.Nat.{ℕ, _+_, _-_}
-use mathlib.Core.List.{List, [], _∷_, _++_}
+use mathlib.Core.List.{List, [], _∷_, _++_, flatMap}
 use mathlib.Core.Bool.{Bool}
 use lib.ListN.{length}
 use Rattle.base.specs.Pick.{pick}
@@ -36,12 +36,16 @@ unfoldable pub itemCount : List Group → ℕ
 itemCount [] = 0
 itemCount (g ∷ gs) = length (g .items) + itemCount gs
 
--- What is known of a group's standing in the sweep: 0 in a definition line, and 1 elsewhere until its keys are known to be defined. The
--- group before these ended at `from`, and `before` says whether it stood in a definition line.
-unfoldable pub sweptFrom : List ℕ → Bool → ℕ → List Group → List Placed
-sweptFrom text before from [] = []
-sweptFrom text before from (g ∷ gs) =
-    placed g (pick (inLine text before from g) 0 1) ∷ sweptFrom text (inLine text before from g) (groupEnd g) gs
+-- Groups of the sweep, each with its standing: what `standing` gives for it, by whether it stands in a definition line. The group before
+-- these ended at `from`, and `before` says whether it stood in a definition line.
+unfoldable pub placedBy : (Bool → Group → ℕ) → List ℕ → Bool → ℕ → List Group → List Placed
+placedBy standing text before from [] = []
+placedBy standing text before from (g ∷ gs) =
+    placed g (standing (inLine text before from g) g) ∷ placedBy standing text (inLine text before from g) (groupEnd g) gs
+
+-- What is known of a group's standing in the sweep: 0 in a definition line, and 1 elsewhere until its keys are known to be defined.
+abbrev pub sweptFrom : List ℕ → Bool → ℕ → List Group → List Placed
+sweptFrom = placedBy (λ inside g. pick inside 0 1)
 
 -- whether the last of some groups stands in a definition line
 unfoldable pub insideAfter : List ℕ → Bool → ℕ → List Group → Bool
@@ -54,6 +58,5 @@ endAfter from [] = from
 endAfter from (g ∷ gs) = endAfter (groupEnd g) gs
 
 -- the records of the groups' items, none of them numbered
-unfoldable pub itemRows : List Group → List ℕ
-itemRows [] = []
-itemRows (g ∷ gs) = rowsOf g ++ itemRows gs
+abbrev pub itemRows : List Group → List ℕ
+itemRows = flatMap rowsOf

@@ -2,7 +2,7 @@
 use Prim.Native.Nat.{ℕ, _+_, _*_, _≤_}
 use native.Mathlib.Omega.{arith}
 use mathlib.Core.Path.{_≡_, refl, sym, _∙_, ap}
-use mathlib.Core.List.{List, [], _∷_, _++_, append-assoc}
+use mathlib.Core.List.{List, [], _∷_, _++_, flatMap, append-assoc}
 use mathlib.Core.Bool.{Bool, true, false, _&&_, and-false}
 use lib.ListN.{length, length-append}
 use lib.Dec.{leb}
@@ -15,9 +15,9 @@ use Rattle.rows.specs.Rows.{rowsOf, rowsLength}
 use Rattle.rows.proofs.RowLaws.{rows-length}
 use Rattle.definition_line.specs.Lines.{inLine, groupEnd}
 use Rattle.group_records.specs.declared.SweepState.{SweepState}
-use Rattle.standing.proofs.Swept.{swept-length}
+use Rattle.standing.proofs.Swept.{placed-length}
 use Rattle.sweep.specs.Sweep.{Lent, Swept, lentAfter, sweepRun}
-use Rattle.standing.specs.Rows.{Placed, placed, groupRow, groupRows, itemCount, itemRows, sweptFrom, insideAfter, endAfter}
+use Rattle.standing.specs.Rows.{Placed, placed, groupRow, groupRows, itemCount, itemRows, placedBy, sweptFrom, insideAfter, endAfter}
 use Rattle.sweep.specs.Stops.{stopFrom, startState, SweptTo}
 use Rattle.group_records.specs.Areas.{writtenAt}
 use Rattle.group_records.specs.Recording.{recordsFit, Counted, Recorded}
@@ -29,7 +29,7 @@ use Rattle.sweep.proofs.Stops.{sweep-in-two}
 -- item records ---------------------------------------------------------------------------------------------------------------------
 
 pub item-rows-length : (gs : List Group) → length (itemRows gs) ≡ 16 * itemCount gs
-unfolding itemRows itemCount rowsLength
+unfolding flatMap itemCount rowsLength
 item-rows-length [] = refl
 item-rows-length (g ∷ gs) =
     let h = item-rows-length gs in
@@ -37,7 +37,7 @@ item-rows-length (g ∷ gs) =
     rw length-append (omega arith)
 
 pub item-rows-append : (gs hs : List Group) → itemRows (gs ++ hs) ≡ itemRows gs ++ itemRows hs
-unfolding itemRows
+unfolding flatMap
 item-rows-append [] hs = refl
 item-rows-append (g ∷ gs) hs = rw (item-rows-append gs hs) (sym (append-assoc (rowsOf g) (itemRows gs) (itemRows hs)))
 
@@ -60,7 +60,7 @@ module _ (text : List ℕ) where
       → groupRows n (sweptFrom text before from (gs ++ hs))
       ≡ groupRows n (sweptFrom text before from gs)
       ++ groupRows (n + itemCount gs) (sweptFrom text (insideAfter text before from gs) (endAfter from gs) hs)
-  unfolding sweptFrom insideAfter endAfter groupRows itemCount
+  unfolding placedBy insideAfter endAfter groupRows itemCount
   group-rows-append n before from [] hs = let z : n + 0 ≡ n = omega arith in rw z
   group-rows-append n before from (g ∷ gs) hs =
       let z : n + length (g .items) + itemCount gs ≡ n + (length (g .items) + itemCount gs) = omega arith in
@@ -102,7 +102,7 @@ module _ (n g m k items groups : ℕ) (h : n ≤ m) (i : g ≤ k) where
 pub recorded-none : (text : List ℕ) (s : SweepState) (items groups : List ℕ)
     → (s .fits ≡ true → recordsFit (s .items) (s .groups) (length items) (length groups) ≡ true)
     → Recorded text [] s items groups s items groups
-unfolding itemCount insideAfter endAfter itemRows sweptFrom groupRows
+unfolding itemCount insideAfter endAfter flatMap placedBy groupRows
 recorded-none text s items groups room = record {
   group-count = omega arith;
   item-count = omega arith;
@@ -158,7 +158,7 @@ module _ (text : List ℕ) (gs hs : List Group) (s r t : SweepState) (items grou
   group-room h =
       let x = leb-true (5 * r .groups) (length groups) (and-right (leb (16 * r .items) (length items)) _ (room h)) in
       let y = group-rows-length (s .items) (sweptFrom text (s .inside) (s .from) gs) in
-      let w = swept-length text (s .inside) (s .from) gs in
+      let w : length (sweptFrom text (s .inside) (s .from) gs) ≡ length gs = placed-length _ text (s .inside) (s .from) gs in
       let z = a .group-count in
       omega arith
 
@@ -174,7 +174,7 @@ module _ (text : List ℕ) (gs hs : List Group) (s r t : SweepState) (items grou
       → groups'' ≡ writtenAt (5 * s .groups) (groupRows (s .items) (sweptFrom text (s .inside) (s .from) (gs ++ hs))) groups
   all-groups h =
       let y = group-rows-length (s .items) (sweptFrom text (s .inside) (s .from) gs) in
-      let w = swept-length text (s .inside) (s .from) gs in
+      let w : length (sweptFrom text (s .inside) (s .from) gs) ≡ length gs = placed-length _ text (s .inside) (s .from) gs in
       let z = a .group-count in
       b .group-rows h
       ∙ rw (a .group-rows (fit-before h), a .item-count, a .line, a .end, group-rows-append text (s .items) (s .inside) (s .from) gs hs)

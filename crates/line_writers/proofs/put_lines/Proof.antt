@@ -4,8 +4,7 @@ use mathlib.Core.Path.{_≡_}
 use lib.ListN.{length, drop}
 use borrow.Author.Needs.{needs}
 use Rattle.line_writers.proofs.Lines.{lines-laws}
-use Rattle.line_writers.specs.Lines.{itemLines}
-use Rattle.line_writers.specs.Writes.{linesOf}
+use Rattle.line_writers.specs.Lines.{itemLines, linesOf}
 use Rattle.line_writers.proofs.Puts.{Along}
 use Rattle.line_writers.proofs.put_lines.Statement.{statement}
 use Rattle.line_writers.proofs.put_lines.Tie as tie
