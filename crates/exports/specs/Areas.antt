@@ -19,8 +19,8 @@ use Rattle.annotation.specs.Call.{AnnotateRan, annotateRun}
 use Rattle.annotation.specs.Values.{annotationNumbers}
 
 -- `answer` has room for `n` numbers
-abbrev pub roomFor : ℕ → List ℕ → Bool
-roomFor n answer = leb n (length answer)
+abbrev pub hasRoom : ℕ → List ℕ → Bool
+hasRoom n answer = leb n (length answer)
 
 -- The areas that a look-up is lent. Its answer is the number, then "the place of the close, the item count and the note".
 pub record LookUpAreas : Type 0 where
@@ -40,7 +40,7 @@ lookUpDone ran answer = lookUpAreas (ran .index) (ran .records) (ran .answer .it
 -- run where `answer` has room for its four numbers, else untouched
 unfoldable pub afterLookUp : List ℕ → ℕ → ℕ → LookUpAreas → LookUpAreas
 afterLookUp text at note lent =
-    pick (roomFor 4 (lent .answer)) (lookUpDone (lookUpRun text at note (lent .index) (lent .records) (lent .items)) (lent .answer)) lent
+    pick (hasRoom 4 (lent .answer)) (lookUpDone (lookUpRun text at note (lent .index) (lent .records) (lent .items)) (lent .answer)) lent
 
 -- The areas that an annotation is lent. Its answer is the number, then "the counts of groups, items, sources and label bytes, and the note".
 pub record AnnotateAreas : Type 0 where
@@ -60,17 +60,17 @@ annotateDone ran answer = annotateAreas (ran .index) (ran .records) (ran .answer
 -- run where `answer` has room for its six numbers, else untouched
 unfoldable pub afterAnnotate : List ℕ → ℕ → List ℕ → ℕ → AnnotateAreas → AnnotateAreas
 afterAnnotate text mode pool note lent =
-    pick (roomFor 6 (lent .answer))
+    pick (hasRoom 6 (lent .answer))
     (annotateDone (annotateRun text mode pool note (lent .index) (lent .records) (lent .areas)) (lent .answer))
     lent
 
 -- the size call: number and records
 unfoldable pub afterSize : List ℕ → List ℕ → List ℕ
-afterSize text answer = pick (roomFor 2 answer) (written (sizeNumbers (sizeCall text)) answer) answer
+afterSize text answer = pick (hasRoom 2 answer) (written (sizeNumbers (sizeCall text)) answer) answer
 
 -- the locator call: number, "label code, value pair and suffix pair"
 unfoldable pub afterLocator : List ℕ → List ℕ → List ℕ
-afterLocator text answer = pick (roomFor 6 answer) (written (locatorNumbers (locatorCall text)) answer) answer
+afterLocator text answer = pick (hasRoom 6 answer) (written (locatorNumbers (locatorCall text)) answer) answer
 
 -- The areas that a source text call is lent. Its answer is the number and "the bytes written".
 pub record SourceAreas : Type 0 where
@@ -87,4 +87,4 @@ sourceDone ran answer = sourceAreas (ran .area) (written (sourceTextNumbers ran)
 
 -- run where `answer` has room for its two numbers, else untouched
 unfoldable pub afterSourceText : List ℕ → ℕ → SourceAreas → SourceAreas
-afterSourceText pool entry lent = pick (roomFor 2 (lent .answer)) (sourceDone (sourceTextCall pool entry (lent .area)) (lent .answer)) lent
+afterSourceText pool entry lent = pick (hasRoom 2 (lent .answer)) (sourceDone (sourceTextCall pool entry (lent .area)) (lent .answer)) lent
