@@ -1,4 +1,4 @@
--- What `list` makes ready for the call, and what it leaves in the area that it is lent.
+-- What `list` makes ready for the call, and a count of bytes at the front of an area.
 use Prim.Native.Nat.{ℕ, _*_, _≤_}
 use mathlib.Core.Path.{_≡_}
 use mathlib.Core.List.{List}
