@@ -23,8 +23,8 @@ use Rattle.lookup.specs.declared.Prepared.the-variants.{Refused as NotRe
 use Rattle.resolve.specs.Groups.{GroupAnswer, Found, NoGroup, judge}
 use Rattle.item.specs.Group.{groupOf}
 use Rattle.rows.specs.Rows.{rowsOf, rowsLength}
-use Rattle.resolve.specs.Resolve.{closeAsRun, wantsBuild, groupAsRun, noteAfter, indexAfter, recordsAfter}
-use Rattle.resolve.specs.Looks.{lookOf, isBuild, closeAfter, matched, Inside}
+use Rattle.resolve.specs.Resolve.{lookOf, isBuild, closeAfter, closeAsRun, wantsBuild, groupAsRun, noteAfter, indexAfter, recordsAfter}
+use Rattle.resolve.specs.Looks.{matched, Inside}
 use Rattle.lookup.specs.Refusals.{lookUpRefusal}
 use Rattle.lookup.specs.LookUps.{lookUpRefused, lookUpGives, lookUpAnswers, lookedUp, lookUpBuilds, ranWith, lookUpRun}
 use Rattle.lookup.specs.Values.{lookUpValues, lookUpNumbers}

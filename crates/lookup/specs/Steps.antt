@@ -11,8 +11,8 @@ use Rattle.lookup.specs.declared.Prepared.{Prepared}
 use Rattle.lookup.specs.declared.Prepared.the-variants.{Refused as NotReady, Ready}
 use Rattle.resolve.specs.Groups.{GroupAnswer, Found, NoGroup, judge}
 use Rattle.rows.specs.Rows.{rowsLength}
-use Rattle.resolve.specs.Resolve.{noteAfter}
-use Rattle.resolve.specs.Looks.{lookOf, isBuild, closeAfter, LookInside}
+use Rattle.resolve.specs.Resolve.{lookOf, isBuild, closeAfter, noteAfter}
+use Rattle.resolve.specs.Looks.{LookInside}
 use Rattle.lookup.specs.Refusals.{lookUpRefusal}
 use Rattle.lookup.specs.LookUps.{lookUpAnswers}
 
@@ -21,7 +21,7 @@ unfoldable pub preparedOf : List ℕ → ℕ → ℕ → List ℕ → ℕ → Pr
 preparedOf s at note index m =
     pick (eqb (lookUpRefusal s at (length index) m) 0) (Ready (lookOf s at note index)) (NotReady (lookUpRefusal s at (length index) m))
 
--- the prepared look-up asks for a build (`wantsBuild` of the crate `resolve` says the same of a bracket)
+-- the prepared look-up asks for a build
 unfoldable pub preparedWants : Prepared → Bool
 preparedWants (NotReady number) = false
 preparedWants (Ready l) = isBuild l

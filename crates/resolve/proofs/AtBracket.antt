@@ -21,9 +21,11 @@ use Rattle.index.specs.Entries.{opensAt, entryFor, indexAt, indexOf}
 use Rattle.item.specs.Group.{goodItems, groupOf}
 use Rattle.index.specs.Built.{builtIndex}
 use Rattle.resolve.specs.Groups.{Found, NoGroup, groupAccepted, barred, judge, groupAt}
-use Rattle.resolve.specs.Resolve.{asClose, storedClose, shortLook, orElse, closeAsRun, groupAsRun}
+use Rattle.resolve.specs.declared.Look.the-variants.{Nothing as LookNothing, Build}
+use Rattle.resolve.specs.Resolve.{asClose, storedClose, shortLook, settled, shortened, lookOf, closeAfter, closeAsRun, groupAsRun}
 use Rattle.index.proofs.Built.{take-built}
 use Rattle.resolve.specs.Facts.{BracketTrue}
+use Rattle.resolve.proofs.Runs.{settled-after}
 
 -- an unescaped `[` is in the text
 pub opens-in : (s : List ℕ) (p : ℕ) → opensAt s p ≡ true → p < length s
@@ -100,25 +102,22 @@ unfolding shortLook
 look-all s p h = sym (close-all s p 64 h)
 
 pub bracket-true : BracketTrue
-unfolding groupAsRun groupAt closeAsRun
+unfolding groupAsRun groupAt closeAsRun lookOf shortened closeAfter
 bracket-true s p note index left len o = go (eqb note 1) refl
   where
-    by-built : judge s p (storedClose s p (builtIndex s index)) ≡ judge s p (closeOf s p)
-    by-built = by-stored s (builtIndex s index) p o (opens-in s p o) (take-built s index)
+    built : List ℕ
+    built = builtIndex s index
 
     few : (b : Bool) → leb (length s - p) 64 ≡ b → shortLook s p ≡ Nothing
-        → judge s p (pick b Nothing (storedClose s p (builtIndex s index))) ≡ judge s p (closeOf s p)
+        → judge s p (closeAfter s p built (pick b LookNothing Build)) ≡ judge s p (closeOf s p)
     few true q e = ap (judge s p) (sym (look-all s p (leb-true (length s - p) 64 q) ∙ e))
-    few false q e = by-built
+    few false q e = by-stored s built p o (opens-in s p o) (take-built s index)
 
-    short : (c : Close) → shortLook s p ≡ c
-        → judge s p (orElse c (pick (leb (length s - p) 64) Nothing (storedClose s p (builtIndex s index)))) ≡ judge s p (closeOf s p)
+    short : (c : Close) → shortLook s p ≡ c → judge s p (closeAfter s p built (shortened s p c)) ≡ judge s p (closeOf s p)
     short (At c) e = ap (judge s p) (sym (look-true s p c e))
     short Nothing e = few (leb (length s - p) 64) refl e
 
     go : (b : Bool) → eqb note 1 ≡ b
-        → judge s p (pick b (storedClose s p index)
-        (orElse (shortLook s p) (pick (leb (length s - p) 64) Nothing (storedClose s p (builtIndex s index)))))
-        ≡ judge s p (closeOf s p)
-    go true q = by-stored s index p o (opens-in s p o) (left (eqb-true note 1 q) len)
+        → judge s p (closeAfter s p built (pick b (settled (storedClose s p index)) (shortened s p (shortLook s p)))) ≡ judge s p (closeOf s p)
+    go true q = ap (judge s p) (settled-after s p built (storedClose s p index)) ∙ by-stored s index p o (opens-in s p o) (left (eqb-true note 1 q) len)
     go false q = short (shortLook s p) refl

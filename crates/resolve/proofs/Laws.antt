@@ -23,8 +23,8 @@ use Rattle.resolve.specs.declared.Look.{Look}
 use Rattle.resolve.specs.declared.Look.the-variants.{At as LookAt, Nothing as LookNothing, Build}
 use Rattle.resolve.specs.declared.Matched.the-variants.{Group as MatchedGroup, Nothing as NotMatched}
 use Rattle.resolve.specs.Groups.{barred, groupAccepted, judge}
-use Rattle.resolve.specs.Resolve.{isBuilt, asClose, storedClose, shortLook}
-use Rattle.resolve.specs.Looks.{settled, shortened, lookOf, closeAfter, matched, Inside, LookInside}
+use Rattle.resolve.specs.Resolve.{isBuilt, asClose, storedClose, shortLook, settled, shortened, lookOf, closeAfter}
+use Rattle.resolve.specs.Looks.{matched, Inside, LookInside}
 
 -- what an index has for a bracket --------------------------------------------------------------------------------------------------
 

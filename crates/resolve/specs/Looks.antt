@@ -1,11 +1,8 @@
--- One bracket as the code resolves it: what it gives before a build, and its close after one.
-use Prim.Native.Nat.{ℕ, _-_, _<_}
+-- What the code says of a bracket: the group at it by its close and its count, and where a close lies.
+use Prim.Native.Nat.{ℕ, _<_}
 use mathlib.Core.Path.{_≡_}
 use mathlib.Core.List.{List}
-use mathlib.Core.Bool.{Bool, true, false}
 use lib.ListN.{length}
-use lib.Dec.{leb}
-use Rattle.base.specs.Pick.{pick}
 use Rattle.base.specs.Lists.{byteAt}
 use Rattle.close.specs.declared.Close.{Close}
 use Rattle.close.specs.declared.Close.the-variants.{At, Nothing}
@@ -14,33 +11,6 @@ use Rattle.resolve.specs.declared.Look.the-variants.{At as LookAt, Nothi
 use Rattle.resolve.specs.declared.Matched.{Matched}
 use Rattle.resolve.specs.declared.Matched.the-variants.{Group as MatchedGroup, Nothing as NotMatched}
 use Rattle.resolve.specs.Groups.{GroupAnswer, Found, NoGroup}
-use Rattle.resolve.specs.Resolve.{isBuilt, storedClose, shortLook}
-
--- a look that needs no build
-abbrev pub settled : Close → Look
-settled (At c) = LookAt c
-settled Nothing = LookNothing
-
--- "else a look at 64 bytes from the bracket; else no group when at most 64 are left; else build the index"
-unfoldable pub shortened : List ℕ → ℕ → Close → Look
-shortened s p (At c) = LookAt c
-shortened s p Nothing = pick (leb (length s - p) 64) LookNothing Build
-
--- "Index if built; else .."
-unfoldable pub lookOf : List ℕ → ℕ → ℕ → List ℕ → Look
-lookOf s p note index = pick (isBuilt note) (settled (storedClose s p index)) (shortened s p (shortLook s p))
-
--- a look that asks for a build
-abbrev pub isBuild : Look → Bool
-isBuild (LookAt c) = false
-isBuild LookNothing = false
-isBuild Build = true
-
--- the close of the bracket at `p`, the index being as it is after a build, if one was wanted
-unfoldable pub closeAfter : List ℕ → ℕ → List ℕ → Look → Close
-closeAfter s p index (LookAt c) = At c
-closeAfter s p index LookNothing = Nothing
-closeAfter s p index Build = storedClose s p index
 
 -- a group by the place of its close and the count of its items
 unfoldable pub matched : GroupAnswer → Matched

@@ -11,6 +11,8 @@ use Rattle.close.specs.declared.Close.the-variants.{At, Nothing}
 use Rattle.close.specs.Scan.{closeWithin}
 use Rattle.index.specs.Built.{builtIndex}
 unfoldable pub use Rattle.index.specs.Built.{indexAfter, recordsAfter}
+use Rattle.resolve.specs.declared.Look.{Look}
+use Rattle.resolve.specs.declared.Look.the-variants.{At as LookAt, Nothing as LookNothing, Build}
 use Rattle.resolve.specs.Groups.{GroupAnswer, judge}
 
 -- "The note .. is 1 for built and all else for not built"
@@ -30,27 +32,40 @@ storedClose s p index = asClose s p (getD index p 0)
 unfoldable pub shortLook : List ℕ → ℕ → Close
 shortLook s p = closeWithin 64 s p
 
--- the first close that is there
-abbrev pub orElse : Close → Close → Close
-orElse (At c) d = At c
-orElse Nothing d = d
+-- what an index says, once it is built
+abbrev pub settled : Close → Look
+settled (At c) = LookAt c
+settled Nothing = LookNothing
 
--- no close was found
-abbrev pub isNothing : Close → Bool
-isNothing (At c) = false
-isNothing Nothing = true
+-- what the look at 64 bytes says
+unfoldable pub shortened : List ℕ → ℕ → Close → Look
+shortened s p (At c) = LookAt c
+shortened s p Nothing = pick (leb (length s - p) 64) LookNothing Build
 
--- "Index if built; else a look at 64 bytes from the bracket; else no group when at most 64 are left; else build the index."
+-- "Index if built; else a look at 64 bytes from the bracket; else no group when at most 64 are left; else build the index.": the close of the
+-- bracket at `p`, none, or that the index is to be built
+unfoldable pub lookOf : List ℕ → ℕ → ℕ → List ℕ → Look
+lookOf s p note index = pick (isBuilt note) (settled (storedClose s p index)) (shortened s p (shortLook s p))
+
+-- a look that asks for a build
+abbrev pub isBuild : Look → Bool
+isBuild (LookAt c) = false
+isBuild LookNothing = false
+isBuild Build = true
+
+-- the close that a look gives, the index being as it is after a build, if one was wanted
+unfoldable pub closeAfter : List ℕ → ℕ → List ℕ → Look → Close
+closeAfter s p index (LookAt c) = At c
+closeAfter s p index LookNothing = Nothing
+closeAfter s p index Build = storedClose s p index
+
+-- the close of the bracket at `p` as run
 unfoldable pub closeAsRun : List ℕ → ℕ → ℕ → List ℕ → Close
-closeAsRun s p note index =
-    pick (isBuilt note) (storedClose s p index)
-    (orElse (shortLook s p)
-    (pick (leb (length s - p) 64) Nothing
-    (storedClose s p (builtIndex s index))))
+closeAsRun s p note index = closeAfter s p (builtIndex s index) (lookOf s p note index)
 
--- whether the bracket at `p` comes to the last of these
+-- whether that builds the index; what the index held does not matter
 unfoldable pub wantsBuild : List ℕ → ℕ → ℕ → Bool
-wantsBuild s p note = not (isBuilt note) && isNothing (shortLook s p) && ltb 64 (length s - p)
+wantsBuild s p note = not (isBuilt note) && isBuild (shortened s p (shortLook s p))
 
 -- the group at `p` as run
 unfoldable pub groupAsRun : List ℕ → ℕ → ℕ → List ℕ → GroupAnswer

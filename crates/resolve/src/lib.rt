@@ -9,8 +9,8 @@ ghost use mathlib.Core.Path.{_≡_};
 ghost use Prim.Native.Nat.{_<_};
 ghost use lib.ListN.{length};
 ghost use Rattle.resolve.specs.Groups.{barred, judge};
-ghost use Rattle.resolve.specs.Resolve.{storedClose};
-ghost use Rattle.resolve.specs.Looks.{settled, shortened, lookOf, closeAfter, matched, Inside};
+ghost use Rattle.resolve.specs.Resolve.{storedClose, settled, shortened, lookOf, closeAfter};
+ghost use Rattle.resolve.specs.Looks.{matched, Inside};
 
 // What a bracket gives before any build: the place of its close, none, or that the index has to be built first.
 pub enum Look {

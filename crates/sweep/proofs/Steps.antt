@@ -17,8 +17,8 @@ use Rattle.resolve.specs.declared.Look.the-variants.{At as LookAt, Nothing as L
 use Rattle.resolve.specs.declared.Matched.{Matched}
 use Rattle.resolve.specs.declared.Matched.the-variants.{Group as MatchedGroup, Nothing as NotMatched}
 use Rattle.resolve.specs.Groups.{GroupAnswer, Found, NoGroup, judge}
-use Rattle.resolve.specs.Resolve.{closeAsRun, groupAsRun, wantsBuild}
-use Rattle.resolve.specs.Looks.{lookOf, isBuild, closeAfter, matched, Inside}
+use Rattle.resolve.specs.Resolve.{lookOf, isBuild, closeAfter, closeAsRun, groupAsRun, wantsBuild}
+use Rattle.resolve.specs.Looks.{matched, Inside}
 use Rattle.resolve.proofs.Laws.{look-inside}
 use Rattle.resolve.proofs.Runs.{look-wants, look-close}
 use Rattle.sweep.specs.Sweep.{foundWith, wantsAt}

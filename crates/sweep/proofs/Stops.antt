@@ -3,23 +3,25 @@ use Prim.Native.Nat.{ℕ, zero, suc, _-_, _≤_, _<_}
 use native.Mathlib.Omega.{arith}
 use mathlib.Core.Path.{_≡_, refl, sym, _∙_, ap}
 use mathlib.Core.List.{List, [], _++_, append-nil, append-assoc}
-use mathlib.Core.Bool.{Bool, true, false, _&&_, not}
+use mathlib.Core.Bool.{Bool, true, false, _&&_, not, true≢false}
 use lib.ListN.{length}
-use lib.Dec.{eqb, leb, ltb}
-use borrow.Author.Tests.{ltb-true, ltb-false, leb-true, le-ltb}
+use lib.Dec.{eqb, ltb}
+use borrow.Author.Tests.{ltb-true, ltb-false, le-ltb}
 use Rattle.base.specs.Pick.{pick}
 use Rattle.close.specs.declared.Close.{Close}
 use Rattle.close.specs.declared.Close.the-variants.{At, Nothing}
 use Rattle.index.specs.Entries.{opensAt}
 use Rattle.index.specs.Built.{builtIndex}
+use Rattle.resolve.specs.declared.Look.{Look}
+use Rattle.resolve.specs.declared.Look.the-variants.{At as LookAt, Nothing as LookNothing, Build}
 use Rattle.resolve.specs.Groups.{GroupAnswer, Found, NoGroup, groupAccepted, judge}
 use Rattle.item.specs.Group.{Group, groupOf}
-use Rattle.resolve.specs.Resolve.{storedClose, shortLook, orElse, isNothing, closeAsRun, groupAsRun, wantsBuild, noteAfter, indexAfter, recordsAfter}
+use Rattle.resolve.specs.Resolve.{storedClose, shortLook, settled, shortened, lookOf, isBuild, closeAfter, closeAsRun, groupAsRun, wantsBuild, noteAfter, indexAfter, recordsAfter}
 use Rattle.sweep.specs.Sweep.{Lent, swept, listed, nextAt, lentAfter, foundRun, buildsAt, sweepRunIn, sweepRun, foundWith, wantsAt}
 use Rattle.sweep.specs.Stops.{Stop, stop, after, stopIn, stopFrom}
 use Rattle.sweep.specs.Facts.{goneOn, SweepInTwo}
 use Rattle.resolve.specs.Looks.{Inside}
-use Rattle.resolve.proofs.Runs.{run-inside}
+use Rattle.resolve.proofs.Runs.{settled-after, run-inside}
 
 -- a sweep goes on by a byte or more
 next-judged : (s : List ℕ) (p : ℕ) (c : Close) → Inside s p c → p < nextAt p (judge s p c)
@@ -115,35 +117,20 @@ module _ (text : List ℕ) where
 
   -- a bracket that wants a build gives, as run, what it gives once the index is built
   build-same : (at : ℕ) (l : Lent) → buildsAt text at l ≡ true → foundRun text at l ≡ foundWith text 1 (builtIndex text (l .index)) at
-  unfolding wantsAt wantsBuild foundWith groupAsRun closeAsRun
-  build-same at l h = go (opensAt text at) (eqb (l .note) 1) (shortLook text at) (ltb 64 (length text - at)) refl h
+  unfolding wantsAt wantsBuild foundWith groupAsRun closeAsRun lookOf closeAfter
+  build-same at l h = go (opensAt text at) (eqb (l .note) 1) (shortened text at (shortLook text at)) h
     where
-      stored : Close
-      stored = storedClose text at (builtIndex text (l .index))
+      built : List ℕ
+      built = builtIndex text (l .index)
 
-      few : (leb (length text - at) 64 ≡ true → ⊥) → pick (leb (length text - at) 64) Nothing stored ≡ stored
-      few g = pass (leb (length text - at) 64) refl
-        where
-          pass : (t : Bool) → leb (length text - at) 64 ≡ t → pick t Nothing stored ≡ stored
-          pass true q = absurd (g q)
-          pass false q = refl
-
-      go : (o b : Bool) (c : Close) (t : Bool) → ltb 64 (length text - at) ≡ t → o && (not b && isNothing c && t) ≡ true
-          → pick o (judge text at (pick b (storedClose text at (l .index)) (orElse c (pick (leb (length text - at) 64) Nothing stored)))) NoGroup
-          ≡ pick o (judge text at stored) NoGroup
-      go false b c t q e = refl
-      go true true c t q e = absurd (let w : _≡_ {A = Bool} false true = e in no w)
-        where
-          no : _≡_ {A = Bool} false true → ⊥
-          no w = let z : _≡_ {A = ℕ} 0 1 = cc in omega arith
-      go true false (At c) t q e = absurd (let w : _≡_ {A = Bool} false true = e in no w)
-        where
-          no : _≡_ {A = Bool} false true → ⊥
-          no w = let z : _≡_ {A = ℕ} 0 1 = cc in omega arith
-      go true false Nothing t q e = ap (judge text at) (few (λ g. above g (ltb-true _ _ (q ∙ e))))
-        where
-          above : leb (length text - at) 64 ≡ true → 64 < length text - at → ⊥
-          above g k = let z = leb-true (length text - at) 64 g in omega arith
+      go : (o b : Bool) (k : Look) → o && (not b && isBuild k) ≡ true
+          → pick o (judge text at (closeAfter text at built (pick b (settled (storedClose text at (l .index))) k))) NoGroup
+          ≡ pick o (judge text at (closeAfter text at (builtIndex text built) (settled (storedClose text at built)))) NoGroup
+      go false b k e = refl
+      go true true k e = absurd (true≢false (sym e))
+      go true false (LookAt c) e = absurd (true≢false (sym e))
+      go true false LookNothing e = absurd (true≢false (sym e))
+      go true false Build e = ap (judge text at) (sym (settled-after text at (builtIndex text built) (storedClose text at built)))
 
   -- at the end nothing more is found
   at-end : (so-far : List Group) (at : ℕ) (l : Lent) → length text ≤ at → swept so-far l ≡ goneOn text so-far l (stop [] at false)
