@@ -17,12 +17,11 @@ use Rattle.uses.specs.declared.Count.{Count}
 abbrev pub usedAt : List ℕ → List ℕ → List ℕ → ℕ → Bool
 usedAt text items key j = ltb 0 (itemField items j 12) && same (keyIn text items j) key
 
--- "Maps become searches over item records": the last item record before `k` that is numbered and has the key of record `k`; `k` where there
--- is none
+-- it is numbered, and has the key of record `k`
 unfoldable pub sameUse : List ℕ → List ℕ → ℕ → ℕ → Bool
 sameUse text items k j = usedAt text items (keyIn text items k) j
 
--- the last numbered record before `k` with its key; `k` where there is none
+-- "Maps become searches over item records": the last such record before `k`; `k` where there is none
 unfoldable pub lastUse : List ℕ → List ℕ → ℕ → ℕ
 lastUse text items k = last (sameUse text items k) k k
 
@@ -39,11 +38,12 @@ sameLabel text items k number j = alikeAt text items number (itemField items k 1
 unfoldable pub lastAlike : List ℕ → List ℕ → ℕ → ℕ → ℕ
 lastAlike text items k number = last (sameLabel text items k number) k k
 
--- the number and the use of item record `k`, `sources` being those so far. (A record's number is a u16.)
+-- the number of item record `k`, `sources` being those so far. (A record's number is a u16.)
 unfoldable pub numberIn : List ℕ → List ℕ → ℕ → ℕ → ℕ
 numberIn text items sources k =
     pick (ltb (lastUse text items k) k) (itemField items (lastUse text items k) 12) ((sources + 1) % 65536)
 
+-- its use: one more than that of the last such record; 0 without a pool
 unfoldable pub useIn : List ℕ → List ℕ → Bool → ℕ → ℕ
 useIn text items pooled k =
     pick pooled (pick (ltb (lastUse text items k) k) ((itemField items (lastUse text items k) 13 + 1) % 65536) 1) 0
