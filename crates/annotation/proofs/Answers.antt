@@ -12,34 +12,34 @@ use Rattle.base.specs.Lists.{written}
 use Rattle.index.specs.declared.Bracket.{Bracket}
 use Rattle.item.specs.Group.{Group}
 use Rattle.resolve.specs.Resolve.{noteAfter, indexAfter, recordsAfter}
-use Rattle.group_records.specs.declared.SweepState.{SweepState}
+use Rattle.sweep.specs.declared.group_records.SweepState.{SweepState}
 use Rattle.sweep.specs.Sweep.{Lent, lentOf, lentAfter, sweepRun}
 use Rattle.standing.specs.Rows.{groupRows, itemCount, itemRows, sweptFrom}
 use Rattle.sweep.specs.Stops.{startState, SweptTo}
-use Rattle.group_records.specs.Recording.{Recorded}
+use Rattle.sweep.specs.Recording.{Recorded}
 use Rattle.standing.proofs.Swept.{placed-length}
 use Rattle.sweep.proofs.Laws.{item-rows-length, group-rows-length, all-groups-count, all-items-count, all-fitted, all-item-rows, all-group-rows, swept-whole, swept-lent}
 use Rattle.numbering.specs.Numbers.{Numbered, numberAll}
 use Rattle.numbering.specs.Progress.{Unnumbered}
 use Rattle.numbering.proofs.LabelledLaws.{swept-unnumbered}
 use Rattle.order.specs.References.{SourcesKnown}
-use Rattle.annotation_answer.specs.declared.Annotation.{Annotation}
-use Rattle.annotation_answer.specs.declared.Annotation.the-variants.{Accepted, Refused}
-use Rattle.preparation.specs.declared.Begun.{Begun}
+use Rattle.annotation.specs.declared.answer.Annotation.{Annotation}
+use Rattle.annotation.specs.declared.answer.Annotation.the-variants.{Accepted, Refused}
+use Rattle.annotation.specs.declared.preparation.Begun.{Begun}
 use Rattle.annotation.specs.Content.{Areas, areas, contentOf}
-use Rattle.preparation.specs.Refusal.{annotateRefusal}
+use Rattle.annotation.specs.Refusal.{annotateRefusal}
 use Rattle.annotation.specs.Call.{annotateRefused, roomFor, filled, zeroFilled, annotateGives, answerOf, AnnotateRan, annotateRan, annotateSwept, annotateRun}
-use Rattle.annotation_answer.specs.Zeros.{zeros, Zeroed}
-use Rattle.annotation_answer.specs.Values.{annotationValues}
+use Rattle.annotation.specs.Zeros.{zeros, Zeroed}
+use Rattle.annotation.specs.AnswerValues.{annotationValues}
 use Rattle.annotation.specs.Values.{annotationAnswer, annotationNumbers, Done}
 use Rattle.annotation.specs.Steps.{sweptItems, sweptGroups, numberedFrom, Fits, ContentAs}
-use Rattle.preparation.specs.FirstHalf.{BegunBy}
-use Rattle.after_sweep.specs.Ordering.{roomThen, referencesThen, Ordered}
+use Rattle.annotation.specs.FirstHalf.{BegunBy}
+use Rattle.annotation.specs.Ordering.{roomThen, referencesThen, Ordered}
 use Rattle.annotation.proofs.Counts.{sources-by}
 use Rattle.annotation.proofs.Passes.{numbers-agree}
 use Rattle.annotation.proofs.Found.{swept-fits}
 use Rattle.annotation.proofs.ByRecords.{known-sources, content-agrees}
-use Rattle.preparation.proofs.RefusalLaws.{Unrefused, unrefused}
+use Rattle.annotation.proofs.RefusalLaws.{Unrefused, unrefused}
 
 -- tests --------------------------------------------------------------------------------------------------------------------------------
 

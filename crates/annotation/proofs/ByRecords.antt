@@ -15,9 +15,10 @@ use Rattle.base.proofs.Sames.{same-true}
 use Rattle.item.specs.Group.{Group}
 use Rattle.pool.specs.Layout.{hasPool}
 use Rattle.definition.specs.Defs.{defOf}
-use Rattle.standing.specs.Rows.{groupWidth, itemCount}
+use Rattle.standing.specs.Rows.{itemCount}
+use Rattle.records.specs.Widths.{groupWidth}
 use Rattle.standing.proofs.Swept.{placed-length}
-use Rattle.defined.specs.Definitions.{definitionIn}
+use Rattle.definition.specs.Definitions.{definitionIn}
 use Rattle.records.specs.Records.{itemField, keyIn}
 use Rattle.numbering.specs.Numbers.{Numbered}
 use Rattle.uses.specs.Uses.{usedAt}

@@ -10,7 +10,7 @@ use borrow.Author.Tests.{ltb-true, ltb-false}
 use Rattle.base.specs.Fold.{fold}
 use Rattle.item.specs.declared.Item.{Item}
 use Rattle.item.specs.Group.{Group}
-use Rattle.rows.specs.Rows.{itemWidth}
+use Rattle.records.specs.Widths.{itemWidth}
 use Rattle.standing.specs.Rows.{Placed, itemCount}
 use Rattle.standing.proofs.Swept.{groupsOf}
 use Rattle.records.specs.Records.{itemField}

@@ -13,7 +13,7 @@ use Rattle.base.specs.Pick.{pick}
 use Rattle.base.specs.Last.{last}
 use Rattle.base.specs.Lists.{same}
 use Rattle.base.proofs.Lasts.{LastAt, LastNone, last-here, last-before, none-before, last-alike, none-alike}
-use Rattle.rows.specs.Rows.{itemWidth}
+use Rattle.records.specs.Widths.{itemWidth}
 use Rattle.records.specs.Records.{itemField, keyIn}
 use Rattle.uses.specs.Uses.{usedAt, sameUse, lastUse, numberIn, useIn, sourcesIn}
 use Rattle.annotation.specs.Sources.{Source, placeOf, numberOf, usesOf, useOf, used}

@@ -14,13 +14,15 @@ use Rattle.base.specs.Spans.{span, missing}
 use Rattle.base.proofs.Alls.{each-map}
 use Rattle.item.specs.declared.Item.{Item}
 use Rattle.item.specs.Group.{Group}
-use Rattle.rows.specs.Rows.{itemWidth, recordOf, rowOf, rowsIn, rowsOf}
+use Rattle.records.specs.Rows.{recordOf, rowOf, rowsIn, rowsOf}
+use Rattle.records.specs.Widths.{itemWidth}
 use Rattle.pool.specs.Layout.{hasPool}
 use Rattle.definition_line.specs.Lines.{inLine, groupEnd, keyOf}
 use Rattle.definition.specs.Defs.{defOf, isDefined}
-use Rattle.standing.specs.Rows.{Placed, placed, groupWidth, groupRow, groupRows, placedBy, sweptFrom, itemRows, itemCount}
+use Rattle.standing.specs.Rows.{Placed, placed, groupRow, groupRows, placedBy, sweptFrom, itemRows, itemCount}
+use Rattle.records.specs.Widths.{groupWidth}
 use Rattle.standing.proofs.Swept.{placed-groups}
-use Rattle.defined.specs.Definitions.{definitionIn}
+use Rattle.definition.specs.Definitions.{definitionIn}
 use Rattle.records.specs.Records.{itemField, groupField, keyIn, suppressedIn}
 use Rattle.numbering.specs.Numbers.{Numbered, start, labelIn, citeAs, citeIn, citeFrom, keyDefined, keysDefined, standsNumbered, isNumbered, numberGroup, numberFrom, numberAll}
 use Rattle.uses.specs.Uses.{numberIn, useIn, sourcesIn}

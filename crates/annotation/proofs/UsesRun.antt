@@ -14,7 +14,8 @@ use Rattle.base.specs.Sorted.{Each, Sorted}
 use Rattle.base.specs.Spans.{span}
 use Rattle.item.specs.declared.Item.{Item}
 use Rattle.item.specs.Group.{Group}
-use Rattle.rows.specs.Rows.{itemWidth, recordOf, rowOf}
+use Rattle.records.specs.Rows.{recordOf, rowOf}
+use Rattle.records.specs.Widths.{itemWidth}
 use Rattle.pool.specs.Layout.{hasPool}
 use Rattle.definition_line.specs.Lines.{keyOf}
 use Rattle.standing.specs.Rows.{Placed}

@@ -7,13 +7,14 @@ use mathlib.Core.List.{List, _++_}
 use lib.ListN.{length}
 use Rattle.base.specs.Sorted.{Each}
 use Rattle.item.specs.Group.{Group}
-use Rattle.rows.specs.Rows.{itemWidth}
+use Rattle.records.specs.Widths.{itemWidth}
 use Rattle.definition.specs.Defs.{defOf}
 use Rattle.sweep.specs.Sweep.{Lent, sweepRun}
-use Rattle.standing.specs.Rows.{groupWidth, groupRows, sweptFrom, itemRows, itemCount}
-use Rattle.defined.specs.Definitions.{definitionIn}
+use Rattle.standing.specs.Rows.{groupRows, sweptFrom, itemRows, itemCount}
+use Rattle.records.specs.Widths.{groupWidth}
+use Rattle.definition.specs.Definitions.{definitionIn}
 use Rattle.numbering.specs.Numbers.{Numbered, numberAll}
-use Rattle.after_sweep.specs.Ordering.{referencesThen}
+use Rattle.annotation.specs.Ordering.{referencesThen}
 use Rattle.annotation.specs.Order.{referencesOf}
 use Rattle.annotation.specs.Content.{Areas, placedOf, tallyOf, contentOf}
 

@@ -6,8 +6,8 @@ use lib.ListN.{length, set}
 use mir.Syntax.{w32}
 use mir.Val.{Fits}
 use Rattle.base.specs.Lists.{written}
-use Rattle.rows.specs.Rows.{putAt}
-use Rattle.rows.proofs.Areas.{put-written}
+use Rattle.records.specs.Rows.{putAt}
+use Rattle.records.proofs.Areas.{put-written}
 use Rattle.locator.specs.declared.Locator.{Locator}
 use Rattle.locator.specs.Answers.{codeOf, valueOf, suffixOf}
 use Rattle.base.specs.declared.Span.{Span}
@@ -21,9 +21,9 @@ use Rattle.lookup.specs.Values.{lookUpValues, locatorValues, sizeValues}
 use Rattle.source_text.specs.declared.SourceText.{SourceText}
 use Rattle.source_text.specs.declared.SourceText.the-variants.{Accepted as SourceIs, Refused as NoSource}
 use Rattle.source_text.specs.Values.{sourceTextValues}
-use Rattle.annotation_answer.specs.declared.Annotation.{Annotation}
-use Rattle.annotation_answer.specs.declared.Annotation.the-variants.{Accepted as Annotates, Refused as NoAnnotation}
-use Rattle.annotation_answer.specs.Values.{annotationValues}
+use Rattle.annotation.specs.declared.answer.Annotation.{Annotation}
+use Rattle.annotation.specs.declared.answer.Annotation.the-variants.{Accepted as Annotates, Refused as NoAnnotation}
+use Rattle.annotation.specs.AnswerValues.{annotationValues}
 use Rattle.answers.specs.Words.{Words}
 
 -- what is put

@@ -1,6 +1,6 @@
 // The answer areas of the C names: the numbers of an answer as `u32`s at the front of a lent area, the rest of which stays as it was.
 // `has_room` says whether an area can hold them; the writers ask for that, and that each number fits.
-use annotation_answer::Annotation;
+use annotation::answer::Annotation;
 use lookup::LocatorAnswer;
 use lookup::LookUp;
 use lookup::Size;
@@ -10,7 +10,7 @@ ghost use mathlib.Core.Path.{_≡_};
 ghost use Prim.Native.Nat.{_≤_};
 ghost use lib.Dec.{leb};
 ghost use lib.ListN.{length};
-ghost use Rattle.annotation_answer.specs.Values.{annotationValues};
+ghost use Rattle.annotation.specs.AnswerValues.{annotationValues};
 ghost use Rattle.base.specs.Lists.{written};
 ghost use Rattle.lookup.specs.Values.{lookUpValues, locatorValues, sizeValues};
 ghost use Rattle.source_text.specs.Values.{sourceTextValues};

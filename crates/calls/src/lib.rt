@@ -8,7 +8,7 @@
 // bytes; 10 answer longer than its area, or labels above 65,535 bytes.
 // A refusal returns its number and the note as it was given, and touches nothing; but 5 and 10 keep an index built on the way, with its note,
 // and 10 from annotation fills its four answer areas with zeros.
-pub use annotation_answer::Annotation;
+pub use annotation::answer::Annotation;
 pub use index::Bracket;
 pub use lookup::LocatorAnswer;
 pub use lookup::LookUp;
@@ -35,10 +35,10 @@ pub fn look_up(
     ensures { λ r. ⌜ LookUpPromise (now (text .entry)) at note (now (index .entry)) (now (records .entry)) (now (items .entry))
         r (now (index .exit)) (now (records .exit)) (now (items .exit)) ⌝ }
 {
-    let n = pairs::count(records);
+    let n = index::brackets::count(records);
     let p = lookup::prepare(text, at, note, index, n);
     let w = lookup::wants_build(p);
-    pairs::build_when(w, text, index, records);
+    index::brackets::build_when(w, text, index, records);
     lookup::finish(text, at, note, p, index, items)
 }
 
@@ -62,11 +62,11 @@ pub fn annotate<'a>(
         ⌜ AnnotatePromise (now (text .entry)) mode (now (pool .entry)) note (now (index .entry)) (now (records .entry)) given
         r (now (index .exit)) (now (records .exit)) left ⌝ }
 {
-    let n = pairs::count(records);
-    let p = preparation::prepare(text, mode, pool, note, index, n, items, groups);
-    let w = preparation::wants_build(p);
-    pairs::build_when(w, text, index, records);
-    completion::finish(
+    let n = index::brackets::count(records);
+    let p = annotation::preparation::prepare(text, mode, pool, note, index, n, items, groups);
+    let w = annotation::preparation::wants_build(p);
+    index::brackets::build_when(w, text, index, records);
+    annotation::completion::finish(
         text,
         mode,
         pool,

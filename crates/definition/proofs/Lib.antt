@@ -1,1 +1,5 @@
 pub mod Values
+pub mod EntryLaws
+pub mod LineLaws
+pub mod DefinedLaws
+pub mod Clips

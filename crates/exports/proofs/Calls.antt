@@ -26,7 +26,7 @@ use denote.Slice.{sliceVal, MutSlice, Room}
 use denote.Steps.{owned, nothing}
 use denote.Triple.Spec.{tripleOf}
 use denote.Triple.Statement.{Contract, Triple}
-use Rattle.pairs.proofs.Lent.{at-list, lent, back}
+use Rattle.index.proofs.Lent.{at-list, lent, back}
 use Rattle.base.proofs.Calling.{beside, calls-row, last-list, no-last}
 use Rattle.answers.proofs.has_room as room
 use Rattle.answers.proofs.has_room.Symbol.{name as #answers·has-room}

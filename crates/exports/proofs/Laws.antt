@@ -16,10 +16,10 @@ use Rattle.lookup.specs.Values.{lookUpValues, lookUpNumbers, locatorValues, loc
 use Rattle.source_text.specs.declared.SourceText.{SourceText}
 use Rattle.source_text.specs.Call.{sourceTextCall}
 use Rattle.source_text.specs.Values.{sourceTextValues, sourceTextNumbers}
-use Rattle.annotation_answer.specs.declared.Annotation.{Annotation}
+use Rattle.annotation.specs.declared.answer.Annotation.{Annotation}
 use Rattle.annotation.specs.Content.{Areas}
 use Rattle.annotation.specs.Call.{AnnotateRan, annotateRun}
-use Rattle.annotation_answer.specs.Values.{annotationValues}
+use Rattle.annotation.specs.AnswerValues.{annotationValues}
 use Rattle.annotation.specs.Values.{annotationNumbers}
 use Rattle.index.specs.declared.Bracket.{Bracket}
 use Rattle.answers.specs.Words.{Words}

@@ -22,7 +22,7 @@ use Rattle.locator.specs.Answers.{codeOf, valueOf, suffixOf}
 use Rattle.locator.proofs.Laws.{code-small, value-ends, suffix-ends}
 use Rattle.resolve.specs.Groups.{GroupAnswer, Found, NoGroup, groupAccepted, judge}
 use Rattle.item.specs.Group.{Group, groupOf}
-use Rattle.rows.specs.Rows.{rowsLength}
+use Rattle.records.specs.Rows.{rowsLength}
 use Rattle.resolve.specs.Resolve.{closeAsRun, groupAsRun, noteAfter}
 use Rattle.lookup.specs.Refusals.{tooFew, lookUpRefusal}
 use Rattle.lookup.specs.LookUps.{LookedUp, lookUpRefused, lookUpGives, lookUpAnswers, lookedUp, lookUpBuilds, ranWith, lookUpRun}
@@ -41,11 +41,11 @@ use Rattle.resolve.proofs.Runs.{run-inside}
 use Rattle.sweep.proofs.Stops.{sweep-in-two}
 use Rattle.annotation.specs.Content.{Areas, tallyOf, contentOf}
 use Rattle.annotation.specs.Call.{AnnotateRan, annotateRefused, roomFor, zeroFilled, annotateGives, answerOf, annotateRan, annotateSwept, annotateRun}
-use Rattle.preparation.specs.Refusal.{annotateRefusal}
+use Rattle.annotation.specs.Refusal.{annotateRefusal}
 use Rattle.annotation.specs.Values.{annotationNumbers}
 use Rattle.annotation.proofs.Counts.{sources-by}
 use Rattle.annotation.proofs.ByRecords.{references-length}
-use Rattle.preparation.proofs.RefusalLaws.{unrefused as annotate-unrefused}
+use Rattle.annotation.proofs.RefusalLaws.{unrefused as annotate-unrefused}
 use Rattle.answers.specs.Words.{Words}
 
 -- the size and the locator call ---------------------------------------------------------------------------------------------------

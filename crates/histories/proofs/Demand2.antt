@@ -14,14 +14,14 @@ use Rattle.text.specs.Escape.{escapedAt}
 use Rattle.utf8.specs.Refusal.{afterText}
 use Rattle.resolve.specs.Groups.{GroupAnswer, Found, NoGroup, groupAt}
 use Rattle.item.specs.Group.{Group}
-use Rattle.rows.specs.Rows.{rowsLength}
+use Rattle.records.specs.Rows.{rowsLength}
 use Rattle.lookup.specs.Refusals.{tooFew, lookUpRefusal}
 use Rattle.lookup.specs.LookUps.{LookedUp, lookUpGives, lookUpRefused, lookUpAnswers, lookedUp, lookUpPlain}
 use Rattle.lookup.proofs.RefusalLaws.{unrefused}
 use Rattle.lookup.proofs.LooksUp.{look-up-true}
 use Rattle.annotation.specs.Content.{Areas}
 use Rattle.annotation.specs.Call.{Annotated, annotateRefused, annotateGives, answerOf, annotatePlain, roomFor, zeroFilled}
-use Rattle.preparation.specs.Refusal.{annotateRefusal}
+use Rattle.annotation.specs.Refusal.{annotateRefusal}
 use Rattle.annotation.proofs.Truth.{annotate-true}
 use Rattle.sweep.specs.Sweep.{sweepOf}
 use Rattle.histories.specs.EveryGroup.{Admits, LookUpFinds, AnnotationFinds, said, EveryGroup}

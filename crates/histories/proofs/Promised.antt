@@ -7,11 +7,11 @@ use Rattle.lookup.specs.declared.LookUp.{LookUp}
 use Rattle.lookup.specs.declared.LookUp.the-variants.{Accepted as FoundOne, Refused as FoundNone}
 use Rattle.lookup.specs.LookUps.{LookedUp, LookUpRan, lookUpRun}
 use Rattle.lookup.specs.Values.{lookUpValues, lookUpNumbers}
-use Rattle.annotation_answer.specs.declared.Annotation.{Annotation}
-use Rattle.annotation_answer.specs.declared.Annotation.the-variants.{Accepted, Refused}
+use Rattle.annotation.specs.declared.answer.Annotation.{Annotation}
+use Rattle.annotation.specs.declared.answer.Annotation.the-variants.{Accepted, Refused}
 use Rattle.annotation.specs.Content.{Areas}
 use Rattle.annotation.specs.Call.{Annotated, AnnotateRan, annotateRun}
-use Rattle.annotation_answer.specs.Values.{annotationValues}
+use Rattle.annotation.specs.AnswerValues.{annotationValues}
 use Rattle.annotation.specs.Values.{annotationNumbers}
 use Rattle.histories.specs.Histories.{OfLookUp, OfAnnotation, State, state, runCall, lookUpLeft, annotateLeft, putBack, answersOf, plain}
 use Rattle.histories.specs.Promises.{RanCall, LookedUpOnce, AnnotatedOnce, callOf, Met, lookUpShows, annotationShows, shown, lookUpNote, annotationNote, stateAfter, AllMet, PromisedHistories}

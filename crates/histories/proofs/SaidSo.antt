@@ -14,7 +14,8 @@ use Rattle.base.specs.Fold.{fold}
 use Rattle.base.specs.Spans.{span}
 use Rattle.item.specs.declared.Item.{Item}
 use Rattle.item.specs.Group.{Group}
-use Rattle.rows.specs.Rows.{itemWidth, recordOf, rowOf, rowsIn, rowsOf}
+use Rattle.records.specs.Rows.{recordOf, rowOf, rowsIn, rowsOf}
+use Rattle.records.specs.Widths.{itemWidth}
 use Rattle.pool.specs.Layout.{hasPool}
 use Rattle.definition_line.specs.Lines.{keyOf}
 use Rattle.definition.specs.Defs.{defOf}

@@ -11,7 +11,7 @@ use Rattle.index.specs.declared.Bracket.{Bracket}
 use Rattle.index.specs.Entries.{opensAt}
 use Rattle.resolve.specs.Groups.{Found, groupAt}
 use Rattle.item.specs.Group.{Group}
-use Rattle.rows.specs.Rows.{rowsLength}
+use Rattle.records.specs.Rows.{rowsLength}
 use Rattle.lookup.specs.Refusals.{lookUpRefusal}
 use Rattle.lookup.specs.LookUps.{LookedUp, lookUpGives, lookUpRefused, lookUpRun}
 use Rattle.resolve.specs.Lefts.{Left}
@@ -19,7 +19,7 @@ use Rattle.definition_line.specs.Lines.{groupEnd}
 use Rattle.sweep.specs.Sweep.{sweepOf}
 use Rattle.annotation.specs.Content.{Areas, contentOf}
 use Rattle.annotation.specs.Call.{Annotated, annotateRefused, annotateGives, annotateRun, roomFor, zeroFilled}
-use Rattle.preparation.specs.Refusal.{annotateRefusal}
+use Rattle.annotation.specs.Refusal.{annotateRefusal}
 use Rattle.histories.specs.Said.{Says}
 
 -- The rules admit the group `g` at `p`: an unescaped `[` stands there, the unlimited scan gives its close, and `match_citation` takes the

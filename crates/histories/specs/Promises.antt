@@ -8,11 +8,11 @@ use Rattle.lookup.specs.declared.LookUp.{LookUp}
 use Rattle.lookup.specs.declared.LookUp.the-variants.{Accepted as FoundOne, Refused as FoundNone}
 use Rattle.lookup.specs.LookUps.{LookedUp, lookUpRun}
 use Rattle.lookup.specs.Values.{lookUpValues, lookUpNumbers}
-use Rattle.annotation_answer.specs.declared.Annotation.{Annotation}
-use Rattle.annotation_answer.specs.declared.Annotation.the-variants.{Accepted, Refused}
+use Rattle.annotation.specs.declared.answer.Annotation.{Annotation}
+use Rattle.annotation.specs.declared.answer.Annotation.the-variants.{Accepted, Refused}
 use Rattle.annotation.specs.Content.{Areas}
 use Rattle.annotation.specs.Call.{Annotated, annotateRefused, annotateRun}
-use Rattle.annotation_answer.specs.Values.{annotationValues}
+use Rattle.annotation.specs.AnswerValues.{annotationValues}
 use Rattle.annotation.specs.Values.{annotationNumbers, annotationAnswer}
 use Rattle.histories.specs.Histories.{Call, LookUpCall, AnnotateCall, Answer, OfLookUp, OfAnnotation, State, state, putBack, plain}
 

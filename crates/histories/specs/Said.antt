@@ -6,7 +6,7 @@ use mathlib.Core.Option.{Option, none, some}
 use lib.ListN.{length, getD, take}
 use Rattle.base.specs.Pick.{pick}
 use Rattle.item.specs.Group.{Group}
-use Rattle.rows.specs.Rows.{itemWidth}
+use Rattle.records.specs.Widths.{itemWidth}
 use Rattle.pool.specs.Layout.{hasPool}
 use Rattle.standing.specs.Rows.{Placed, itemCount, itemRows, groupRows}
 use Rattle.records.specs.Records.{itemField}

@@ -10,8 +10,8 @@ use lib.Seq.{sets-eq}
 use Rattle.base.specs.Lists.{written}
 use Rattle.decimal.specs.Decimal.{decimal}
 use Rattle.base.proofs.Areas.{copied}
-use Rattle.group_records.specs.Areas.{writtenAt}
-use Rattle.group_records.proofs.Areas.{written-none, written-length, written-more, written-part}
+use Rattle.sweep.specs.Areas.{writtenAt}
+use Rattle.sweep.proofs.Areas.{written-none, written-length, written-more, written-part}
 use Rattle.line_writers.specs.Writes.{Put, Room}
 
 -- two pieces, one after the other

@@ -3,7 +3,7 @@ use Prim.Native.Nat.{ℕ, _+_, _≤_}
 use mathlib.Core.Path.{_≡_}
 use mathlib.Core.List.{List, []}
 use lib.ListN.{length}
-use Rattle.group_records.specs.Areas.{writtenAt}
+use Rattle.sweep.specs.Areas.{writtenAt}
 use Rattle.annotation.specs.Call.{Annotated}
 use Rattle.annotation.specs.Content.{areas}
 use Rattle.line_writers.specs.declared.Told.{Told}

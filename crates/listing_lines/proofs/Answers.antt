@@ -15,14 +15,14 @@ use Rattle.item.specs.Group.{Group}
 use Rattle.lookup.specs.Refusals.{tooFew}
 use Rattle.sweep.specs.Sweep.{sweepOf}
 use Rattle.sweep.proofs.Laws.{group-rows-length}
-use Rattle.group_records.proofs.Areas.{written-front}
-use Rattle.annotation_answer.specs.declared.Annotation.{Annotation}
-use Rattle.annotation_answer.specs.declared.Annotation.the-variants.{Accepted, Refused}
-use Rattle.annotation_answer.specs.Values.{annotationValues}
+use Rattle.sweep.proofs.Areas.{written-front}
+use Rattle.annotation.specs.declared.answer.Annotation.{Annotation}
+use Rattle.annotation.specs.declared.answer.Annotation.the-variants.{Accepted, Refused}
+use Rattle.annotation.specs.AnswerValues.{annotationValues}
 use Rattle.annotation.specs.Values.{annotationNumbers}
 use Rattle.annotation.specs.Content.{Areas, placedFrom, placedOf, contentOf, areas}
 use Rattle.annotation.specs.Call.{Annotated, AnnotateRan, annotateRefused, roomFor, zeroFilled, annotateGives, answerOf, annotatePlain, annotateRun}
-use Rattle.preparation.specs.Refusal.{annotateRefusal}
+use Rattle.annotation.specs.Refusal.{annotateRefusal}
 use Rattle.annotation.proofs.Truth.{annotate-true}
 use Rattle.line_writers.specs.declared.Told.{Told}
 use Rattle.line_writers.specs.Lines.{countLine, listed}

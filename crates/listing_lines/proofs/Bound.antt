@@ -14,8 +14,8 @@ use Rattle.base.specs.Lists.{part, written}
 use Rattle.base.specs.Ascii.{ascii}
 use Rattle.item.specs.declared.Item.{Item}
 use Rattle.item.specs.Group.{Group}
-use Rattle.rows.specs.Rows.{recordOf, rowOf, rowsIn, rowsOf, rowsLength}
-use Rattle.rows.proofs.RowLaws.{row-length, rows-length}
+use Rattle.records.specs.Rows.{recordOf, rowOf, rowsIn, rowsOf, rowsLength}
+use Rattle.records.proofs.RowLaws.{row-length, rows-length}
 use Rattle.decimal.proofs.Laws.{decimal-short}
 use Rattle.sweep.specs.Sweep.{lentOf, sweepOf, sweepRun}
 use Rattle.standing.specs.Rows.{Placed, groupRow, groupRows, itemCount, itemRows}
@@ -27,7 +27,7 @@ use Rattle.records.specs.Records.{itemField}
 use Rattle.uses.proofs.Fields.{item-field, SameItems}
 use Rattle.annotation.specs.Content.{Areas, placedFrom, placedOf, tallyOf, contentOf}
 use Rattle.annotation.specs.Call.{Annotated, annotateRefused, roomFor, filled, zeroFilled, annotateGives, answerOf, annotatePlain}
-use Rattle.preparation.specs.Refusal.{annotateRefusal}
+use Rattle.annotation.specs.Refusal.{annotateRefusal}
 use Rattle.annotation.specs.Steps.{Fits}
 use Rattle.annotation.proofs.Found.{swept-fits}
 use Rattle.annotation.proofs.Passes.{tally-agrees}

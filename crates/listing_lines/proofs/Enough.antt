@@ -23,7 +23,7 @@ use Rattle.standing.proofs.Swept.{groupsOf, placed-groups}
 use Rattle.sweep.specs.Sweep.{listed, nextAt, foundAt, sweepIn, sweepOf}
 use Rattle.sweep.proofs.Sizes.{size-enough}
 use Rattle.label.specs.Labels.{labelBy, labelText}
-use Rattle.preparation.specs.Refusal.{annotateRefusal}
+use Rattle.annotation.specs.Refusal.{annotateRefusal}
 use Rattle.annotation.specs.Sources.{Source, placeOf, numberOf}
 use Rattle.annotation.specs.Content.{Areas, placedOf, labelFor, tallyOf, contentOf}
 use Rattle.annotation.specs.Call.{annotateRefused, roomFor, annotateGives, answerOf, annotatePlain}

@@ -10,8 +10,8 @@ use Rattle.base.specs.Lists.{written, Wrote}
 use Rattle.base.specs.Ascii.{ascii}
 use Rattle.decimal.specs.Decimal.{decimal}
 use Rattle.decimal.proofs.Laws.{decimal-short}
-use Rattle.group_records.specs.Areas.{writtenAt}
-use Rattle.group_records.proofs.Areas.{written-front}
+use Rattle.sweep.specs.Areas.{writtenAt}
+use Rattle.sweep.proofs.Areas.{written-front}
 use Rattle.base.proofs.Areas.{written-length}
 use Rattle.line_writers.specs.Lines.{refusedLine}
 use Rattle.listing_lines.specs.Listing.{listingOf}

@@ -1,12 +1,12 @@
 // The lines that the listing program writes, by one function on slices: `list`. It makes the areas, and calls the annotation on them;
 // the crate line_writers writes the lines.
-use annotation_answer::Annotation;
+use annotation::answer::Annotation;
 use line_writers::Told;
 ghost use mathlib.Core.Path.{_≡_};
 ghost use mathlib.Core.List.{[], _∷_};
 ghost use lib.ListN.{length, take, replicate};
 ghost use Rattle.base.specs.Lists.{written, Wrote};
-ghost use Rattle.annotation_answer.specs.Values.{annotationValues};
+ghost use Rattle.annotation.specs.AnswerValues.{annotationValues};
 ghost use Rattle.listing_lines.specs.Listing.{listingOf, TextRefusalsOnly};
 ghost use Rattle.listing_lines.specs.Ready.{Ready, Counts};
 

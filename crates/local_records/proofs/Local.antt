@@ -26,7 +26,7 @@ use denote.Slice.{sliceVal, MutSlice, Room, finally}
 use denote.Lend.{Held, lends-slice, slice-back}
 use denote.Index.{row, whole-out, whole-in}
 use denote.Struct.Steps.{spelt}
-use Rattle.pairs.proofs.Lent.{at-list}
+use Rattle.index.proofs.Lent.{at-list}
 
 module _ {M : Type 1} {𝓤 : URA M} {H : Heap 𝓤} {A : Atoms 𝓤} {K : Type 0} {W : Given 𝓤 H A} {Γ : List (Item 𝓤)} {G : Goal 𝓤 H} where
   pub lends-local : K → Soaks G → (R : RattleType) → Single (R .mir) → (ℓ : Lifetime) (xs : List (R .Denot)) (us : List Val) (b : ℕ) → Room R (length xs)

@@ -22,7 +22,7 @@ use denote.Array.{Array, arrayVal}
 use denote.ArrayMemory.{Single}
 use denote.Slice.{sliceVal, MutSlice, Room}
 use denote.Lend.{Held}
-use Rattle.pairs.proofs.Lent.{at-list}
+use Rattle.index.proofs.Lent.{at-list}
 use Rattle.local_records.proofs.Local.{lends-local}
 
 module _ {M : Type 1} {𝓤 : URA M} {H : Heap 𝓤} {A : Atoms 𝓤} {K : Type 0} {W : Given 𝓤 H A} {Γ : List (Item 𝓤)} {G : Goal 𝓤 H} where

@@ -1,6 +1,6 @@
 // The two public calls that are lent bracket records, with the records in a local array, as many as any text needs: whoever calls these needs
 // no walk of its MIR. What they promise is what `calls` promises; the records end with the call, as the run leaves them.
-use annotation_answer::Annotation;
+use annotation::answer::Annotation;
 use index::Bracket;
 use lookup::LookUp;
 ghost use lib.ListN.{replicate};

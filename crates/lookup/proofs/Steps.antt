@@ -22,7 +22,7 @@ use Rattle.lookup.specs.declared.Prepared.{Prepared}
 use Rattle.lookup.specs.declared.Prepared.the-variants.{Refused as NotReady, Ready}
 use Rattle.resolve.specs.Groups.{GroupAnswer, Found, NoGroup, judge}
 use Rattle.item.specs.Group.{groupOf}
-use Rattle.rows.specs.Rows.{rowsOf, rowsLength}
+use Rattle.records.specs.Rows.{rowsOf, rowsLength}
 use Rattle.resolve.specs.Resolve.{lookOf, isBuild, closeAfter, closeAsRun, wantsBuild, groupAsRun, noteAfter, indexAfter, recordsAfter}
 use Rattle.resolve.specs.Looks.{matched, Inside}
 use Rattle.lookup.specs.Refusals.{lookUpRefusal}

@@ -10,7 +10,7 @@ use Rattle.lookup.specs.declared.LookUp.the-variants.{Accepted, Refused}
 use Rattle.lookup.specs.declared.Prepared.{Prepared}
 use Rattle.lookup.specs.declared.Prepared.the-variants.{Refused as NotReady, Ready}
 use Rattle.resolve.specs.Groups.{GroupAnswer, Found, NoGroup, judge}
-use Rattle.rows.specs.Rows.{rowsLength}
+use Rattle.records.specs.Rows.{rowsLength}
 use Rattle.resolve.specs.Resolve.{lookOf, isBuild, closeAfter, noteAfter}
 use Rattle.resolve.specs.Looks.{LookInside}
 use Rattle.lookup.specs.Refusals.{lookUpRefusal}

@@ -14,19 +14,21 @@ use Rattle.base.specs.Lists.{same}
 use Rattle.base.specs.Sorted.{Each}
 use Rattle.item.specs.declared.Item.{Item}
 use Rattle.item.specs.Group.{Group}
-use Rattle.rows.specs.Rows.{itemWidth, marksOf, recordOf, rowOf, rowsIn, rowsOf, rowsLength}
-use Rattle.rows.proofs.RowLaws.{rows-length}
+use Rattle.records.specs.Rows.{marksOf, recordOf, rowOf, rowsIn, rowsOf, rowsLength}
+use Rattle.records.specs.Widths.{itemWidth}
+use Rattle.records.proofs.RowLaws.{rows-length}
 use Rattle.pool.specs.Layout.{countOf, entryAt, entriesOf}
-use Rattle.standing.specs.Rows.{Placed, groupWidth, groupRow, groupRows, placedBy, sweptFrom, itemRows}
+use Rattle.standing.specs.Rows.{Placed, groupRow, groupRows, placedBy, sweptFrom, itemRows}
+use Rattle.records.specs.Widths.{groupWidth}
 use Rattle.definition_line.specs.Lines.{startsLine, colonAfter, bareItem, onlyKey, defines, inLine, groupEnd, nextOpen, keyOf, definedKey}
 use Rattle.definition.specs.Defs.{Def, lineDef, entryDef, definesKey, lastLine, firstEntry, defOf}
-use Rattle.defined.specs.Lines.{definesIn, definesKeyIn, lineIn, lineDefIn}
-use Rattle.defined.specs.declared.Defined.{Defined}
-use Rattle.defined.specs.declared.Defined.the-variants.{Line, Entry as EntryOf, Nothing}
-use Rattle.defined.specs.Defined.{definedAs, foundIn}
-use Rattle.defined.specs.Definitions.{definitionIn, LinesBelow}
-use Rattle.entries.specs.Entries.{entryIn}
-use Rattle.entries.proofs.EntryLaws.{first-entry}
+use Rattle.definition.specs.Lines.{definesIn, definesKeyIn, lineIn, lineDefIn}
+use Rattle.definition.specs.declared.defined.Defined.{Defined}
+use Rattle.definition.specs.declared.defined.Defined.the-variants.{Line, Entry as EntryOf, Nothing}
+use Rattle.definition.specs.Defined.{definedAs, foundIn}
+use Rattle.definition.specs.Definitions.{definitionIn, LinesBelow}
+use Rattle.definition.specs.Entries.{entryIn}
+use Rattle.definition.proofs.EntryLaws.{first-entry}
 use Rattle.records.specs.Records.{groupField, keyIn, suppressedIn, bareIn, closeOfRecord, nextIn}
 use Rattle.base.proofs.Lasts.{lastFrom, last-from, last-same}
 use Rattle.standing.proofs.Swept.{groupsOf, placed-groups, placed-length}

@@ -12,7 +12,7 @@ use Rattle.label.specs.Areas.{fittedAt}
 use Rattle.label.proofs.AreaLaws.{fitted-at-length, fitted-at-next}
 use Rattle.numbering.specs.declared.Numbering.{Numbering}
 use Rattle.uses.specs.declared.Count.{Count}
-use Rattle.defined.specs.Definitions.{LinesBelow}
+use Rattle.definition.specs.Definitions.{LinesBelow}
 use Rattle.numbering.specs.Numbers.{Numbered, labelOf, labelIn, citeAs, citeIn}
 use Rattle.uses.specs.Uses.{setLast, Counts}
 use Rattle.numbering.specs.Progress.{roomOf, state, Agrees, Holds, Advances}

@@ -5,11 +5,11 @@ use mathlib.Core.Path.{_≡_, refl, sym, _∙_, ap}
 use mathlib.Core.List.{List}
 use mathlib.Core.Bool.{Bool, true, false}
 use Rattle.definition.specs.Defs.{isDefined}
-use Rattle.defined.specs.declared.Defined.{Defined}
-use Rattle.defined.specs.declared.Defined.the-variants.{Line, Entry as EntryOf, Nothing}
-use Rattle.defined.specs.Definitions.{definitionIn}
+use Rattle.definition.specs.declared.defined.Defined.{Defined}
+use Rattle.definition.specs.declared.defined.Defined.the-variants.{Line, Entry as EntryOf, Nothing}
+use Rattle.definition.specs.Definitions.{definitionIn}
 use Rattle.records.specs.Records.{keyIn}
-use Rattle.defined.specs.Defined.{definedAs}
+use Rattle.definition.specs.Defined.{definedAs}
 use Rattle.numbering.specs.Numbers.{keyDefined, keysDefined}
 
 module _ (text pool groups items : List ℕ) (n k : ℕ) (d : Defined) {key : List ℕ} (p : key ≡ keyIn text items k)

@@ -19,10 +19,10 @@ use Rattle.definition.specs.Defs.{defAuthor, defYear}
 use Rattle.label.specs.Labels.{labelBy, labelText}
 use Rattle.label.specs.Areas.{fitted, fittedAt}
 use Rattle.label.proofs.AreaLaws.{fitted-back}
-use Rattle.defined.specs.declared.Defined.{Defined}
-use Rattle.defined.specs.Definitions.{definitionIn}
+use Rattle.definition.specs.declared.defined.Defined.{Defined}
+use Rattle.definition.specs.Definitions.{definitionIn}
 use Rattle.records.specs.Records.{itemField, keyIn, suppressedIn}
-use Rattle.defined.specs.Defined.{definedAs}
+use Rattle.definition.specs.Defined.{definedAs}
 use Rattle.uses.specs.Uses.{sameLabel, lastAlike}
 use Rattle.numbering.specs.declared.Numbering.{Numbering}
 use Rattle.numbering.specs.Numbers.{labelOf}

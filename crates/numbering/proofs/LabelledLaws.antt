@@ -9,7 +9,8 @@ use lib.Dec.{eqb, ltb}
 use borrow.Author.Tests.{ltb-true, ltb-false, eqb-true, eqb-false, not-false}
 use Rattle.item.specs.declared.Item.{Item}
 use Rattle.item.specs.Group.{Group}
-use Rattle.rows.specs.Rows.{itemWidth, recordOf, rowOf, rowsIn, rowsOf, rowsLength}
+use Rattle.records.specs.Rows.{recordOf, rowOf, rowsIn, rowsOf, rowsLength}
+use Rattle.records.specs.Widths.{itemWidth}
 use Rattle.standing.specs.Rows.{itemCount, itemRows}
 use Rattle.records.specs.Records.{itemField, suppressedIn}
 use Rattle.label.specs.Areas.{fittedAt}
@@ -19,7 +20,7 @@ use Rattle.uses.proofs.Fields.{item-skip, SameItems, SameGroups, set-last-same,
 use Rattle.numbering.specs.declared.Numbering.{Numbering}
 use Rattle.numbering.specs.Numbers.{labelOf}
 use Rattle.numbering.specs.Progress.{roomOf, state, LabelStands, Labelled, Unnumbered}
-use Rattle.rows.proofs.RowLaws.{rows-length}
+use Rattle.records.proofs.RowLaws.{rows-length}
 use Rattle.numbering.proofs.ByLines.{key-same, definition-same}
 
 -- the records that a sweep leaves: none of them has a number ---------------------------------------------------------------------------

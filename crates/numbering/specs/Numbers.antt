@@ -5,10 +5,10 @@ use mathlib.Core.Bool.{Bool, true, _&&_, not}
 use lib.ListN.{length, set}
 use lib.Dec.{eqb}
 use Rattle.base.specs.Pick.{pick}
-use Rattle.standing.specs.Rows.{groupWidth}
+use Rattle.records.specs.Widths.{groupWidth}
 use Rattle.pool.specs.Layout.{hasPool}
 use Rattle.definition.specs.Defs.{isDefined}
-use Rattle.defined.specs.Definitions.{definitionIn}
+use Rattle.definition.specs.Definitions.{definitionIn}
 use Rattle.records.specs.Records.{groupField, keyIn, suppressedIn}
 use Rattle.label.specs.Labels.{labelText}
 use Rattle.uses.specs.Uses.{numberIn, useIn, sourcesIn, setLast}

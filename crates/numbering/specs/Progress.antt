@@ -7,7 +7,7 @@ use lib.ListN.{length, take, drop}
 use lib.Dec.{leb}
 use Rattle.base.specs.Lists.{written}
 use Rattle.numbering.specs.declared.Numbering.{Numbering}
-use Rattle.rows.specs.Rows.{itemWidth}
+use Rattle.records.specs.Widths.{itemWidth}
 use Rattle.records.specs.Records.{itemField, keyIn, suppressedIn}
 use Rattle.numbering.specs.Numbers.{Numbered, labelOf}
 

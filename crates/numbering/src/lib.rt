@@ -35,7 +35,7 @@ pub fn number_groups<'a>(
         sources: 0,
         label_bytes: 0,
     };
-    let lines = defined::define::lines_end(text, groups, items, n);
+    let lines = definition::lines::lines_end(text, groups, items, n);
     let mut g: usize = 0;
     while g < n {
         s = numbers::number_group(text, mode, pool, n, lines, m, g, s, items, groups, labels);

@@ -2,9 +2,9 @@
 // start a definition line lie below group record `end`.
 use crate::Numbering;
 use base::least;
-use defined::Defined;
 use definition::Author;
 use definition::Year;
+use definition::defined::Defined;
 use uses::Count;
 ghost use mathlib.Core.Path.{_≡_};
 ghost use mathlib.Core.Bool.{true};
@@ -12,7 +12,7 @@ ghost use Prim.Native.Nat.{_<_, _≤_};
 ghost use lib.ListN.{length};
 ghost use Rattle.pool.specs.Layout.{wellFormed};
 ghost use Rattle.label.specs.Areas.{fitted, fittedAt};
-ghost use Rattle.defined.specs.Definitions.{LinesBelow};
+ghost use Rattle.definition.specs.Definitions.{LinesBelow};
 ghost use Rattle.numbering.specs.Numbers.{keyDefined, keysDefined, labelOf, citeIn, citeFrom, numberGroup};
 ghost use Rattle.numbering.specs.Progress.{roomOf, state, Advances, Alike, Labelled};
 
@@ -30,7 +30,7 @@ fn is_defined(
     ensures { λ r. ⌜ r ≡ keyDefined (now (text .entry)) (now (pool .entry)) (now (groups .entry)) (now (items .entry)) n k ⌝ }
 {
     let key = records::key_in(text, items, k);
-    let d = defined::find(text, pool, groups, items, n, end, key);
+    let d = definition::defined::find(text, pool, groups, items, n, end, key);
     match d {
         Defined::Line { group: _ } => true,
         Defined::Entry { number: _ } => true,
@@ -92,9 +92,9 @@ fn label_in<'a>(
         );
     }
     let key = records::key_in(text, items, k);
-    let d = defined::find(text, pool, groups, items, n, end, key);
-    let author = defined::author_in(text, pool, groups, n, d);
-    let year = defined::year_in(text, pool, groups, n, d);
+    let d = definition::defined::find(text, pool, groups, items, n, end, key);
+    let author = definition::defined::author_in(text, pool, groups, n, d);
+    let year = definition::defined::year_in(text, pool, groups, n, d);
     let suppressed = records::suppressed_in(items, k);
     label::write_label(text, pool, mode, suppressed, number, author, year, out)
 }

@@ -20,13 +20,13 @@ use Rattle.pool.specs.Layout.{countOf, entryAt}
 use Rattle.source.specs.Entry.{isEmpty}
 use Rattle.base.proofs.Areas.{written-front, written-none, written-byte, written-over}
 use Rattle.definition.specs.Defs.{isDefined, entryDefines}
-use Rattle.defined.specs.declared.Defined.{Defined}
-use Rattle.defined.specs.declared.Defined.the-variants.{Line, Entry as EntryOf, Nothing}
-use Rattle.defined.specs.Lines.{definesIn, definesKeyIn, lineIn}
-use Rattle.defined.specs.Definitions.{definitionIn}
+use Rattle.definition.specs.declared.defined.Defined.{Defined}
+use Rattle.definition.specs.declared.defined.Defined.the-variants.{Line, Entry as EntryOf, Nothing}
+use Rattle.definition.specs.Lines.{definesIn, definesKeyIn, lineIn}
+use Rattle.definition.specs.Definitions.{definitionIn}
 use Rattle.records.specs.Records.{keyIn, groupField}
-use Rattle.defined.specs.Defined.{definedAs, foundIn, definitionNumber, definitionAt, keyBy, DefinedIn}
-use Rattle.entries.specs.Entries.{entryHas, entryIn}
+use Rattle.definition.specs.Defined.{definedAs, foundIn, definitionNumber, definitionAt, keyBy, DefinedIn}
+use Rattle.definition.specs.Entries.{entryHas, entryIn}
 use Rattle.order.specs.Order.{less, insertBy, insertedFrom, Precedes}
 use Rattle.order.specs.References.{sourceKeyIn, rankIn, numberOfKey, SourcesKnown}
 use Rattle.order.specs.Ordered.{rankBy, definitionOf, sourceBy, SortedBy}

@@ -19,15 +19,15 @@ use Rattle.definition.specs.declared.Author.{Author}
 use Rattle.definition.specs.declared.Author.the-variants.{InText, InPool, Missing}
 use Rattle.definition.specs.Parts.{authorBytes, authorGiven}
 use Rattle.definition.specs.Defs.{defAuthor}
-use Rattle.defined.specs.declared.Defined.{Defined}
-use Rattle.defined.specs.declared.Defined.the-variants.{Line, Entry as EntryOf, Nothing}
+use Rattle.definition.specs.declared.defined.Defined.{Defined}
+use Rattle.definition.specs.declared.defined.Defined.the-variants.{Line, Entry as EntryOf, Nothing}
 use Rattle.records.specs.Records.{itemField, groupField, keyIn}
 use Rattle.uses.specs.Uses.{usedAt}
-use Rattle.defined.specs.Defined.{definedAs, foundIn, definitionNumber, definitionAt, keyBy, DefinedIn}
+use Rattle.definition.specs.Defined.{definedAs, foundIn, definitionNumber, definitionAt, keyBy, DefinedIn}
 use Rattle.order.specs.References.{hasNumber, firstWith, sourceKeyIn, numberOfKey}
 use Rattle.order.specs.Ordered.{rankBy, definitionOf, sourceBy}
-use Rattle.entries.proofs.EntryLaws.{part-none}
-use Rattle.defined.proofs.DefinedLaws.{below-count, line-there, entry-there}
+use Rattle.definition.proofs.EntryLaws.{part-none}
+use Rattle.definition.proofs.DefinedLaws.{below-count, line-there, entry-there}
 
 -- the number of a definition -------------------------------------------------------------------------------------------------------
 

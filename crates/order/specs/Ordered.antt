@@ -6,7 +6,7 @@ use mathlib.Core.List.{List}
 use mathlib.Core.Bool.{Bool, true, false}
 use lib.ListN.{getD, set}
 use Rattle.base.specs.Sorted.{Sorted}
-use Rattle.defined.specs.Defined.{definedAs, foundIn, definitionNumber, definitionAt, keyBy}
+use Rattle.definition.specs.Defined.{definedAs, foundIn, definitionNumber, definitionAt, keyBy}
 use Rattle.order.specs.Order.{less, authorOr}
 use Rattle.order.specs.References.{sourceKeyIn, numberOfKey}
 

@@ -6,7 +6,7 @@ use mathlib.Core.Bool.{Bool, true}
 use lib.Dec.{eqb}
 use Rattle.base.specs.First.{first}
 use Rattle.definition.specs.Defs.{isDefined}
-use Rattle.defined.specs.Definitions.{definitionIn}
+use Rattle.definition.specs.Definitions.{definitionIn}
 use Rattle.records.specs.Records.{itemField, keyIn}
 use Rattle.uses.specs.Uses.{usedAt}
 use Rattle.order.specs.Order.{authorOr, referenceOrder}

@@ -9,7 +9,7 @@ ghost use lib.ListN.{length, take};
 ghost use Rattle.base.specs.First.{first};
 ghost use Rattle.base.specs.Lists.{written, upFrom};
 ghost use Rattle.pool.specs.Layout.{wellFormed};
-ghost use Rattle.defined.specs.Definitions.{LinesBelow};
+ghost use Rattle.definition.specs.Definitions.{LinesBelow};
 ghost use Rattle.order.specs.Order.{less, insertBy, insertedFrom};
 ghost use Rattle.order.specs.Ordered.{definitionOf, sourceBy, rankBy, greaterAt, shifted, Rising, SortedBy};
 ghost use Rattle.order.specs.References.{rankIn, SourcesKnown, referencesIn};
@@ -173,7 +173,7 @@ fn order_by_rank<'a>(
     requires { ⌜ (n ≤ 32768) × (m < 4294967296) × (wellFormed (now pool) ≡ true) × (sources ≤ 65535) × (sources ≤ length (now references)) × SourcesKnown (now text) (now pool) (now groups) (now items) n m sources ⌝ }
     ensures { λ _. ⌜ now (references .exit) ≡ written (insertedFrom (rankIn (now (text .entry)) (now (pool .entry)) (now (groups .entry)) (now (items .entry)) n m) sources [] 1) (now (references .entry)) ⌝ }
 {
-    let lines = defined::define::lines_end(text, groups, items, n);
+    let lines = definition::lines::lines_end(text, groups, items, n);
     order_definitions(text, pool, groups, items, n, lines, m, sources, references);
     number_sources(text, pool, groups, items, n, m, sources, references);
 }

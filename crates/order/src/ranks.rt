@@ -1,12 +1,12 @@
 // Definitions by number, and the bytes that their sources are ordered by.
-use defined::Defined;
 use definition::Author;
+use definition::defined::Defined;
 ghost use mathlib.Core.Path.{_≡_};
 ghost use mathlib.Core.Bool.{true};
 ghost use Prim.Native.Nat.{_<_, _≤_};
 ghost use Rattle.pool.specs.Layout.{wellFormed};
-ghost use Rattle.defined.specs.Definitions.{LinesBelow};
-ghost use Rattle.defined.specs.Defined.{definitionNumber, definitionAt, keyBy, DefinedIn};
+ghost use Rattle.definition.specs.Definitions.{LinesBelow};
+ghost use Rattle.definition.specs.Defined.{definitionNumber, definitionAt, keyBy, DefinedIn};
 ghost use Rattle.order.specs.References.{firstWith, numberOfKey};
 ghost use Rattle.order.specs.Ordered.{rankBy, definitionOf, sourceBy};
 
@@ -56,7 +56,7 @@ fn key_by<'a>(
         Defined::Line { group } => {
             records::key_in(text, items, records::group_field(groups, group, 2))
         }
-        Defined::Entry { number } => entries::entry_id(pool, number),
+        Defined::Entry { number } => definition::entries::entry_id(pool, number),
         Defined::Nothing => base::bytes::part_of(text, 0, 0),
     }
 }
@@ -74,7 +74,7 @@ pub fn rank_by<'a>(
     ensures { λ r. ⌜ now r ≡ rankBy (now (text .entry)) (now (pool .entry)) (now (groups .entry)) (now (items .entry)) n i ⌝ }
 {
     let d = definition_at(pool, n, i);
-    let author = defined::author_in(text, pool, groups, n, d);
+    let author = definition::defined::author_in(text, pool, groups, n, d);
     match author {
         Author::InText { part: _ } => definition::author_bytes(text, pool, author),
         Author::InPool { part: _ } => definition::author_bytes(text, pool, author),
@@ -115,7 +115,7 @@ pub fn definition_of(
     definition_number(
         pool,
         n,
-        defined::find(text, pool, groups, items, n, lines, key),
+        definition::defined::find(text, pool, groups, items, n, lines, key),
     )
 }
 

@@ -6,8 +6,8 @@ use lib.ListN.{length, getD}
 use lib.Dec.{eqb, ltb}
 use Rattle.base.specs.Pick.{pick}
 use Rattle.base.specs.Lists.{part}
-use Rattle.rows.specs.Rows.{itemWidth}
-use Rattle.standing.specs.Rows.{groupWidth}
+use Rattle.records.specs.Widths.{itemWidth}
+use Rattle.records.specs.Widths.{groupWidth}
 
 -- the number at place `c` of item record `k`
 unfoldable pub itemField : List ℕ → ℕ → ℕ → ℕ

@@ -1,4 +1,6 @@
 // Item and group records as they lie in the lent areas. Any numbers may stand there: what is past the end of an area counts as 0.
+pub mod item_records;
+
 ghost use mathlib.Core.Path.{_≡_};
 ghost use Prim.Native.Nat.{_<_};
 ghost use lib.ListN.{getD, set};

@@ -46,40 +46,40 @@ fn counted(t: Tally, is_same: bool) -> Tally {
 // Whether the proved function of this kind gives the answer that the record's body holds.
 fn agrees(kind: u8, body: &[u8]) -> bool {
     if kind == 1 {
-        return replay_parts::leaves::utf8_agrees(body);
+        return replay_calls::leaves::utf8_agrees(body);
     }
     if kind == 2 {
-        return replay_parts::leaves::escaped_agrees(body);
+        return replay_calls::leaves::escaped_agrees(body);
     }
     if kind == 3 {
-        return replay_parts::leaves::key_agrees(body);
+        return replay_calls::leaves::key_agrees(body);
     }
     if kind == 4 {
-        return replay_parts::leaves::white_agrees(body);
+        return replay_calls::leaves::white_agrees(body);
     }
     if kind == 5 {
-        return replay_parts::leaves::trim_agrees(body);
+        return replay_calls::leaves::trim_agrees(body);
     }
     if kind == 6 {
-        return replay_parts::parts::close_agrees(body);
+        return replay_calls::parts::close_agrees(body);
     }
     if kind == 7 {
         return replay_calls::locator_agrees(body);
     }
     if kind == 8 {
-        return replay_parts::parts::item_agrees(body);
+        return replay_calls::parts::item_agrees(body);
     }
     if kind == 9 {
-        return replay_parts::pools::pool_agrees(body);
+        return replay_calls::pools::pool_agrees(body);
     }
     if kind == 10 {
         return replay_calls::source_agrees(body);
     }
     if kind == 11 {
-        return replay_look_ups::look_ups_agree(body);
+        return replay_calls::look_ups::look_ups_agree(body);
     }
     if kind == 12 {
-        return replay_annotations::annotations_agree(body);
+        return replay_calls::annotations::annotations_agree(body);
     }
     false
 }

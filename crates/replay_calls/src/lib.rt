@@ -1,13 +1,19 @@
 // The kinds of the calls that take one request and keep nothing: locator and source text.
 // Whether the proved call gives the stored answer; docs/DIFFERENCES.md has the body of each kind.
+pub mod annotations;
+pub mod leaves;
+pub mod look_ups;
+pub mod parts;
+pub mod pools;
+
+use crate::parts::is_locator_answer;
+use crate::pools::is_source_text;
 use lookup::LocatorAnswer;
 use replay_body::areas::BLANK;
 use replay_body::areas::has_bytes;
 use replay_body::areas::has_only;
 use replay_body::body::after;
 use replay_body::body::number;
-use replay_parts::parts::is_locator_answer;
-use replay_parts::pools::is_source_text;
 use source_text::SourceText;
 
 // The parts of a locator.

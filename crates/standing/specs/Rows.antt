@@ -5,7 +5,7 @@ use mathlib.Core.Bool.{Bool}
 use lib.ListN.{length}
 use Rattle.base.specs.Pick.{pick}
 use Rattle.item.specs.Group.{Group}
-use Rattle.rows.specs.Rows.{rowsOf}
+use Rattle.records.specs.Rows.{rowsOf}
 use Rattle.definition_line.specs.Lines.{inLine, groupEnd}
 
 -- a group of the sweep, with its standing
@@ -16,10 +16,6 @@ pub record Placed : Type 0 where
 -- a group and its standing
 abbrev pub placed : Group → ℕ → Placed
 placed group standing = record { group = group; standing = standing }
-
--- how many numbers a group record has
-abbrev pub groupWidth : ℕ
-groupWidth = 5
 
 -- "Group record, 5 u16: pair, first item (items, groups and entries count from 0), item count, standing"
 unfoldable pub groupRow : ℕ → Placed → List ℕ

@@ -11,18 +11,18 @@ use Rattle.base.specs.Pick.{pick}
 use Rattle.base.specs.Lists.{written}
 use Rattle.base.proofs.Bools.{and-left, and-right}
 use Rattle.item.specs.Group.{Group}
-use Rattle.rows.specs.Rows.{rowsOf, rowsLength}
-use Rattle.rows.proofs.RowLaws.{rows-length}
+use Rattle.records.specs.Rows.{rowsOf, rowsLength}
+use Rattle.records.proofs.RowLaws.{rows-length}
 use Rattle.definition_line.specs.Lines.{inLine, groupEnd}
-use Rattle.group_records.specs.declared.SweepState.{SweepState}
+use Rattle.sweep.specs.declared.group_records.SweepState.{SweepState}
 use Rattle.standing.proofs.Swept.{placed-length}
 use Rattle.sweep.specs.Sweep.{Lent, Swept, lentAfter, sweepRun}
 use Rattle.standing.specs.Rows.{Placed, placed, groupRow, groupRows, itemCount, itemRows, placedBy, sweptFrom, insideAfter, endAfter}
 use Rattle.sweep.specs.Stops.{stopFrom, startState, SweptTo}
-use Rattle.group_records.specs.Areas.{writtenAt}
-use Rattle.group_records.specs.Recording.{recordsFit, Counted, Recorded}
+use Rattle.sweep.specs.Areas.{writtenAt}
+use Rattle.sweep.specs.Recording.{recordsFit, Counted, Recorded}
 use Rattle.sweep.specs.Facts.{goneOn}
-use Rattle.group_records.proofs.Areas.{written-none, written-more, written-front}
+use Rattle.sweep.proofs.Areas.{written-none, written-more, written-front}
 use Rattle.sweep.proofs.Sizes.{count-append}
 use Rattle.sweep.proofs.Stops.{sweep-in-two}
 

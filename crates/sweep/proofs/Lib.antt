@@ -4,3 +4,5 @@ pub mod Stops
 pub mod Laws
 pub mod Steps
 pub mod Turns
+pub mod Areas
+pub mod Recording

@@ -20,12 +20,12 @@ use Rattle.item.specs.Group.{Group, groupOf}
 use Rattle.resolve.specs.Resolve.{closeAsRun, groupAsRun}
 use Rattle.resolve.specs.Looks.{Inside}
 use Rattle.resolve.proofs.Runs.{run-inside}
-use Rattle.group_records.specs.declared.SweepState.{SweepState}
+use Rattle.sweep.specs.declared.group_records.SweepState.{SweepState}
 use Rattle.sweep.specs.declared.Step.{Step}
 use Rattle.sweep.specs.declared.Step.the-variants.{Next, Group as StepGroup, Build}
 use Rattle.sweep.specs.Sweep.{listed, nextAt, foundWith, wantsAt}
 use Rattle.sweep.specs.Stops.{stop, after, stopIn, stopFrom, SweptTo}
-use Rattle.group_records.specs.Recording.{Counted, Recorded, Recordable, RecordedOne}
+use Rattle.sweep.specs.Recording.{Counted, Recorded, Recordable, RecordedOne}
 use Rattle.sweep.specs.Steps.{stepOf, stepAt, movedTo, Onward, Turned}
 use Rattle.standing.specs.Stands.{GroupFrom}
 use Rattle.sweep.proofs.Stops.{stop-end, stop-enough}

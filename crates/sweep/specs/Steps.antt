@@ -7,12 +7,12 @@ use lib.ListN.{length}
 use Rattle.base.specs.Pick.{pick}
 use Rattle.resolve.specs.Groups.{GroupAnswer, Found, NoGroup}
 use Rattle.item.specs.Group.{Group}
-use Rattle.group_records.specs.declared.SweepState.{SweepState}
+use Rattle.sweep.specs.declared.group_records.SweepState.{SweepState}
 use Rattle.sweep.specs.declared.Step.{Step}
 use Rattle.sweep.specs.declared.Step.the-variants.{Next, Group as StepGroup, Build}
 use Rattle.sweep.specs.Sweep.{foundWith, wantsAt}
 use Rattle.sweep.specs.Stops.{stop, after, stopFrom}
-use Rattle.group_records.specs.Recording.{Counted, Recorded}
+use Rattle.sweep.specs.Recording.{Counted, Recorded}
 
 -- a group by its close and the count of its items
 abbrev pub stepOf : GroupAnswer → Step

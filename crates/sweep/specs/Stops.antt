@@ -7,8 +7,8 @@ use lib.ListN.{length}
 use lib.Dec.{ltb}
 use Rattle.base.specs.Pick.{pick}
 use Rattle.item.specs.Group.{Group}
-use Rattle.group_records.specs.declared.SweepState.{SweepState}
-use Rattle.group_records.specs.Recording.{Counted, Recorded}
+use Rattle.sweep.specs.declared.group_records.SweepState.{SweepState}
+use Rattle.sweep.specs.Recording.{Counted, Recorded}
 use Rattle.sweep.specs.Sweep.{listed, nextAt, foundWith, wantsAt}
 
 -- the groups found, where the sweep stands, and whether the bracket there wants a build

@@ -1,8 +1,10 @@
 // The sweep: left to right, each unescaped `[`; the records of the groups found.
+pub mod group_records;
+
+use crate::group_records::SweepState;
+use crate::group_records::record_group;
 use base::bytes::find_byte;
 use close::Close;
-use group_records::SweepState;
-use group_records::record_group;
 use resolve::Look;
 use resolve::Matched;
 use resolve::look_at;
@@ -13,7 +15,7 @@ ghost use Prim.Native.Nat.{_≤_, _<_};
 ghost use lib.ListN.{length};
 ghost use Rattle.base.specs.Lists.{byteAt};
 ghost use Rattle.sweep.specs.Stops.{startState, SweptTo};
-ghost use Rattle.group_records.specs.Recording.{Counted};
+ghost use Rattle.sweep.specs.Recording.{Counted};
 ghost use Rattle.sweep.specs.Steps.{stepAt, movedTo, Turned};
 ghost use Rattle.sweep.specs.Facts.{SizeEnough, SizeEnoughRun, SweepInTwo};
 

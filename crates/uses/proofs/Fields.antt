@@ -9,8 +9,10 @@ use lib.Seq.{getD-append-add, getD-set-same, getD-set-other}
 use Rattle.base.specs.declared.Span.{Span}
 use Rattle.base.specs.Spans.{span}
 use Rattle.item.specs.declared.Item.{Item}
-use Rattle.rows.specs.Rows.{itemWidth, recordOf}
-use Rattle.standing.specs.Rows.{Placed, placed, groupWidth, groupRow}
+use Rattle.records.specs.Rows.{recordOf}
+use Rattle.records.specs.Widths.{itemWidth}
+use Rattle.standing.specs.Rows.{Placed, placed, groupRow}
+use Rattle.records.specs.Widths.{groupWidth}
 use Rattle.records.specs.Records.{itemField, groupField}
 use Rattle.uses.specs.Uses.{setLast}
 

@@ -7,7 +7,7 @@ use lib.Dec.{eqb, ltb}
 use Rattle.base.specs.Pick.{pick}
 use Rattle.base.specs.Last.{last}
 use Rattle.base.specs.Lists.{same}
-use Rattle.rows.specs.Rows.{itemWidth}
+use Rattle.records.specs.Widths.{itemWidth}
 use Rattle.records.specs.Records.{itemField, keyIn}
 use Prim.Native.Nat.{_≤_}
 use mathlib.Core.Path.{_≡_}

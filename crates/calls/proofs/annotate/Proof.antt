@@ -39,40 +39,40 @@ use denote.Exit.{yes}
 use Rattle.index.specs.declared.Bracket.{Bracket}
 use Rattle.index.proofs.Bracket as T
 use Rattle.index.specs.Built.{indexAfter, recordsAfter, builtWhen}
-use Rattle.pairs.proofs.Lent.{at-list, lent, back}
+use Rattle.index.proofs.Lent.{at-list, lent, back}
 use Rattle.base.proofs.Calling.{calls-fn, calls-row, copied, last-list, no-last}
-use Rattle.pairs.proofs.Calls.{Count, BuildWhen, counts, builds-when}
-use Rattle.pairs.proofs.count.Symbol as count-def
-use Rattle.pairs.proofs.count.Symbol.{name as #pairs·count}
-use Rattle.pairs.proofs.count.Met as count-thm
-use Rattle.pairs.proofs.build_when.Symbol as when-def
-use Rattle.pairs.proofs.build_when.Symbol.{name as #pairs·build-when}
-use Rattle.pairs.proofs.build_when.Met as when-thm
-use Rattle.annotation_answer.specs.declared.Annotation.{Annotation}
-use Rattle.annotation_answer.proofs.Annotation as R
-use Rattle.annotation_answer.proofs.Annotation.Laws as R′
-use Rattle.preparation.specs.declared.Begun.{Begun}
-use Rattle.preparation.proofs.Begun as P
-use Rattle.preparation.proofs.Begun.Laws as P′
+use Rattle.index.proofs.Calls.{Count, BuildWhen, counts, builds-when}
+use Rattle.index.proofs.brackets.count.Symbol as count-def
+use Rattle.index.proofs.brackets.count.Symbol.{name as #index·brackets·count}
+use Rattle.index.proofs.brackets.count.Met as count-thm
+use Rattle.index.proofs.brackets.build_when.Symbol as when-def
+use Rattle.index.proofs.brackets.build_when.Symbol.{name as #index·brackets·build-when}
+use Rattle.index.proofs.brackets.build_when.Met as when-thm
+use Rattle.annotation.specs.declared.answer.Annotation.{Annotation}
+use Rattle.annotation.proofs.answer.Annotation as R
+use Rattle.annotation.proofs.answer.Annotation.Laws as R′
+use Rattle.annotation.specs.declared.preparation.Begun.{Begun}
+use Rattle.annotation.proofs.preparation.Begun as P
+use Rattle.annotation.proofs.preparation.Begun.Laws as P′
 use Rattle.annotation.specs.Content.{areas}
-use Rattle.preparation.specs.FirstHalf.{BegunBy}
-use Rattle.completion.specs.SecondHalf.{Continues, Finished}
+use Rattle.annotation.specs.FirstHalf.{BegunBy}
+use Rattle.annotation.specs.SecondHalf.{Continues, Finished}
 use Rattle.annotation.specs.Values.{Done}
 use Rattle.annotation.specs.Call.{AnnotateRan, annotateRun}
-use Rattle.preparation.proofs.BeginLaws.{wanted-enough}
+use Rattle.annotation.proofs.BeginLaws.{wanted-enough}
 use Rattle.annotation.proofs.Answers.{ran-index, ran-records}
-use Rattle.preparation.proofs.prepare as prepare
-use Rattle.preparation.proofs.prepare.Symbol as prepare-def
-use Rattle.preparation.proofs.prepare.Symbol.{name as #preparation·prepare}
-use Rattle.preparation.proofs.prepare.Met as prepare-thm
-use Rattle.preparation.proofs.wants_build as wants
-use Rattle.preparation.proofs.wants_build.Symbol as wants-def
-use Rattle.preparation.proofs.wants_build.Symbol.{name as #preparation·wants-build}
-use Rattle.preparation.proofs.wants_build.Met as wants-thm
-use Rattle.completion.proofs.finish as finish
-use Rattle.completion.proofs.finish.Symbol as finish-def
-use Rattle.completion.proofs.finish.Symbol.{name as #completion·finish}
-use Rattle.completion.proofs.finish.Met as finish-thm
+use Rattle.annotation.proofs.preparation.prepare as prepare
+use Rattle.annotation.proofs.preparation.prepare.Symbol as prepare-def
+use Rattle.annotation.proofs.preparation.prepare.Symbol.{name as #annotation·preparation·prepare}
+use Rattle.annotation.proofs.preparation.prepare.Met as prepare-thm
+use Rattle.annotation.proofs.preparation.wants_build as wants
+use Rattle.annotation.proofs.preparation.wants_build.Symbol as wants-def
+use Rattle.annotation.proofs.preparation.wants_build.Symbol.{name as #annotation·preparation·wants-build}
+use Rattle.annotation.proofs.preparation.wants_build.Met as wants-thm
+use Rattle.annotation.proofs.completion.finish as finish
+use Rattle.annotation.proofs.completion.finish.Symbol as finish-def
+use Rattle.annotation.proofs.completion.finish.Symbol.{name as #annotation·completion·finish}
+use Rattle.annotation.proofs.completion.finish.Met as finish-thm
 use Rattle.calls.proofs.annotate.Key.{name as #calls·annotate}
 use Rattle.calls.proofs.annotate as f
 use Rattle.calls.proofs.annotate.Statement as stated
@@ -83,11 +83,11 @@ stayed = (stay-none-slice (0 ∷ []) tt (plain (λ _. u8)) yes, (stay-none (λ _
 
 abbrev Known : {M : Type 1} (𝓤 : URA M) (H : Heap 𝓤) (A : Atoms 𝓤) (mem : Memory → SProp 𝓤) (run : Routine → Fun 𝓤) (C : Calls 𝓤 H) → Type 1
 Known 𝓤 H A mem run C =
-    Triple 𝓤 (C #pairs·count) (Count 𝓤 H A mem run)
-    × Triple 𝓤 (C #preparation·prepare) (tripleOf 𝓤 H A prepare.signature (prepare.spec 𝓤 H A mem run))
-    × Triple 𝓤 (C #preparation·wants-build) (tripleOf 𝓤 H A wants.signature (wants.spec 𝓤 H A mem run))
-    × Triple 𝓤 (C #pairs·build-when) (BuildWhen 𝓤 H A mem run)
-    × Triple 𝓤 (C #completion·finish) (tripleOf 𝓤 H A finish.signature (finish.spec 𝓤 H A mem run))
+    Triple 𝓤 (C #index·brackets·count) (Count 𝓤 H A mem run)
+    × Triple 𝓤 (C #annotation·preparation·prepare) (tripleOf 𝓤 H A prepare.signature (prepare.spec 𝓤 H A mem run))
+    × Triple 𝓤 (C #annotation·preparation·wants-build) (tripleOf 𝓤 H A wants.signature (wants.spec 𝓤 H A mem run))
+    × Triple 𝓤 (C #index·brackets·build-when) (BuildWhen 𝓤 H A mem run)
+    × Triple 𝓤 (C #annotation·completion·finish) (tripleOf 𝓤 H A finish.signature (finish.spec 𝓤 H A mem run))
 
 module _ {M : Type 1} (𝓤 : URA M) (H : Heap 𝓤) (A : Atoms 𝓤) (W : Given 𝓤 H A) (mem : Memory → SProp 𝓤) (run : Routine → Fun 𝓤)
     (κ₀ κ₁ κ₂ κ₃ κ₄ κ₅ κ₆ : Lft) (q₀ q₁ q₂ q₃ q₄ q₅ q₆ : Share) (b₀ o₀ b₁ o₁ b₂ o₂ b₃ o₃ b₄ o₄ b₅ o₅ b₆ o₆ b₇ o₇ : ℕ) (γ₀ γ₁ γ₂ γ₃ γ₄ γ₅ γ₆ γ₇ : GName) (ts ps is js gs rs ls : List ℕ) (ys : List Bracket) (mode note : ℕ) where
@@ -244,9 +244,9 @@ annotate-spec 𝓤 H 𝓜 𝓖 𝓡 =
     entered 𝓤 H (tripleOf 𝓤 H (𝓖 .A) f.signature (f.spec 𝓤 H (𝓖 .A) (𝓜 .mem) (𝓡 .run)))
     (tables 𝓤 H 𝓜 𝓡 code.env .C) (tables 𝓤 H 𝓜 𝓡 code.env .Λ) #calls·annotate code.function (code.unfolded 𝓤 H 𝓜 𝓡)
     (annotate-meets 𝓤 H (𝓖 .A) (givenOf 𝓤 H 𝓜 𝓖) (𝓜 .mem) (𝓡 .run) (tablesOf 𝓤 H 𝓜 (tables 𝓤 H 𝓜 𝓡 code.env)) (
-      cited 𝓤 H (Count 𝓤 H (𝓖 .A) (𝓜 .mem) (𝓡 .run)) 𝓜 𝓡 code.env #pairs·count count-def.routine code.calls-pairs·count (count-thm.met 𝓤 H 𝓜 𝓖 𝓡),
-      cited 𝓤 H (tripleOf 𝓤 H (𝓖 .A) prepare.signature (prepare.spec 𝓤 H (𝓖 .A) (𝓜 .mem) (𝓡 .run))) 𝓜 𝓡 code.env #preparation·prepare prepare-def.routine code.calls-preparation·prepare (prepare-thm.met 𝓤 H 𝓜 𝓖 𝓡),
-      cited 𝓤 H (tripleOf 𝓤 H (𝓖 .A) wants.signature (wants.spec 𝓤 H (𝓖 .A) (𝓜 .mem) (𝓡 .run))) 𝓜 𝓡 code.env #preparation·wants-build wants-def.routine code.calls-preparation·wants-build (wants-thm.met 𝓤 H 𝓜 𝓖 𝓡),
-      cited 𝓤 H (BuildWhen 𝓤 H (𝓖 .A) (𝓜 .mem) (𝓡 .run)) 𝓜 𝓡 code.env #pairs·build-when when-def.routine code.calls-pairs·build-when (when-thm.met 𝓤 H 𝓜 𝓖 𝓡),
-      cited 𝓤 H (tripleOf 𝓤 H (𝓖 .A) finish.signature (finish.spec 𝓤 H (𝓖 .A) (𝓜 .mem) (𝓡 .run))) 𝓜 𝓡 code.env #completion·finish finish-def.routine code.calls-completion·finish (finish-thm.met 𝓤 H 𝓜 𝓖 𝓡),
+      cited 𝓤 H (Count 𝓤 H (𝓖 .A) (𝓜 .mem) (𝓡 .run)) 𝓜 𝓡 code.env #index·brackets·count count-def.routine code.calls-index·brackets·count (count-thm.met 𝓤 H 𝓜 𝓖 𝓡),
+      cited 𝓤 H (tripleOf 𝓤 H (𝓖 .A) prepare.signature (prepare.spec 𝓤 H (𝓖 .A) (𝓜 .mem) (𝓡 .run))) 𝓜 𝓡 code.env #annotation·preparation·prepare prepare-def.routine code.calls-annotation·preparation·prepare (prepare-thm.met 𝓤 H 𝓜 𝓖 𝓡),
+      cited 𝓤 H (tripleOf 𝓤 H (𝓖 .A) wants.signature (wants.spec 𝓤 H (𝓖 .A) (𝓜 .mem) (𝓡 .run))) 𝓜 𝓡 code.env #annotation·preparation·wants-build wants-def.routine code.calls-annotation·preparation·wants-build (wants-thm.met 𝓤 H 𝓜 𝓖 𝓡),
+      cited 𝓤 H (BuildWhen 𝓤 H (𝓖 .A) (𝓜 .mem) (𝓡 .run)) 𝓜 𝓡 code.env #index·brackets·build-when when-def.routine code.calls-index·brackets·build-when (when-thm.met 𝓤 H 𝓜 𝓖 𝓡),
+      cited 𝓤 H (tripleOf 𝓤 H (𝓖 .A) finish.signature (finish.spec 𝓤 H (𝓖 .A) (𝓜 .mem) (𝓡 .run))) 𝓜 𝓡 code.env #annotation·completion·finish finish-def.routine code.calls-annotation·completion·finish (finish-thm.met 𝓤 H 𝓜 𝓖 𝓡),
     ))

@@ -39,15 +39,15 @@ use denote.Exit.{yes}
 use Rattle.index.specs.declared.Bracket.{Bracket}
 use Rattle.index.proofs.Bracket as T
 use Rattle.index.specs.Built.{indexAfter, recordsAfter, builtWhen}
-use Rattle.pairs.proofs.Lent.{at-list, lent, back}
+use Rattle.index.proofs.Lent.{at-list, lent, back}
 use Rattle.base.proofs.Calling.{calls-fn, calls-row, copied, last-list, no-last}
-use Rattle.pairs.proofs.Calls.{Count, BuildWhen, counts, builds-when}
-use Rattle.pairs.proofs.count.Symbol as count-def
-use Rattle.pairs.proofs.count.Symbol.{name as #pairs·count}
-use Rattle.pairs.proofs.count.Met as count-thm
-use Rattle.pairs.proofs.build_when.Symbol as when-def
-use Rattle.pairs.proofs.build_when.Symbol.{name as #pairs·build-when}
-use Rattle.pairs.proofs.build_when.Met as when-thm
+use Rattle.index.proofs.Calls.{Count, BuildWhen, counts, builds-when}
+use Rattle.index.proofs.brackets.count.Symbol as count-def
+use Rattle.index.proofs.brackets.count.Symbol.{name as #index·brackets·count}
+use Rattle.index.proofs.brackets.count.Met as count-thm
+use Rattle.index.proofs.brackets.build_when.Symbol as when-def
+use Rattle.index.proofs.brackets.build_when.Symbol.{name as #index·brackets·build-when}
+use Rattle.index.proofs.brackets.build_when.Met as when-thm
 use Rattle.lookup.specs.declared.LookUp.{LookUp}
 use Rattle.lookup.proofs.LookUp as R
 use Rattle.lookup.proofs.LookUp.Laws as R′
@@ -78,10 +78,10 @@ stayed = (stay-none-slice (0 ∷ []) tt (plain (λ _. u8)) yes, (stay-none (λ _
 
 abbrev Known : {M : Type 1} (𝓤 : URA M) (H : Heap 𝓤) (A : Atoms 𝓤) (mem : Memory → SProp 𝓤) (run : Routine → Fun 𝓤) (C : Calls 𝓤 H) → Type 1
 Known 𝓤 H A mem run C =
-    Triple 𝓤 (C #pairs·count) (Count 𝓤 H A mem run)
+    Triple 𝓤 (C #index·brackets·count) (Count 𝓤 H A mem run)
     × Triple 𝓤 (C #lookup·prepare) (tripleOf 𝓤 H A prepare.signature (prepare.spec 𝓤 H A mem run))
     × Triple 𝓤 (C #lookup·wants-build) (tripleOf 𝓤 H A wants.signature (wants.spec 𝓤 H A mem run))
-    × Triple 𝓤 (C #pairs·build-when) (BuildWhen 𝓤 H A mem run)
+    × Triple 𝓤 (C #index·brackets·build-when) (BuildWhen 𝓤 H A mem run)
     × Triple 𝓤 (C #lookup·finish) (tripleOf 𝓤 H A finish.signature (finish.spec 𝓤 H A mem run))
 
 module _ {M : Type 1} (𝓤 : URA M) (H : Heap 𝓤) (A : Atoms 𝓤) (W : Given 𝓤 H A) (mem : Memory → SProp 𝓤) (run : Routine → Fun 𝓤)
@@ -221,9 +221,9 @@ look-up-spec 𝓤 H 𝓜 𝓖 𝓡 =
     entered 𝓤 H (tripleOf 𝓤 H (𝓖 .A) f.signature (f.spec 𝓤 H (𝓖 .A) (𝓜 .mem) (𝓡 .run)))
     (tables 𝓤 H 𝓜 𝓡 code.env .C) (tables 𝓤 H 𝓜 𝓡 code.env .Λ) #calls·look-up code.function (code.unfolded 𝓤 H 𝓜 𝓡)
     (look-up-meets 𝓤 H (𝓖 .A) (givenOf 𝓤 H 𝓜 𝓖) (𝓜 .mem) (𝓡 .run) (tablesOf 𝓤 H 𝓜 (tables 𝓤 H 𝓜 𝓡 code.env)) (
-      cited 𝓤 H (Count 𝓤 H (𝓖 .A) (𝓜 .mem) (𝓡 .run)) 𝓜 𝓡 code.env #pairs·count count-def.routine code.calls-pairs·count (count-thm.met 𝓤 H 𝓜 𝓖 𝓡),
+      cited 𝓤 H (Count 𝓤 H (𝓖 .A) (𝓜 .mem) (𝓡 .run)) 𝓜 𝓡 code.env #index·brackets·count count-def.routine code.calls-index·brackets·count (count-thm.met 𝓤 H 𝓜 𝓖 𝓡),
       cited 𝓤 H (tripleOf 𝓤 H (𝓖 .A) prepare.signature (prepare.spec 𝓤 H (𝓖 .A) (𝓜 .mem) (𝓡 .run))) 𝓜 𝓡 code.env #lookup·prepare prepare-def.routine code.calls-lookup·prepare (prepare-thm.met 𝓤 H 𝓜 𝓖 𝓡),
       cited 𝓤 H (tripleOf 𝓤 H (𝓖 .A) wants.signature (wants.spec 𝓤 H (𝓖 .A) (𝓜 .mem) (𝓡 .run))) 𝓜 𝓡 code.env #lookup·wants-build wants-def.routine code.calls-lookup·wants-build (wants-thm.met 𝓤 H 𝓜 𝓖 𝓡),
-      cited 𝓤 H (BuildWhen 𝓤 H (𝓖 .A) (𝓜 .mem) (𝓡 .run)) 𝓜 𝓡 code.env #pairs·build-when when-def.routine code.calls-pairs·build-when (when-thm.met 𝓤 H 𝓜 𝓖 𝓡),
+      cited 𝓤 H (BuildWhen 𝓤 H (𝓖 .A) (𝓜 .mem) (𝓡 .run)) 𝓜 𝓡 code.env #index·brackets·build-when when-def.routine code.calls-index·brackets·build-when (when-thm.met 𝓤 H 𝓜 𝓖 𝓡),
       cited 𝓤 H (tripleOf 𝓤 H (𝓖 .A) finish.signature (finish.spec 𝓤 H (𝓖 .A) (𝓜 .mem) (𝓡 .run))) 𝓜 𝓡 code.env #lookup·finish finish-def.routine code.calls-lookup·finish (finish-thm.met 𝓤 H 𝓜 𝓖 𝓡),
     ))

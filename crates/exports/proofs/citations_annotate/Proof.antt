@@ -41,14 +41,14 @@ use denote.Exit.{yes}
 use Rattle.base.specs.Lists.{written}
 use Rattle.index.specs.declared.Bracket.{Bracket}
 use Rattle.index.proofs.Bracket as T
-use Rattle.pairs.proofs.Lent.{at-list, lent, back}
+use Rattle.index.proofs.Lent.{at-list, lent, back}
 use Rattle.base.proofs.Calling.{calls-fn, calls-row-last, copied, last-list, no-last}
 use Rattle.annotation.specs.Content.{areas}
 use Rattle.annotation.specs.Call.{AnnotateRan, annotateRun}
-use Rattle.annotation_answer.specs.Values.{annotationValues}
+use Rattle.annotation.specs.AnswerValues.{annotationValues}
 use Rattle.annotation.specs.Values.{annotationNumbers, annotationAnswer}
-use Rattle.annotation_answer.proofs.Annotation as R
-use Rattle.annotation_answer.proofs.Annotation.Laws as R′
+use Rattle.annotation.proofs.answer.Annotation as R
+use Rattle.annotation.proofs.answer.Annotation.Laws as R′
 use Rattle.calls.proofs.annotate as called
 use Rattle.calls.proofs.annotate.Symbol as called-def
 use Rattle.calls.proofs.annotate.Symbol.{name as #calls·annotate}

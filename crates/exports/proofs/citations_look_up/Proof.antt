@@ -41,7 +41,7 @@ use denote.Exit.{yes}
 use Rattle.base.specs.Lists.{written}
 use Rattle.index.specs.declared.Bracket.{Bracket}
 use Rattle.index.proofs.Bracket as T
-use Rattle.pairs.proofs.Lent.{at-list, lent, back}
+use Rattle.index.proofs.Lent.{at-list, lent, back}
 use Rattle.base.proofs.Calling.{calls-fn, calls-row-last, copied, last-list, no-last}
 use Rattle.lookup.specs.LookUps.{LookUpRan, lookUpRun}
 use Rattle.lookup.specs.Values.{lookUpValues, lookUpNumbers}

@@ -41,21 +41,21 @@ use denote.Exit.{yes}
 use Rattle.index.specs.Built.{blank}
 use Rattle.index.proofs.Bracket as T
 use Rattle.index.proofs.Bracket.Laws as T′
-use Rattle.pairs.proofs.Lent.{at-list}
+use Rattle.index.proofs.Lent.{at-list}
 use Rattle.local_records.proofs.Local.{local-back}
 use Rattle.base.proofs.Calling.{calls-fn, copied, last-list, no-last}
-use Rattle.annotation_answer.specs.declared.Annotation.{Annotation}
+use Rattle.annotation.specs.declared.answer.Annotation.{Annotation}
 use Rattle.annotation.specs.Call.{AnnotateRan, annotateRun}
 use Rattle.annotation.specs.Content.{areas}
 use Rattle.histories.specs.Promises.{AnnotatePromise}
-use Rattle.annotation_answer.proofs.Annotation as R
-use Rattle.annotation_answer.proofs.Annotation.Laws as R′
+use Rattle.annotation.proofs.answer.Annotation as R
+use Rattle.annotation.proofs.answer.Annotation.Laws as R′
 use Rattle.calls.proofs.annotate as called
 use Rattle.calls.proofs.annotate.Symbol as called-def
 use Rattle.calls.proofs.annotate.Symbol.{name as #calls·annotate}
 use Rattle.calls.proofs.annotate.Met as called-thm
 use Rattle.local_records.proofs.LongLocal.{lends-long, big-lit}
-use Rattle.pairs.proofs.Blank.{bracket, is-blank}
+use Rattle.index.proofs.Blank.{bracket, is-blank}
 use Rattle.local_records.proofs.Records.{rows}
 use Rattle.local_records.proofs.annotate.Key.{name as #annotate}
 use Rattle.local_records.proofs.annotate as f

@@ -41,7 +41,7 @@ use denote.Exit.{yes}
 use Rattle.index.specs.Built.{blank}
 use Rattle.index.proofs.Bracket as T
 use Rattle.index.proofs.Bracket.Laws as T′
-use Rattle.pairs.proofs.Lent.{at-list}
+use Rattle.index.proofs.Lent.{at-list}
 use Rattle.local_records.proofs.Local.{local-back}
 use Rattle.base.proofs.Calling.{calls-fn, copied, last-list, no-last}
 use Rattle.lookup.specs.declared.LookUp.{LookUp}
@@ -54,7 +54,7 @@ use Rattle.calls.proofs.look_up.Symbol as called-def
 use Rattle.calls.proofs.look_up.Symbol.{name as #calls·look-up}
 use Rattle.calls.proofs.look_up.Met as called-thm
 use Rattle.local_records.proofs.LongLocal.{lends-long, big-lit}
-use Rattle.pairs.proofs.Blank.{bracket, is-blank}
+use Rattle.index.proofs.Blank.{bracket, is-blank}
 use Rattle.local_records.proofs.Records.{rows}
 use Rattle.local_records.proofs.look_up.Key.{name as #look-up}
 use Rattle.local_records.proofs.look_up as f

@@ -1,0 +1,29 @@
+-- Definition lines among the records.
+use Prim.Native.Nat.{ℕ}
+use mathlib.Core.List.{List}
+use mathlib.Core.Bool.{Bool, _&&_}
+use lib.Dec.{eqb}
+use Rattle.base.specs.Last.{last}
+use Rattle.base.specs.Lists.{same}
+use Rattle.definition_line.specs.Lines.{startsLine, colonAfter}
+use Rattle.definition.specs.Defs.{Def, lineDef}
+use Rattle.records.specs.Records.{groupField, keyIn, bareIn, closeOfRecord, nextIn}
+
+-- group record `g` starts a definition line: "starts .. with a group of one item, no prefix, no locator, not suppressed; then `:` and at
+-- least one space"
+unfoldable pub definesIn : List ℕ → List ℕ → List ℕ → ℕ → Bool
+definesIn text groups items g =
+    startsLine text (groupField groups g 0) && eqb (groupField groups g 3) 1 && bareIn items (groupField groups g 2)
+    && colonAfter text (closeOfRecord groups g)
+
+-- and its key is this one
+unfoldable pub definesKeyIn : List ℕ → List ℕ → List ℕ → List ℕ → ℕ → Bool
+definesKeyIn text groups items key g = definesIn text groups items g && same (keyIn text items (groupField groups g 2)) key
+
+-- "The last definition line of a key wins": its group number among the first `n`; `n` where there is none
+unfoldable pub lineIn : List ℕ → List ℕ → List ℕ → ℕ → List ℕ → ℕ
+lineIn text groups items n key = last (definesKeyIn text groups items key) n n
+
+-- the definition that the line of group record `g` gives
+unfoldable pub lineDefIn : List ℕ → List ℕ → ℕ → ℕ → Def
+lineDefIn text groups n g = lineDef text g (closeOfRecord groups g) (nextIn text groups n g)

@@ -1,0 +1,109 @@
+// What defines a key: the last definition line of it among the group records, else the first entry of the pool.
+// And the author and the year that it gives.
+pub mod define;
+
+use crate::Author;
+use crate::Year;
+ghost use mathlib.Core.Path.{_≡_};
+ghost use mathlib.Core.List.{List};
+ghost use mathlib.Core.Bool.{true};
+ghost use Prim.Native.Nat.{ℕ, _<_};
+ghost use Rattle.pool.specs.Layout.{wellFormed};
+ghost use Rattle.definition.specs.Defs.{defAuthor, defYear};
+ghost use Rattle.definition.specs.Parts.{authorBytes, yearBytes};
+ghost use Rattle.definition.specs.Lines.{lineDefIn};
+ghost use Rattle.definition.specs.Definitions.{definitionIn, LinesBelow};
+ghost use Rattle.definition.specs.Defined.{definedAs, foundIn, DefinedIn};
+
+// What defines a key: the line that a group starts, by the group's number, or an entry of the pool, by its number.
+pub enum Defined {
+    Line { group: usize },
+    Entry { number: usize },
+    Nothing,
+}
+
+// What defines the key, among the first `n` groups, whose definition lines lie below `lines`, and in the pool.
+pub fn find(
+    text: &[u8],
+    pool: &[u8],
+    groups: &[u16],
+    items: &[u16],
+    n: usize,
+    lines: usize,
+    key: &[u8],
+) -> Defined
+    requires { ⌜ (n < 4294967296) × (wellFormed (now pool) ≡ true) × LinesBelow (now text) (now groups) (now items) n lines ⌝ }
+    ensures { λ r. ⌜ definedAs (now (text .entry)) (now (groups .entry)) n (now (pool .entry)) r ≡ definitionIn (now (text .entry)) (now (groups .entry)) (now (items .entry)) n (now (pool .entry)) (now (key .entry)) ⌝ }
+    ensures within { λ r. ⌜ DefinedIn (now (pool .entry)) n r ⌝ }
+    ensures found { λ r. ⌜ r ≡ foundIn (now (text .entry)) (now (groups .entry)) (now (items .entry)) n (now (pool .entry)) (now (key .entry)) ⌝ }
+{
+    let group = define::line_in(text, groups, items, n, lines, key);
+    if group < n {
+        return Defined::Line { group };
+    }
+    let number = crate::entries::entry_in(pool, key);
+    let count = pool::entry_count(pool);
+    if number < count {
+        Defined::Entry { number }
+    } else {
+        Defined::Nothing
+    }
+}
+
+// The author that the definition line of group record `g` gives.
+fn line_author(text: &[u8], groups: &[u16], n: usize, g: usize) -> Author
+    requires { ⌜ (n < 4294967296) × (g < n) ⌝ }
+    ensures { λ r. ⌜ ((pool : List ℕ) → authorBytes (now (text .entry)) pool r ≡ lineDefIn (now (text .entry)) (now (groups .entry)) n g .author) ⌝ }
+{
+    let close = records::close_of_record(groups, g);
+    if text.len() <= close {
+        return Author::Missing;
+    }
+    let next = records::next_in(text, groups, n, g);
+    if next <= text.len() {
+        crate::author_of(text, close, next)
+    } else {
+        crate::author_of(text, close, text.len())
+    }
+}
+
+// The year that it gives.
+fn line_year(text: &[u8], groups: &[u16], n: usize, g: usize) -> Year
+    requires { ⌜ (n < 4294967296) × (g < n) ⌝ }
+    ensures { λ r. ⌜ ((pool : List ℕ) → yearBytes (now (text .entry)) pool r ≡ lineDefIn (now (text .entry)) (now (groups .entry)) n g .year) ⌝ }
+{
+    let close = records::close_of_record(groups, g);
+    if text.len() <= close {
+        return Year::Missing;
+    }
+    let next = records::next_in(text, groups, n, g);
+    if next <= text.len() {
+        crate::year_of(text, close, next)
+    } else {
+        crate::year_of(text, close, text.len())
+    }
+}
+
+// The author by what was found.
+pub fn author_in(text: &[u8], pool: &[u8], groups: &[u16], n: usize, d: Defined) -> Author
+    requires { ⌜ (n < 4294967296) × (wellFormed (now pool) ≡ true) × DefinedIn (now pool) n d ⌝ }
+    ensures { λ r. ⌜ authorBytes (now (text .entry)) (now (pool .entry)) r ≡ defAuthor (definedAs (now (text .entry)) (now (groups .entry)) n (now (pool .entry)) d) ⌝ }
+{
+    match d {
+        Defined::Line { group } => line_author(text, groups, n, group),
+        Defined::Entry { number } => crate::entries::entry_author(pool, number),
+        Defined::Nothing => Author::Missing,
+    }
+}
+
+// The year by what was found.
+pub fn year_in(text: &[u8], pool: &[u8], groups: &[u16], n: usize, d: Defined) -> Year
+    requires { ⌜ (n < 4294967296) × (wellFormed (now pool) ≡ true) × DefinedIn (now pool) n d ⌝ }
+    ensures { λ r. ⌜ yearBytes (now (text .entry)) (now (pool .entry)) r ≡ defYear (definedAs (now (text .entry)) (now (groups .entry)) n (now (pool .entry)) d) ⌝ }
+{
+    match d {
+        Defined::Line { group } => line_year(text, groups, n, group),
+        Defined::Entry { number } => crate::entries::entry_year(pool, number),
+        Defined::Nothing => Year::Missing,
+    }
+}

@@ -1,0 +1,209 @@
+-- Item records, in the form of the needs of the code that writes them.
+use Prim.Native.Nat.{ℕ, suc, _+_, _-_, _*_, _≤_, _<_}
+use native.Mathlib.Omega.{arith}
+use mathlib.Core.Path.{_≡_, refl, sym, _∙_, ap}
+use mathlib.Core.List.{List, [], _∷_, _++_, flatMap, append-nil}
+use mathlib.Core.Bool.{Bool, true, false, true≢false}
+use lib.ListN.{length, take, drop, set, length-append}
+use Rattle.base.specs.Pick.{pick}
+use Rattle.base.specs.First.{first}
+use Rattle.base.specs.Lists.{written}
+use Rattle.base.specs.declared.Span.{Span}
+use Rattle.base.specs.Spans.{pairOf}
+use Rattle.base.proofs.Areas.{rest-room, came-back, back-length, back-next}
+use Rattle.locator.specs.declared.Locator.{Locator}
+use Rattle.locator.specs.Answers.{codeOf, valueOf, suffixOf}
+use Rattle.item.specs.declared.Item.{Item}
+use Rattle.item.specs.declared.Parsed.{Parsed}
+use Rattle.item.specs.declared.Parsed.the-variants.{Good, Bad}
+use Rattle.item.specs.Items.{itemOf, isGood}
+use Rattle.item.specs.Pieces.{semicolonAt, pieces, integralAt, itemsStart, piecesOf, allGood, kept, itemsIn, itemsOf}
+use Rattle.item.specs.Facts.{partsOf}
+use Rattle.item.proofs.Bounds.{item-within}
+use Rattle.item.proofs.Pieces.{items-more, items-last, first-good, rest-good}
+use Rattle.item.specs.Group.{goodItems, Group, groupOf}
+use Rattle.records.specs.Rows.{marksOf, recordOf, rowOf, rowsIn, rowsOf, rowsLength, pieceRow, putAt, Narrow, NarrowItem, Writable}
+use Rattle.records.proofs.Areas.{put-written}
+
+-- a record has 16 numbers ----------------------------------------------------------------------------------------------------------
+
+pub row-length : (b : Bool) (it : Item) → length (rowOf b it) ≡ 16
+unfolding rowOf recordOf
+row-length b it = refl
+
+rows-in-length : (b : Bool) (its : List Item) → length (rowsIn b its) ≡ 16 * length its
+unfolding flatMap
+rows-in-length b [] = refl
+rows-in-length b (it ∷ its) = simp (length-append, row-length, rows-in-length b its) (omega arith)
+
+pub rows-length : (g : Group) → length (rowsOf g) ≡ rowsLength g
+unfolding rowsOf rowsLength
+rows-length g = rows-in-length (g .integral) (g .items)
+
+-- one record -----------------------------------------------------------------------------------------------------------------------
+
+pub pair-put : (k : ℕ) (row : List ℕ) (p : Span) → set (set row k (p .at)) (k + 1) (p .len) ≡ putAt k (pairOf p) row
+unfolding putAt
+pair-put k row p = refl
+
+pub marks-put : (row : List ℕ) (marks : ℕ) → set (set (set (set (set row 11 marks) 12 0) 13 0) 14 0) 15 0 ≡ putAt 11 (marks ∷ 0 ∷ 0 ∷ 0 ∷ 0 ∷ []) row
+unfolding putAt
+marks-put row marks = refl
+
+module _ {a b : Bool} where
+  pub marks-both : a ≡ true → b ≡ true → 3 ≡ pick a 1 0 + pick b 2 0
+  marks-both p q = rw (p, q)
+
+  pub marks-first : a ≡ true → b ≡ false → 1 ≡ pick a 1 0 + pick b 2 0
+  marks-first p q = rw (p, q)
+
+  pub marks-second : a ≡ false → b ≡ true → 2 ≡ pick a 1 0 + pick b 2 0
+  marks-second p q = rw (p, q)
+
+  pub marks-none : a ≡ false → b ≡ false → 0 ≡ pick a 1 0 + pick b 2 0
+  marks-none p q = rw (p, q)
+
+-- numbers put one after another: the pairs of an item, those of its locator with the code, and all of them with the marks
+module _ (row : List ℕ) {r₁ r₂ : List ℕ} where
+  pub parts-are : (a b c d e f : ℕ) {r₃ : List ℕ} → r₃ ≡ putAt 4 (e ∷ f ∷ []) r₂ → r₂ ≡ putAt 2 (c ∷ d ∷ []) r₁ → r₁ ≡ putAt 0 (a ∷ b ∷ []) row
+      → r₃ ≡ putAt 0 (a ∷ b ∷ c ∷ d ∷ e ∷ f ∷ []) row
+  unfolding putAt
+  parts-are a b c d e f e₃ e₂ e₁ = rw (e₃, e₂, e₁) refl
+
+  pub locator-is : (l : Locator) {v w : Span} {code : ℕ} → r₂ ≡ putAt 8 (pairOf w) r₁ → r₁ ≡ putAt 6 (pairOf v) row → code ≡ codeOf l
+      → w ≡ suffixOf l → v ≡ valueOf l → set r₂ 10 code ≡ putAt 6 (pairOf (valueOf l) ++ pairOf (suffixOf l) ++ (codeOf l ∷ [])) row
+  unfolding putAt
+  locator-is l e₂ e₁ c w v = rw (e₂, e₁, c, w, v) refl
+
+  pub row-is : (b : Bool) (it : Item) {r₃ : List ℕ} {marks : ℕ} → r₃ ≡ putAt 11 (marks ∷ 0 ∷ 0 ∷ 0 ∷ 0 ∷ []) r₂
+      → r₂ ≡ putAt 6 (pairOf (valueOf (it .locator)) ++ pairOf (suffixOf (it .locator)) ++ (codeOf (it .locator) ∷ [])) r₁
+      → r₁ ≡ putAt 0 (pairOf (it .prefix) ++ pairOf (it .key) ++ pairOf (it .whole)) row
+      → marks ≡ pick (it .suppressed) 1 0 + pick b 2 0 → 16 ≤ length row → r₃ ≡ written (rowOf b it) row
+  unfolding rowOf recordOf marksOf putAt
+  row-is b it e₃ e₂ e₁ m h = rw (e₃, e₂, e₁, m) (put-written (rowOf b it) row (rw row-length h))
+
+pub narrow-by : {p : Span} (r : Span) → r ≡ p → Narrow p → Narrow r
+narrow-by r e n = rw e n
+
+pub ruleset row-laws = (pair-put, marks-both, marks-first, marks-second, marks-none)
+
+-- an item's places fit a record ----------------------------------------------------------------------------------------------------
+
+narrow-within : {p : Span} {e : ℕ} → e ≤ 65535 → p .at + p .len ≤ e → Narrow p
+narrow-within h k = (omega arith, omega arith)
+
+pub item-narrow : (s : List ℕ) (a e : ℕ) {r : Parsed} {it : Item} → r ≡ itemOf s a e → r ≡ Good it → e ≤ length s → length s ≤ 65535 → NarrowItem it
+unfolding partsOf
+item-narrow s a e {it = it} q g h k =
+    let l : e ≤ 65535 = omega arith in
+    let w = item-within s a e it (sym q ∙ g) in
+    record {
+      prefix = narrow-within l (w .0);
+      key = narrow-within l (w .1 .0);
+      whole = narrow-within l (w .1 .1 .0);
+      locator = record { value = narrow-within l (w .1 .1 .1 .0); suffix = narrow-within l (w .1 .1 .1 .1 .0) };
+    }
+
+module _ (s : List ℕ) (a e : ℕ) (b : Bool) (row : List ℕ) {r : Parsed} (q : r ≡ itemOf s a e) where
+  pub piece-good : {it : Item} {out : List ℕ} → r ≡ Good it → out ≡ written (rowOf b it) row → out ≡ written (pieceRow b (itemOf s a e)) row
+  unfolding pieceRow
+  piece-good g o = o ∙ rw (← q, g)
+
+  pub piece-bad : r ≡ Bad → row ≡ written (pieceRow b (itemOf s a e)) row
+  unfolding pieceRow written
+  piece-bad g = rw (← q, g)
+
+pub ruleset piece-row-laws = (item-narrow, piece-good, piece-bad)
+
+-- all records of a group -----------------------------------------------------------------------------------------------------------
+
+-- a piece and those after it
+kept-rows : (b : Bool) (r : Parsed) (rest : List Item) → rowsIn b (kept r rest) ≡ pieceRow b r ++ rowsIn b rest
+unfolding flatMap pieceRow
+kept-rows b (Good it) rest = refl
+kept-rows b Bad rest = refl
+
+kept-length : (r : Parsed) (rest : List Item) → isGood r ≡ true → length (kept r rest) ≡ suc (length rest)
+kept-length (Good it) rest g = refl
+kept-length Bad rest g = absurd (true≢false (sym g))
+
+piece-length : (b : Bool) (r : Parsed) → isGood r ≡ true → length (pieceRow b r) ≡ 16
+unfolding pieceRow
+piece-length b (Good it) g = row-length b it
+piece-length b Bad g = absurd (true≢false (sym g))
+
+-- The loop: the pieces from `from` on are left, and their records belong to `items` from `n` on.
+pub record Writing (s : List ℕ) (p c : ℕ) (items₀ : List ℕ) (b : Bool) (items : List ℕ) (from n : ℕ) : Type 0 where
+  pub long : length items ≡ length items₀
+  pub good : allGood s (pieces s from c) ≡ true
+  pub room : n + 16 * length (itemsIn s (pieces s from c)) ≤ length items
+  pub gives : written (rowsOf (groupOf s p c)) items₀ ≡ take n items ++ written (rowsIn b (itemsIn s (pieces s from c))) (drop n items)
+
+pub writing-start : (s : List ℕ) (p c : ℕ) (items : List ℕ) {b : Bool} {from : ℕ} → Writable s p c items → b ≡ integralAt s p → from ≡ itemsStart s p
+    → Writing s p c items b items from 0
+unfolding goodItems piecesOf rowsOf groupOf itemsOf rowsLength
+writing-start s p c items w e f = record {
+  long = refl;
+  good = rw f (w .good);
+  room = rw f (omega (arith, w .room));
+  gives = rw (f, e);
+}
+
+module _ {s : List ℕ} {p c : ℕ} {items₀ : List ℕ} {b : Bool} {items : List ℕ} {from n : ℕ} (w : Writing s p c items₀ b items from n)
+    {q : ℕ} (d : q ≡ first (semicolonAt s) (c - from) from) where
+  piece-good-is : isGood (itemOf s from q) ≡ true
+  piece-good-is = first-good s from c d (w .good)
+
+  piece-row-length : length (pieceRow b (itemOf s from q)) ≡ 16
+  piece-row-length = piece-length b (itemOf s from q) piece-good-is
+
+  more-room : q < c → n + 16 + 16 * length (itemsIn s (pieces s (q + 1) c)) ≤ length items
+  more-room h =
+      let e = ap length (items-more s from c d h) in
+      let k = kept-length (itemOf s from q) (itemsIn s (pieces s (q + 1) c)) piece-good-is in
+      omega (arith, w .room)
+
+  last-room : c ≤ q → n + 16 ≤ length items
+  last-room h =
+      let e = ap length (items-last s from c d h) in
+      let k = kept-length (itemOf s from q) [] piece-good-is in
+      omega (arith, w .room)
+
+  pub next-room : q < c → 16 ≤ length (take (length items - n) (drop n items))
+  next-room h = rest-room items n 16 (omega (arith, more-room h))
+
+  pub end-room : c ≤ q → 16 ≤ length (take (length items - n) (drop n items))
+  end-room h = rest-room items n 16 (last-room h)
+
+  -- the rest of the area came back with the record of the piece
+  module _ {x : List ℕ} (o : x ≡ written (pieceRow b (itemOf s from q)) (take (length items - n) (drop n items))) where
+    pub writing-next : q < c → Writing s p c items₀ b (take n items ++ (x ++ drop (length items - n) (drop n items))) (q + 1) (n + 16)
+    writing-next h =
+        let r = pieceRow b (itemOf s from q) in
+        let its = itemsIn s (pieces s (q + 1) c) in
+        let l = piece-row-length in
+        let k = more-room h in
+        let m : n + length r ≤ length items = omega arith in
+        let e = back-length n items r m o in
+        let g = rw (items-more s from c d h, kept-rows b (itemOf s from q) its) at (w .gives) in
+        record {
+          long = e ∙ w .long;
+          good = rest-good s from c d (w .good) h;
+          room = rw e k;
+          gives = rw l at (back-next n items r m o (rowsIn b its) g);
+        }
+
+    pub writing-end : c ≤ q → take n items ++ (x ++ drop (length items - n) (drop n items)) ≡ written (rowsOf (groupOf s p c)) items₀
+    unfolding flatMap
+    writing-end h =
+        let r = pieceRow b (itemOf s from q) in
+        let g = rw (items-last s from c d h, kept-rows b (itemOf s from q) [], append-nil r) at (w .gives) in
+        came-back n items r o ∙ sym g
+
+    pub end-length : c ≤ q → length (take n items ++ (x ++ drop (length items - n) (drop n items))) ≡ length items₀
+    end-length h =
+        let l = piece-row-length in
+        let k = last-room h in
+        back-length n items (pieceRow b (itemOf s from q)) (omega arith) o ∙ w .long
+
+pub ruleset writing-laws = (writing-start, next-room, end-room, writing-next, writing-end, end-length)

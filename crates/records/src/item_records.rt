@@ -1,0 +1,128 @@
+// Item records: the 16 numbers of an item, and the records of all items of a group, written to the front of a lent area.
+// The last four of a record, which numbering fills, are 0.
+use base::Span;
+use item::Item;
+use item::Parsed;
+use item::is_integral;
+use item::items_start;
+use item::parse_item;
+use item::piece_end;
+use locator::Locator;
+use locator::code_of;
+use locator::suffix_of;
+use locator::value_of;
+ghost use mathlib.Core.Path.{_≡_};
+ghost use Prim.Native.Nat.{_+_, _<_, _≤_};
+ghost use lib.ListN.{length};
+ghost use mathlib.Core.List.{[], _∷_, _++_};
+ghost use Rattle.base.specs.Lists.{written};
+ghost use Rattle.base.specs.Spans.{pairOf};
+ghost use Rattle.base.specs.Pick.{pick};
+ghost use Rattle.locator.specs.Answers.{codeOf, valueOf, suffixOf};
+ghost use Rattle.item.specs.Items.{itemOf};
+ghost use Rattle.item.specs.Group.{groupOf};
+ghost use Rattle.records.specs.Rows.{rowOf, rowsOf, pieceRow, Put, Narrow, NarrowLocator, NarrowItem, Writable};
+ghost use Rattle.records.specs.Widths.{itemWidth};
+
+// How many numbers an item record has.
+pub const ITEM_WIDTH: usize = 16;
+
+// A pair at `k`.
+fn write_pair(row: &mut [u16], k: usize, pair: Span)
+    requires { ⌜ (k + 1 < length (now row)) × Narrow pair ⌝ }
+    ensures { λ _. ⌜ Put k (pairOf pair) (now (row .entry)) (now (row .exit)) ⌝ }
+{
+    row[k] = pair.at as u16;
+    row[k + 1] = pair.len as u16;
+}
+
+// The marks of an item.
+fn marks(suppressed: bool, integral: bool) -> u16
+    ensures { λ r. ⌜ r ≡ pick suppressed 1 0 + pick integral 2 0 ⌝ }
+{
+    if suppressed {
+        return if integral { 3 } else { 1 };
+    }
+    if integral { 2 } else { 0 }
+}
+
+// The pairs of the prefix, the key and the whole locator.
+fn write_parts(row: &mut [u16], item: Item)
+    requires { ⌜ (itemWidth ≤ length (now row)) × NarrowItem item ⌝ }
+    ensures { λ _. ⌜ Put 0 (pairOf (item .prefix) ++ pairOf (item .key) ++ pairOf (item .whole))
+        (now (row .entry)) (now (row .exit)) ⌝ }
+{
+    let prefix = item.prefix;
+    let key = item.key;
+    let whole = item.whole;
+    write_pair(row, 0, prefix);
+    write_pair(row, 2, key);
+    write_pair(row, 4, whole);
+}
+
+// What the locator says: the pairs of value and suffix, and the label code.
+fn write_locator(row: &mut [u16], l: Locator)
+    requires { ⌜ (itemWidth ≤ length (now row)) × NarrowLocator l ⌝ }
+    ensures { λ _. ⌜ Put 6 (pairOf (valueOf l) ++ pairOf (suffixOf l) ++ (codeOf l ∷ []))
+        (now (row .entry)) (now (row .exit)) ⌝ }
+{
+    let value = value_of(l);
+    let suffix = suffix_of(l);
+    let code = code_of(l);
+    write_pair(row, 6, value);
+    write_pair(row, 8, suffix);
+    row[10] = code;
+}
+
+// The marks, and 0 for what is not numbered.
+fn write_marks(row: &mut [u16], marks: u16)
+    requires { ⌜ itemWidth ≤ length (now row) ⌝ }
+    ensures { λ _. ⌜ Put 11 (marks ∷ 0 ∷ 0 ∷ 0 ∷ 0 ∷ []) (now (row .entry)) (now (row .exit)) ⌝ }
+{
+    row[11] = marks;
+    row[12] = 0;
+    row[13] = 0;
+    row[14] = 0;
+    row[15] = 0;
+}
+
+// The record of an item, at the front of `row`.
+fn write_row(item: Item, integral: bool, row: &mut [u16])
+    requires { ⌜ (itemWidth ≤ length (now row)) × NarrowItem item ⌝ }
+    ensures { λ _. ⌜ now (row .exit) ≡ written (rowOf integral item) (now (row .entry)) ⌝ }
+{
+    let l = item.locator;
+    write_parts(row, item);
+    write_locator(row, l);
+    write_marks(row, marks(item.suppressed, integral));
+}
+
+// The record of the item from `from` to `to`, at the front of `row`; nothing where it is bad.
+fn write_piece(text: &[u8], from: usize, to: usize, integral: bool, row: &mut [u16])
+    requires { ⌜ (to ≤ length (now text)) × (length (now text) ≤ 65535) × (itemWidth ≤ length (now row)) ⌝ }
+    ensures { λ _. ⌜ now (row .exit) ≡ written (pieceRow integral (itemOf (now (text .entry)) from to)) (now (row .entry)) ⌝ }
+{
+    let parsed = parse_item(text, from, to);
+    match parsed {
+        Parsed::Good(it) => write_row(it, integral, row),
+        Parsed::Bad => {}
+    }
+}
+
+// The records of the items of the group at `p` with its close at `c`, at the front of `items`.
+pub fn write_rows(text: &[u8], p: usize, c: usize, items: &mut [u16])
+    requires { ⌜ Writable (now text) p c (now items) ⌝ }
+    ensures { λ _. ⌜ now (items .exit) ≡ written (rowsOf (groupOf (now (text .entry)) p c)) (now (items .entry)) ⌝ }
+{
+    let integral = is_integral(text, p);
+    let mut from = items_start(text, p);
+    let mut to = piece_end(text, from, c);
+    let mut n = 0;
+    while to < c {
+        write_piece(text, from, to, integral, &mut items[n..]);
+        n += ITEM_WIDTH;
+        from = to + 1;
+        to = piece_end(text, from, c);
+    }
+    write_piece(text, from, to, integral, &mut items[n..]);
+}

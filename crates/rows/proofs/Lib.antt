@@ -1,2 +1,0 @@
-pub mod Areas
-pub mod RowLaws
