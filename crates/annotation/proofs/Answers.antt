@@ -14,7 +14,8 @@ use Rattle.item.specs.Group.{Group}
 use Rattle.resolve.specs.Resolve.{noteAfter, indexAfter, recordsAfter}
 use Rattle.sweep.specs.declared.group_records.SweepState.{SweepState}
 use Rattle.sweep.specs.Sweep.{Lent, lentOf, lentAfter, sweepRun}
-use Rattle.standing.specs.Rows.{groupRows, itemCount, itemRows, sweptFrom}
+use Rattle.standing.specs.Rows.{groupRows, itemCount, itemRows}
+use Rattle.standing.specs.Swept.{sweptFrom}
 use Rattle.sweep.specs.Stops.{startState, SweptTo}
 use Rattle.sweep.specs.Recording.{Recorded}
 use Rattle.standing.proofs.Swept.{placed-length}
@@ -28,12 +29,10 @@ use Rattle.annotation.specs.declared.answer.Annotation.the-variants.{Acc
 use Rattle.annotation.specs.declared.preparation.Begun.{Begun}
 use Rattle.annotation.specs.Content.{Areas, areas, contentOf}
 use Rattle.annotation.specs.Refusal.{annotateRefusal}
-use Rattle.annotation.specs.Call.{annotateRefused, roomFor, filled, zeroFilled, annotateGives, answerOf, AnnotateRan, annotateRan, annotateSwept, annotateRun}
-use Rattle.annotation.specs.Zeros.{zeros, Zeroed}
-use Rattle.annotation.specs.AnswerValues.{annotationValues}
-use Rattle.annotation.specs.Values.{annotationAnswer, annotationNumbers, Done}
+use Rattle.annotation.specs.Call.{annotateRefused, roomFor, filled, zeroFilled, annotateGives, answerOf, AnnotateRan, annotateRan, annotateSwept, annotateRun, zeros}
+use Rattle.annotation.specs.Halves.{Zeroed, Done, BegunBy}
+use Rattle.annotation.specs.Values.{annotationValues, annotationAnswer, annotationNumbers}
 use Rattle.annotation.specs.Steps.{sweptItems, sweptGroups, numberedFrom, Fits, ContentAs}
-use Rattle.annotation.specs.FirstHalf.{BegunBy}
 use Rattle.annotation.specs.Ordering.{roomThen, referencesThen, Ordered}
 use Rattle.annotation.proofs.Counts.{sources-by}
 use Rattle.annotation.proofs.Passes.{numbers-agree}

@@ -6,14 +6,14 @@ use mathlib.Core.Bool.{Bool, true, false, true≢false}
 use lib.ListN.{length}
 use lib.Dec.{eqb}
 use borrow.Author.Tests.{eqb-true, eqb-false}
-use Rattle.index.specs.Built.{Enough}
+use Rattle.index.specs.Building.{Enough}
 use Rattle.sweep.specs.declared.group_records.SweepState.{SweepState}
 use Rattle.sweep.specs.Stops.{startState, SweptTo}
 use Rattle.sweep.specs.Recording.{Counted}
 use Rattle.sweep.proofs.Laws.{start-counted}
 use Rattle.annotation.specs.declared.preparation.Begun.{Begun}
 use Rattle.annotation.specs.Refusal.{annotateRefusal}
-use Rattle.annotation.specs.FirstHalf.{BegunBy}
+use Rattle.annotation.specs.Halves.{BegunBy}
 use Rattle.annotation.proofs.RefusalLaws.{Unrefused, unrefused}
 
 abbrev begun : ℕ → SweepState → Begun

@@ -19,7 +19,8 @@ use Rattle.standing.specs.Rows.{itemCount}
 use Rattle.records.specs.Widths.{groupWidth}
 use Rattle.standing.proofs.Swept.{placed-length}
 use Rattle.definition.specs.Definitions.{definitionIn}
-use Rattle.records.specs.Records.{itemField, keyIn}
+use Rattle.records.specs.Records.{keyIn}
+use Rattle.records.specs.Fields.{itemField}
 use Rattle.numbering.specs.Numbers.{Numbered}
 use Rattle.uses.specs.Uses.{usedAt}
 use Rattle.order.specs.References.{hasNumber, firstWith, sourceKeyIn, rankIn, referencesIn, numberOfKey, SourcesKnown}

@@ -13,7 +13,7 @@ use Rattle.standing.specs.Rows.{Placed, itemCount}
 use Rattle.standing.proofs.Swept.{groupsOf, placed-groups}
 use Rattle.annotation.specs.Sources.{Source}
 use Rattle.annotation.specs.Content.{placedOf, tallyOf}
-use Rattle.annotation.specs.Facts.{isIn, firstUses, numberedKeys}
+use Rattle.annotation.specs.Items.{isIn, firstUses, numberedKeys}
 use Rattle.annotation.proofs.Numbers.{sources-in-order}
 
 first-uses-by : (seen ks : List (List ℕ)) → length (firstUses seen ks) ≤ length ks

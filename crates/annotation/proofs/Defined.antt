@@ -18,7 +18,7 @@ use Rattle.definition.specs.Defs.{defOf, isDefined}
 use Rattle.annotation.specs.Sources.{Source, source, sourceKey, used}
 use Rattle.standing.specs.Rows.{placedBy}
 use Rattle.annotation.specs.Content.{allDefined, standingOf, placedFrom, placedOf, tallyOf}
-use Rattle.annotation.specs.Facts.{numberedKeys}
+use Rattle.annotation.specs.Items.{numberedKeys}
 use Rattle.annotation.proofs.Numbers.{step, tally-uses}
 use Rattle.annotation.proofs.Found.{each-append}
 

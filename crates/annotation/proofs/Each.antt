@@ -13,10 +13,10 @@ use Rattle.item.specs.Group.{Group}
 use Rattle.records.specs.Widths.{itemWidth}
 use Rattle.standing.specs.Rows.{Placed, itemCount}
 use Rattle.standing.proofs.Swept.{groupsOf}
-use Rattle.records.specs.Records.{itemField}
+use Rattle.records.specs.Fields.{itemField}
 use Rattle.annotation.specs.Sources.{Source}
 use Rattle.annotation.specs.Content.{Tally, tally, addItem, addGroup, placedOf, tallyOf}
-use Rattle.annotation.specs.Facts.{eachItem}
+use Rattle.annotation.specs.Items.{eachItem}
 
 -- one more record --------------------------------------------------------------------------------------------------------------------
 

@@ -14,12 +14,11 @@ use Rattle.numbering.specs.Numbers.{numberAll}
 use Rattle.numbering.specs.Progress.{Unnumbered}
 use Rattle.annotation.specs.declared.answer.Annotation.{Annotation}
 use Rattle.annotation.specs.declared.answer.Annotation.the-variants.{Refused}
-use Rattle.annotation.specs.Zeros.{Zeroed}
+use Rattle.annotation.specs.Halves.{Zeroed, Continues, Finished}
 use Rattle.annotation.specs.declared.preparation.Begun.{Begun}
 use Rattle.annotation.proofs.RefusalLaws.{Unrefused, unrefused}
 use Rattle.annotation.specs.Ordering.{Orderable, Ordered}
 use Rattle.annotation.proofs.Answers.{items-unnumbered, sources-short, sources-known, done-refused, done-few, done-room}
-use Rattle.annotation.specs.SecondHalf.{Continues, Finished}
 
 -- what the first half left
 module _ {text : List ℕ} {mode : ℕ} {pool : List ℕ} {note : ℕ} {p : Begun} {index items groups : List ℕ}

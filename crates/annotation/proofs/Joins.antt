@@ -10,11 +10,12 @@ use lib.ListN.{length}
 use lib.Dec.{ltb}
 use borrow.Author.Tests.{lt-ltb, le-ltb, ltb-true, ltb-false}
 use Rattle.base.specs.Pick.{pick}
-use Rattle.base.specs.Last.{last}
+use Rattle.base.specs.LastPlace.{last}
 use Rattle.base.specs.Lists.{same}
 use Rattle.base.proofs.Lasts.{LastAt, LastNone, last-here, last-before, none-before, last-alike, none-alike}
 use Rattle.records.specs.Widths.{itemWidth}
-use Rattle.records.specs.Records.{itemField, keyIn}
+use Rattle.records.specs.Records.{keyIn}
+use Rattle.records.specs.Fields.{itemField}
 use Rattle.uses.specs.Uses.{usedAt, sameUse, lastUse, numberIn, useIn, sourcesIn}
 use Rattle.annotation.specs.Sources.{Source, placeOf, numberOf, usesOf, useOf, used}
 use Rattle.base.proofs.Sames.{same-refl, same-true}

@@ -15,7 +15,7 @@ use Rattle.numbering.specs.Progress.{roomOf, Agrees, Holds}
 use Rattle.annotation.specs.declared.answer.Annotation.{Annotation}
 use Rattle.annotation.specs.declared.answer.Annotation.the-variants.{Accepted}
 use Rattle.annotation.specs.Ordering.{roomThen, Orderable, Ordered}
-use Rattle.annotation.specs.Zeros.{Zeroed}
+use Rattle.annotation.specs.Halves.{Zeroed}
 
 -- `k` is what numbering the records gave
 module _ (text : List ℕ) (mode : ℕ) (pool : List ℕ) (n m note : ℕ) (items groups references labels : List ℕ) {k : Numbering}

@@ -19,11 +19,13 @@ use Rattle.records.specs.Widths.{itemWidth}
 use Rattle.pool.specs.Layout.{hasPool}
 use Rattle.definition_line.specs.Lines.{inLine, groupEnd, keyOf}
 use Rattle.definition.specs.Defs.{defOf, isDefined}
-use Rattle.standing.specs.Rows.{Placed, placed, groupRow, groupRows, placedBy, sweptFrom, itemRows, itemCount}
+use Rattle.standing.specs.Rows.{Placed, placed, groupRow, groupRows, placedBy, itemRows, itemCount}
+use Rattle.standing.specs.Swept.{sweptFrom}
 use Rattle.records.specs.Widths.{groupWidth}
 use Rattle.standing.proofs.Swept.{placed-groups}
 use Rattle.definition.specs.Definitions.{definitionIn}
-use Rattle.records.specs.Records.{itemField, groupField, keyIn, suppressedIn}
+use Rattle.records.specs.Records.{groupField, keyIn, suppressedIn}
+use Rattle.records.specs.Fields.{itemField}
 use Rattle.numbering.specs.Numbers.{Numbered, start, labelIn, citeAs, citeIn, citeFrom, keyDefined, keysDefined, standsNumbered, isNumbered, numberGroup, numberFrom, numberAll}
 use Rattle.uses.specs.Uses.{numberIn, useIn, sourcesIn}
 use Rattle.uses.proofs.Fields.{item-field, set-last, set-standing, SameItems, SameGroups, set-last-same, set-standing-same, set-last-other}

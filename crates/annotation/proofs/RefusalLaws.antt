@@ -11,7 +11,7 @@ use Rattle.base.specs.Pick.{pick}
 use Rattle.utf8.specs.Utf8.{tooLong, utf8}
 use Rattle.utf8.specs.Refusal.{afterText, textRefusal}
 use Rattle.utf8.proofs.Characters.{refused-after, accepted-after}
-use Rattle.index.specs.Built.{Enough}
+use Rattle.index.specs.Building.{Enough}
 use Rattle.lookup.specs.Refusals.{tooFew}
 use Rattle.pool.specs.Layout.{wellFormed}
 use Rattle.annotation.specs.Refusal.{annotateRefusal}

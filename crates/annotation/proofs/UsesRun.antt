@@ -19,10 +19,11 @@ use Rattle.records.specs.Widths.{itemWidth}
 use Rattle.pool.specs.Layout.{hasPool}
 use Rattle.definition_line.specs.Lines.{keyOf}
 use Rattle.standing.specs.Rows.{Placed}
-use Rattle.records.specs.Records.{itemField}
+use Rattle.records.specs.Fields.{itemField}
 use Rattle.annotation.specs.Sources.{Source, numberOf, usesOf, useOf, used}
 use Rattle.annotation.specs.Content.{Tally, labelFor, cited, numbered, unnumbered, addItem, tallyOf, placedOf}
-use Rattle.annotation.specs.Facts.{KeysDiffer, itemKeys, usesIn, useAfter, RecordsUsed, SourcesUsed, finalUse}
+use Rattle.annotation.specs.Facts.{KeysDiffer, RecordsUsed, SourcesUsed, finalUse}
+use Rattle.annotation.specs.Items.{itemKeys, usesIn, useAfter}
 use Rattle.base.proofs.Sames.{same-refl, same-true}
 use Rattle.annotation.proofs.Places.{uses-used, uses-other}
 use Rattle.annotation.proofs.Numbers.{sources-differ}

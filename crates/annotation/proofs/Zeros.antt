@@ -6,7 +6,8 @@ use mathlib.Core.List.{List, [], _++_, append-nil}
 use lib.ListN.{length, set, drop, replicate, drop-of-length-le, length-set}
 use borrow.Author.Fill.{fill-none, fill-more}
 use Rattle.annotation.specs.declared.answer.Annotation.the-variants.{Refused}
-use Rattle.annotation.specs.Zeros.{zeros, Zeroed}
+use Rattle.annotation.specs.Call.{zeros}
+use Rattle.annotation.specs.Halves.{Zeroed}
 
 module _ (area₀ : List ℕ) where
   pub zeros-none : area₀ ≡ replicate 0 0 ++ drop 0 area₀

@@ -1,4 +1,5 @@
--- Numbers and references after the whole sweep, over the records that it left, and the answer by the room that there is.
+-- Follows the code; nothing to believe: numbers and references after the whole sweep, over the records that it left,
+-- and the answer by the room that there is.
 use Prim.Native.Nat.{ℕ, _≤_}
 use mathlib.Core.Path.{_≡_}
 use mathlib.Core.List.{List}
@@ -12,7 +13,7 @@ use Rattle.numbering.specs.Progress.{roomOf}
 use Rattle.order.specs.References.{referencesIn, SourcesKnown}
 use Rattle.annotation.specs.declared.answer.Annotation.{Annotation}
 use Rattle.annotation.specs.declared.answer.Annotation.the-variants.{Accepted, Refused}
-use Rattle.annotation.specs.Zeros.{zeros}
+use Rattle.annotation.specs.Call.{zeros}
 
 -- the labels and the references have room
 unfoldable pub roomThen : Numbered → List ℕ → List ℕ → Bool

@@ -1,4 +1,4 @@
--- What refuses an annotation before the sweep.
+-- Document 01, Ten numbers: what refuses an annotation before the sweep.
 use Prim.Native.Nat.{ℕ}
 use mathlib.Core.List.{List}
 use mathlib.Core.Bool.{not}

@@ -1,5 +1,5 @@
--- What the code's passes leave is what the paper says. The sweep leaves item and group records (crate sweep); a pass numbers them, record by
--- record (crate numbering), and another orders the references (crate order). THEOREMS, proved in proofs/.
+-- Theorems: what the code's passes leave is what the paper says. The sweep leaves item and group records (crate sweep), a pass
+-- numbers them (crate numbering), and another orders the references (crate order). Proved in proofs/.
 use Prim.Native.Nat.{ℕ, _*_, _≤_, _<_}
 use mathlib.Core.Path.{_≡_}
 use mathlib.Core.Bool.{false}
@@ -10,7 +10,8 @@ use Rattle.item.specs.Group.{Group}
 use Rattle.records.specs.Widths.{itemWidth}
 use Rattle.definition.specs.Defs.{defOf}
 use Rattle.sweep.specs.Sweep.{Lent, sweepRun}
-use Rattle.standing.specs.Rows.{groupRows, sweptFrom, itemRows, itemCount}
+use Rattle.standing.specs.Rows.{groupRows, itemRows, itemCount}
+use Rattle.standing.specs.Swept.{sweptFrom}
 use Rattle.records.specs.Widths.{groupWidth}
 use Rattle.definition.specs.Definitions.{definitionIn}
 use Rattle.numbering.specs.Numbers.{Numbered, numberAll}

@@ -1,7 +1,8 @@
 // The answer of the annotation call.
 // The refusal by 10, which fills the four answer areas with zeros.
 ghost use mathlib.Core.Path.{_≡_};
-ghost use Rattle.annotation.specs.Zeros.{zeros, Zeroed};
+ghost use Rattle.annotation.specs.Call.{zeros};
+ghost use Rattle.annotation.specs.Halves.{Zeroed};
 
 // The answer of the annotation call; a definition (specs/Values) gives the paper's numbers for each case.
 pub enum Annotation {

@@ -6,7 +6,7 @@ use crate::answer::refuse_ten;
 use crate::preparation::Begun;
 use sweep::sweep;
 ghost use mathlib.Core.Path.{_≡_};
-ghost use Rattle.annotation.specs.SecondHalf.{Continues, Finished};
+ghost use Rattle.annotation.specs.Halves.{Continues, Finished};
 
 // An annotation from the build on. 10 comes only after the whole sweep.
 pub fn finish<'a>(

@@ -7,7 +7,7 @@ use sweep::sweep;
 use utf8::text_refusal;
 ghost use mathlib.Core.Path.{_≡_};
 ghost use Rattle.annotation.specs.Refusal.{annotateRefusal};
-ghost use Rattle.annotation.specs.FirstHalf.{BegunBy};
+ghost use Rattle.annotation.specs.Halves.{BegunBy};
 
 // An annotation before the build: the number of its refusal, or 0 and the sweep so far.
 pub struct Begun {

@@ -6,7 +6,7 @@ use lib.ListN.{length, set}
 use mir.Syntax.{w32}
 use mir.Val.{Fits}
 use Rattle.base.specs.Lists.{written}
-use Rattle.records.specs.Rows.{putAt}
+use Rattle.records.specs.Writing.{putAt}
 use Rattle.records.proofs.Areas.{put-written}
 use Rattle.locator.specs.declared.Locator.{Locator}
 use Rattle.locator.specs.Answers.{codeOf, valueOf, suffixOf}
@@ -23,7 +23,7 @@ use Rattle.source_text.specs.declared.SourceText.the-variants.{Accepted as Sour
 use Rattle.source_text.specs.Values.{sourceTextValues}
 use Rattle.annotation.specs.declared.answer.Annotation.{Annotation}
 use Rattle.annotation.specs.declared.answer.Annotation.the-variants.{Accepted as Annotates, Refused as NoAnnotation}
-use Rattle.annotation.specs.AnswerValues.{annotationValues}
+use Rattle.annotation.specs.Values.{annotationValues}
 use Rattle.answers.specs.Words.{Words}
 
 -- what is put

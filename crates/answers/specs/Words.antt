@@ -1,4 +1,4 @@
--- Numbers that `answer` can hold.
+-- Follows the code; nothing to believe: numbers that `answer` can hold.
 use Prim.Native.Nat.{ℕ, _<_}
 use mathlib.Core.List.{List}
 use Rattle.base.specs.Sorted.{Each}

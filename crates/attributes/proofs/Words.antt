@@ -14,7 +14,8 @@ use Rattle.base.specs.declared.Span.{Span}
 use Rattle.base.proofs.Searches.{first-from, first-by, first-out, first-stop, first-more}
 use Rattle.base.proofs.Lasts.{last-end-from, last-end-by, last-end-out, last-end-stop, last-end-more}
 use Rattle.base.proofs.Parts.{part-is, part-length, take-part, drop-part}
-use Rattle.white.specs.White.{isInk, isWhite}
+use Rattle.white.specs.White.{isWhite}
+use Rattle.white.specs.Bytes.{isInk}
 use Rattle.white.proofs.Whites.{ink-plain}
 use Rattle.text.specs.Trim.{trimStart}
 use Rattle.text.proofs.Trims.{start-from, start-plain}

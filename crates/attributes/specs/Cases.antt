@@ -1,4 +1,4 @@
--- A few computed cases of attributes.
+-- Cases: attributes.
 use Prim.Native.Nat.{ℕ}
 use mathlib.Core.Path.{_≡_, refl}
 use mathlib.Core.List.{List, []}

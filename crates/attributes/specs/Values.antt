@@ -1,4 +1,4 @@
--- The bytes that a value of the code stands for.
+-- Follows the code; nothing to believe: the bytes that a value of the code stands for.
 use Prim.Native.Nat.{ℕ, _+_, _≤_}
 use mathlib.Core.List.{List}
 use mathlib.Core.Option.{Option, none, some}

@@ -7,7 +7,8 @@ use mathlib.Core.Bool.{Bool, true, false, true≢false}
 use lib.Dec.{ltb}
 use borrow.Author.Tests.{lt-ltb, le-ltb}
 use Rattle.base.specs.Pick.{pick}
-use Rattle.base.specs.Last.{last, lastEnd}
+use Rattle.base.specs.Last.{lastEnd}
+use Rattle.base.specs.LastPlace.{last}
 
 -- for a place --------------------------------------------------------------------------------------------------------------------
 

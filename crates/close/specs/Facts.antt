@@ -1,4 +1,4 @@
--- What the look at 64 bytes tells of the unlimited scan.
+-- Theorems: what the look at 64 bytes tells of the unlimited scan.
 use Prim.Native.Nat.{ℕ, _-_, _≤_}
 use mathlib.Core.Path.{_≡_}
 use mathlib.Core.List.{List}

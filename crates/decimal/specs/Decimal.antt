@@ -1,4 +1,4 @@
--- Numbers in decimal.
+-- Document 01, throughout: numbers in decimal.
 use Prim.Native.Nat.{ℕ, zero, suc, _+_, _/_, _%_}
 use mathlib.Core.List.{List, [], _∷_, _++_}
 use lib.Dec.{leb}

@@ -8,7 +8,7 @@ use mathlib.Core.Bool.{Bool, true, false, and-false, and-true}
 use lib.ListN.{length, List·getD-eq-default}
 use lib.Dec.{eqb}
 use borrow.Author.Tests.{eq-eqb, ne-eqb, eqb-true, eqb-false}
-use Rattle.base.specs.Last.{last}
+use Rattle.base.specs.LastPlace.{last}
 use Rattle.base.specs.Lists.{same}
 use Rattle.definition_line.specs.Lines.{startsLine, colonAfter}
 use Rattle.definition_line.proofs.Laws.{colon-cut}

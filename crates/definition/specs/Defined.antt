@@ -1,4 +1,5 @@
--- What defines a key, as the code finds it: a line by its group number, or an entry of the pool by its number.
+-- Follows the code; nothing to believe: what defines a key, as the code finds it:
+-- a line by its group number, or an entry of the pool by its number.
 use Prim.Native.Nat.{ℕ, _+_, _-_, _<_}
 use mathlib.Core.List.{List, []}
 use mathlib.Core.Option.{Option, none, some}

@@ -1,4 +1,5 @@
--- What a key is defined as, by the records and the pool, and where the search for its last line may begin.
+-- Follows the code; nothing to believe: what a key is defined as, by the records and the pool,
+-- and where the search for its last line may begin.
 use Prim.Native.Nat.{ℕ, _≤_, _<_}
 use mathlib.Core.Path.{_≡_}
 use mathlib.Core.List.{List}

@@ -1,4 +1,4 @@
--- The first entry of a pool that defines a key, and what an entry gives.
+-- Follows the code; nothing to believe: the first entry of a pool that defines a key, and what an entry gives.
 use Prim.Native.Nat.{ℕ}
 use mathlib.Core.Path.{_≡_}
 use mathlib.Core.List.{List}

@@ -1,9 +1,9 @@
--- Definition lines among the records.
+-- Follows the code; nothing to believe: definition lines among the records.
 use Prim.Native.Nat.{ℕ}
 use mathlib.Core.List.{List}
 use mathlib.Core.Bool.{Bool, _&&_}
 use lib.Dec.{eqb}
-use Rattle.base.specs.Last.{last}
+use Rattle.base.specs.LastPlace.{last}
 use Rattle.base.specs.Lists.{same}
 use Rattle.definition_line.specs.Lines.{startsLine, colonAfter}
 use Rattle.definition.specs.Defs.{Def, lineDef}

@@ -11,7 +11,8 @@ use Rattle.base.specs.First.{first, firstOf, firstOther}
 use Rattle.base.specs.Lists.{byteAt, part}
 use Rattle.base.specs.Spans.{span, bytesOf}
 use Rattle.base.proofs.Searches.{first-from, first-by, first-holds, first-before, first-out, first-stop, first-more}
-use Rattle.definition_line.specs.Lines.{breakAt, braceAt, braceOrBreak, startsLine, colonAfter, afterSpaces, bracedAt, attributesOf}
+use Rattle.definition_line.specs.Lines.{breakAt, braceAt, startsLine, colonAfter, afterSpaces, bracedAt, attributesOf}
+use Rattle.definition_line.specs.Search.{braceOrBreak}
 
 pub part-none : (s : List ℕ) → bytesOf s (span 0 0) ≡ []
 unfolding part

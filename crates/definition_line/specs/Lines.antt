@@ -1,11 +1,12 @@
--- Definition lines: where one starts, which groups stand in it, and the attributes that it holds.
+-- Document 01, Added by design: definition lines: where one starts, which groups stand in it,
+-- and the attributes that it holds.
 use Prim.Native.Nat.{ℕ, _+_, _-_}
 use mathlib.Core.List.{List, [], _∷_}
 use mathlib.Core.Bool.{Bool, false, not, _&&_, _||_}
 use lib.ListN.{length}
 use lib.Dec.{eqb, ltb}
 use Rattle.base.specs.Pick.{pick}
-use Rattle.base.specs.First.{first, firstOf, firstOther}
+use Rattle.base.specs.First.{firstOf, firstOther}
 use Rattle.base.specs.Lists.{byteAt, isAt, part}
 use Rattle.base.specs.Spans.{bytesOf}
 use Rattle.item.specs.declared.Item.{Item}
@@ -62,10 +63,6 @@ afterSpaces text close = firstOther 32 text (close + 2) (length text)
 -- the first `}` from `a` up to `e`; `e` where none is there
 unfoldable pub braceAt : List ℕ → ℕ → ℕ → ℕ
 braceAt text a e = firstOf 125 text a e
-
--- the first of both from `a` up to `e`: where the search for the end of attributes may stop
-unfoldable pub braceOrBreak : List ℕ → ℕ → ℕ → ℕ
-braceOrBreak text a e = first (λ i. eqb (byteAt text i) 125 || eqb (byteAt text i) 10) (e - a) a
 
 -- the part from after the `{` at `a` to the first `}` before `e`, the end of the plain run; empty where it has none
 unfoldable pub bracedAt : List ℕ → ℕ → ℕ → List ℕ

@@ -5,7 +5,8 @@ ghost use mathlib.Core.Path.{_≡_};
 ghost use Prim.Native.Nat.{_+_, _≤_, _<_};
 ghost use lib.ListN.{length};
 ghost use Rattle.base.specs.Spans.{bytesOf};
-ghost use Rattle.definition_line.specs.Lines.{breakAt, braceOrBreak, startsLine, colonAfter, afterSpaces, attributesOf};
+ghost use Rattle.definition_line.specs.Lines.{breakAt, startsLine, colonAfter, afterSpaces, attributesOf};
+ghost use Rattle.definition_line.specs.Search.{braceOrBreak};
 
 // The first LF from `a` up to `e`, or `e`.
 pub fn break_at(text: &[u8], a: usize, e: usize) -> usize

@@ -19,8 +19,7 @@ use Rattle.source_text.specs.Values.{sourceTextValues, sourceTextNumbers}
 use Rattle.annotation.specs.declared.answer.Annotation.{Annotation}
 use Rattle.annotation.specs.Content.{Areas}
 use Rattle.annotation.specs.Call.{AnnotateRan, annotateRun}
-use Rattle.annotation.specs.AnswerValues.{annotationValues}
-use Rattle.annotation.specs.Values.{annotationNumbers}
+use Rattle.annotation.specs.Values.{annotationValues, annotationNumbers}
 use Rattle.index.specs.declared.Bracket.{Bracket}
 use Rattle.answers.specs.Words.{Words}
 use Rattle.exports.proofs.Words.{size-words, locator-words, look-up-words, annotation-words}

@@ -1,6 +1,5 @@
--- The areas that an exported call is lent, after it. `answer` gets "its number" (0 accepted) and then the values, in the order that the
--- paper gives them: "A refusal returns its number, the note as it was given (where the call has one) and zeros". The rest of it stays as it
--- was, and a call with an `answer` too short for its numbers does nothing.
+-- Document 01, Layouts, from C: the areas that an exported call is lent, after it. `answer` gets the number (0 accepted) and the values,
+-- in the order that the paper gives them; the rest of it stays as it was.
 use Prim.Native.Nat.{ℕ}
 use mathlib.Core.List.{List}
 use mathlib.Core.Bool.{Bool}

@@ -11,8 +11,7 @@ use Rattle.annotation.specs.declared.answer.Annotation.{Annotation}
 use Rattle.annotation.specs.declared.answer.Annotation.the-variants.{Accepted, Refused}
 use Rattle.annotation.specs.Content.{Areas}
 use Rattle.annotation.specs.Call.{Annotated, AnnotateRan, annotateRun}
-use Rattle.annotation.specs.AnswerValues.{annotationValues}
-use Rattle.annotation.specs.Values.{annotationNumbers}
+use Rattle.annotation.specs.Values.{annotationValues, annotationNumbers}
 use Rattle.histories.specs.Histories.{OfLookUp, OfAnnotation, State, state, runCall, lookUpLeft, annotateLeft, putBack, answersOf, plain}
 use Rattle.histories.specs.Promises.{RanCall, LookedUpOnce, AnnotatedOnce, callOf, Met, lookUpShows, annotationShows, shown, lookUpNote, annotationNote, stateAfter, AllMet, PromisedHistories}
 use Rattle.histories.proofs.FromCalls.{both}

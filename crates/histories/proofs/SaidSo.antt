@@ -22,12 +22,12 @@ use Rattle.definition.specs.Defs.{defOf}
 use Rattle.label.specs.Labels.{labelText}
 use Rattle.standing.specs.Rows.{Placed, itemRows}
 use Rattle.standing.proofs.Swept.{groupsOf, placed-groups}
-use Rattle.records.specs.Records.{itemField}
+use Rattle.records.specs.Fields.{itemField}
 use Rattle.uses.proofs.Fields.{item-field}
 use Rattle.sweep.proofs.Laws.{item-rows-length}
 use Rattle.annotation.specs.Sources.{Source, numberOf, useOf, used}
 use Rattle.annotation.specs.Content.{Tally, tally, placedOf, labelFor, cited, numbered, unnumbered, addItem, addGroup, tallyOf, contentOf}
-use Rattle.annotation.specs.Facts.{eachItem, itemKeys}
+use Rattle.annotation.specs.Items.{eachItem, itemKeys}
 use Rattle.annotation.proofs.Numbers.{sources-in-order, numbers-stay}
 use Rattle.annotation.proofs.Each.{cell-front, count-more, by-place}
 use Rattle.annotation.proofs.Records.{records-numbered}

@@ -1,4 +1,4 @@
--- Demand 2, in the words of the project's brief: with no index or the one that earlier calls left, every group the rules admit is found with
+-- Document 01, Added by design: demand 2. With no index or the one that earlier calls left, every group the rules admit is found with
 -- those items, locators, numbers, uses and labels, and nothing else is.
 use Prim.Native.Nat.{ℕ, _≤_, _<_}
 use mathlib.Core.Path.{_≡_}

@@ -1,4 +1,5 @@
--- Demand 3 of whatever meets the promises of the public calls, so that nothing stands between `Histories` and the code.
+-- Document 01, Agreement: the promises of look-up and annotation, and demand 3 of whatever meets them,
+-- so that nothing stands between `Histories` and the code.
 use Prim.Native.Nat.{ℕ}
 use mathlib.Core.Path.{_≡_}
 use mathlib.Core.List.{List, [], _∷_, map}
@@ -12,8 +13,7 @@ use Rattle.annotation.specs.declared.answer.Annotation.{Annotation}
 use Rattle.annotation.specs.declared.answer.Annotation.the-variants.{Accepted, Refused}
 use Rattle.annotation.specs.Content.{Areas}
 use Rattle.annotation.specs.Call.{Annotated, annotateRefused, annotateRun}
-use Rattle.annotation.specs.AnswerValues.{annotationValues}
-use Rattle.annotation.specs.Values.{annotationNumbers, annotationAnswer}
+use Rattle.annotation.specs.Values.{annotationValues, annotationNumbers, annotationAnswer}
 use Rattle.histories.specs.Histories.{Call, LookUpCall, AnnotateCall, Answer, OfLookUp, OfAnnotation, State, state, putBack, plain}
 
 -- what calls::look_up promises of what it returns and of the areas that it leaves

@@ -1,4 +1,4 @@
--- What an annotation says of each item of a text's groups, record by record.
+-- Document 01, Added by design: what an annotation says of each item of a text's groups, record by record.
 use Prim.Native.Nat.{ℕ, _*_, _<_}
 use mathlib.Core.Path.{_≡_}
 use mathlib.Core.List.{List, [], map, flatten}
@@ -9,10 +9,10 @@ use Rattle.item.specs.Group.{Group}
 use Rattle.records.specs.Widths.{itemWidth}
 use Rattle.pool.specs.Layout.{hasPool}
 use Rattle.standing.specs.Rows.{Placed, itemCount, itemRows, groupRows}
-use Rattle.records.specs.Records.{itemField}
+use Rattle.records.specs.Fields.{itemField}
 use Rattle.annotation.specs.Sources.{Source}
 use Rattle.annotation.specs.Content.{Areas, placedOf, labelFor, tallyOf}
-use Rattle.annotation.specs.Facts.{numberedKeys, firstUses, eachItem, itemNumbers, itemKeys, useAfter}
+use Rattle.annotation.specs.Items.{numberedKeys, firstUses, eachItem, itemNumbers, itemKeys, useAfter}
 
 -- the labels of the items: in a numbered group by the number of the item's source, in another none
 abbrev pub itemLabels : List ℕ → ℕ → List Group → List ℕ → List Source → List Placed → List (List ℕ)

@@ -16,7 +16,8 @@ use Rattle.close.proofs.Laws.{ended}
 use Rattle.index.specs.declared.Bracket.{Bracket}
 use Rattle.index.specs.declared.Scan.{Scan}
 use Rattle.index.specs.Entries.{indexAt, indexOf}
-use Rattle.index.specs.Built.{blank, builtIndex, builtRecords, Both, built}
+use Rattle.index.specs.Built.{blank, builtIndex, builtRecords}
+use Rattle.index.specs.Building.{Both, built}
 use Rattle.index.specs.Scan.{firstReads, start, closes, scanPlan, stepIndex, stepRecords}
 use Rattle.index.specs.Passing.{isOrdinary, ordinaryEnd, passing, skipped, turnOf, turnAt, unread, Fine, filled}
 use Rattle.index.proofs.Laws.{plan-cases, plan-at, plan-slot}

@@ -29,7 +29,7 @@ use denote.Steps.{owned, nothing}
 use denote.Triple.Spec.{tripleOf}
 use denote.Triple.Statement.{Contract, Triple}
 use Rattle.index.specs.declared.Bracket.{Bracket}
-use Rattle.index.specs.Built.{Both, builtWhen, Enough}
+use Rattle.index.specs.Building.{Both, builtWhen, Enough}
 use Rattle.index.proofs.Bracket as T
 use Rattle.index.proofs.Lent.{at-list, lent, back}
 use Rattle.base.proofs.Calling.{beside, calls-row, copied, last-list, no-last}

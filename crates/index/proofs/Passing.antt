@@ -13,7 +13,8 @@ use Rattle.base.specs.Lists.{byteAt}
 use Rattle.base.proofs.Picks.{pick-not}
 use Rattle.base.proofs.Lasts.{last-end-stop, last-end-some, last-end-none}
 use Rattle.base.proofs.Searches.{first-out, first-stop, first-more, first-from, first-by, first-fails}
-use Rattle.white.specs.White.{isInk, isWhite}
+use Rattle.white.specs.White.{isWhite}
+use Rattle.white.specs.Bytes.{isInk}
 use Rattle.text.specs.Trim.{trimEnd}
 use Rattle.text.proofs.Trims.{end-by}
 use Rattle.white.proofs.Whites.{ink-plain}

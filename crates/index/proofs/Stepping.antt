@@ -10,7 +10,8 @@ use lib.ListN.{length}
 use borrow.Author.Tests.{ltb-true, ltb-false}
 use Rattle.index.specs.declared.Bracket.{Bracket}
 use Rattle.index.specs.declared.Scan.{Scan}
-use Rattle.index.specs.Built.{blank, Both, built, Enough}
+use Rattle.index.specs.Built.{blank}
+use Rattle.index.specs.Building.{Both, built, Enough}
 use Rattle.index.specs.Passing.{turnAt, unread, filled}
 use Rattle.index.specs.Scan.{start, stepIndex, stepRecords}
 use Rattle.index.proofs.Turns.{KnownAt}

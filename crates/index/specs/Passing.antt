@@ -1,5 +1,5 @@
--- A build as the code does it: it clears the index, takes the turns of the scan, and clears the records. A turn is that of one byte, and goes
--- on over the ordinary bytes after it, which change nothing but what was read.
+-- Theorems: a build as the code does it: it clears the index, takes the turns of the scan, and clears the records. A turn is that of one
+-- byte, and goes on over the ordinary bytes after it, which change nothing but what was read. `LinearIndex` says what it leaves.
 use Prim.Native.Nat.{ℕ, zero, suc, _-_, _≤_}
 use mathlib.Core.List.{List}
 use mathlib.Core.Bool.{Bool, true, _&&_, _||_, not}
@@ -14,7 +14,8 @@ use Rattle.white.specs.White.{isWhite}
 use Rattle.index.specs.declared.Bracket.{Bracket}
 use Rattle.index.specs.declared.Scan.{Scan}
 use Rattle.index.specs.declared.Plan.{Plan}
-use Rattle.index.specs.Built.{blank, Both, built}
+use Rattle.index.specs.Built.{blank}
+use Rattle.index.specs.Building.{Both, built}
 use Rattle.index.specs.Scan.{readOn, nextWith, start, scanPlan, stepIndex, stepRecords}
 
 -- none of `;` `@` `[` `\` `]`

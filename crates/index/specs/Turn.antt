@@ -1,4 +1,4 @@
--- What a turn of the scan asks of the lent areas.
+-- Follows the code; nothing to believe: what a turn of the scan asks of the lent areas.
 use Prim.Native.Nat.{ℕ, _-_, _<_}
 use mathlib.Core.List.{List}
 use lib.ListN.{length}

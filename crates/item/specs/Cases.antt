@@ -1,4 +1,4 @@
--- A few computed cases of items, of the pieces of a group and of the judgement on them.
+-- Cases: items, the pieces of a group and the judgement on them.
 use mathlib.Core.Path.{_≡_, refl}
 use mathlib.Core.List.{[], _∷_}
 use mathlib.Core.Bool.{true, false}

@@ -1,11 +1,11 @@
--- What the paper claims of an item's parts, as types: THEOREMS, proved in proofs/.
+-- Theorems: what the paper claims of an item's parts, proved in proofs/.
 use Prim.Native.Nat.{ℕ, _+_, _<_}
 use mathlib.Core.Path.{_≡_}
 use mathlib.Core.List.{List, [], _∷_}
 use Rattle.base.specs.Lists.{byteAt}
 use Rattle.base.specs.Sorted.{Each}
 use Rattle.base.specs.declared.Span.{Span}
-use Rattle.base.specs.Spans.{presentOf, InOrder}
+use Rattle.base.specs.InOrder.{presentOf, InOrder}
 use Rattle.locator.specs.Answers.{valueOf, suffixOf}
 use Rattle.item.specs.declared.Item.{Item}
 use Rattle.item.specs.declared.Parsed.the-variants.{Good}

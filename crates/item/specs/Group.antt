@@ -1,4 +1,4 @@
--- A group by the places of its bracket and of its close.
+-- Document 01, Corners of the Rust: a group by the places of its bracket and of its close.
 use Prim.Native.Nat.{ℕ}
 use mathlib.Core.List.{List}
 use mathlib.Core.Bool.{Bool}

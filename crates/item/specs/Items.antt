@@ -1,4 +1,5 @@
--- One item (`parse_item`): a stretch of the text between the brackets' and the `;`s' places. Places count from the text's start.
+-- Document 01, Corners of the Rust: one item (`parse_item`), a stretch of the text between brackets and `;`.
+-- Places count from the text's start.
 use Prim.Native.Nat.{ℕ, _+_, _-_}
 use mathlib.Core.List.{List}
 use mathlib.Core.Bool.{Bool, true, false, _&&_, _||_, not}

@@ -1,4 +1,5 @@
--- The judgement on the items between a bracket and its close: "one bad item means none".
+-- Follows the code; nothing to believe: the judgement on the items between a bracket and its close,
+-- by the first bad one.
 use Prim.Native.Nat.{ℕ, suc}
 use mathlib.Core.List.{List, [], _∷_}
 use lib.ListN.{length}

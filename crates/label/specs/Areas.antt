@@ -1,4 +1,4 @@
--- An area that was lent for one answer.
+-- Follows the code; nothing to believe: an area that was lent for one answer.
 use Prim.Native.Nat.{ℕ}
 use mathlib.Core.List.{List, _++_}
 use lib.ListN.{length, take, drop}

@@ -1,4 +1,4 @@
--- A few computed cases of labels.
+-- Cases: labels.
 
 use mathlib.Core.Path.{_≡_, refl}
 use mathlib.Core.List.{[]}

@@ -1,4 +1,4 @@
--- Labels (`annotate_citations_inline`).
+-- Document 01, Corners of the Rust: labels (`annotate_citations_inline`).
 use Prim.Native.Nat.{ℕ}
 use mathlib.Core.List.{List, [], _∷_, _++_}
 use mathlib.Core.Bool.{Bool}

@@ -8,7 +8,8 @@ use lib.Seq.{getD-drop, drop-drop}
 use borrow.Author.Tests.{eq-eqb, ne-eqb}
 use Rattle.base.specs.Ascii.{ascii}
 use Rattle.decimal.specs.Decimal.{decimal}
-use Rattle.records.specs.Records.{itemField, groupField, keyIn}
+use Rattle.records.specs.Records.{groupField, keyIn}
+use Rattle.records.specs.Fields.{itemField}
 use Rattle.line_writers.specs.declared.Told.{Told}
 use Rattle.line_writers.specs.Lines.{groupPart, itemPart, itemLine, itemLines, linesOf, groupLines, countLine, refusedLine, listed}
 use Rattle.line_writers.specs.Writes.{Put, Room, answerBy}

@@ -1,4 +1,4 @@
--- The lines of the listing: what each says, by the records of an answer.
+-- Document 01, Examples: the lines of the listing: what each says, by the records of an answer.
 use Prim.Native.Nat.{ℕ, zero, suc, _+_, _*_}
 use mathlib.Core.List.{List, [], _++_}
 use lib.ListN.{getD, drop}

@@ -1,4 +1,5 @@
--- What the writers of the lines ask for, and what they leave: bytes written into an area from some place on.
+-- Follows the code; nothing to believe: what the writers of the lines ask for, and what they leave:
+-- bytes written into an area from some place on.
 use Prim.Native.Nat.{ℕ, _+_, _≤_}
 use mathlib.Core.Path.{_≡_}
 use mathlib.Core.List.{List, []}

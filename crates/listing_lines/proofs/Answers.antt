@@ -7,7 +7,7 @@ use mathlib.Core.Bool.{Bool, true, false, _&&_}
 use lib.ListN.{length, take, replicate, length-replicate}
 use lib.Dec.{eqb, leb}
 use borrow.Author.Tests.{leb-true, le-ltb}
-use Rattle.base.specs.Lists.{Wrote}
+use Rattle.base.specs.Areas.{Wrote}
 use Rattle.base.specs.Pick.{pick}
 use Rattle.index.specs.Built.{blank}
 use Rattle.base.proofs.Bools.{and-left, and-right}
@@ -18,8 +18,7 @@ use Rattle.sweep.proofs.Laws.{group-rows-length}
 use Rattle.sweep.proofs.Areas.{written-front}
 use Rattle.annotation.specs.declared.answer.Annotation.{Annotation}
 use Rattle.annotation.specs.declared.answer.Annotation.the-variants.{Accepted, Refused}
-use Rattle.annotation.specs.AnswerValues.{annotationValues}
-use Rattle.annotation.specs.Values.{annotationNumbers}
+use Rattle.annotation.specs.Values.{annotationValues, annotationNumbers}
 use Rattle.annotation.specs.Content.{Areas, placedFrom, placedOf, contentOf, areas}
 use Rattle.annotation.specs.Call.{Annotated, AnnotateRan, annotateRefused, roomFor, zeroFilled, annotateGives, answerOf, annotatePlain, annotateRun}
 use Rattle.annotation.specs.Refusal.{annotateRefusal}

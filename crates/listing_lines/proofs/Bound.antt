@@ -23,7 +23,7 @@ use Rattle.standing.proofs.ItemSizes.{weight}
 use Rattle.standing.proofs.Swept.{groupsOf, placed-groups, placed-length}
 use Rattle.sweep.proofs.Sizes.{weights}
 use Rattle.sweep.proofs.Sweeps.{sweep-same}
-use Rattle.records.specs.Records.{itemField}
+use Rattle.records.specs.Fields.{itemField}
 use Rattle.uses.proofs.Fields.{item-field, SameItems}
 use Rattle.annotation.specs.Content.{Areas, placedFrom, placedOf, tallyOf, contentOf}
 use Rattle.annotation.specs.Call.{Annotated, annotateRefused, roomFor, filled, zeroFilled, annotateGives, answerOf, annotatePlain}

@@ -29,7 +29,7 @@ use Rattle.annotation.specs.Content.{Areas, placedOf, labelFor, tallyOf, conten
 use Rattle.annotation.specs.Call.{annotateRefused, roomFor, annotateGives, answerOf, annotatePlain}
 use Rattle.annotation.proofs.Counts.{sources-by}
 use Rattle.annotation.proofs.ByRecords.{references-length}
-use Rattle.annotation.specs.Facts.{eachItem}
+use Rattle.annotation.specs.Items.{eachItem}
 use Rattle.histories.specs.Said.{itemLabels}
 use Rattle.histories.proofs.SaidSo.{says}
 use Rattle.listing_lines.specs.Listing.{listingAreas, listingAnswer, TextRefusalsOnly}

@@ -6,7 +6,8 @@ use mathlib.Core.List.{List, [], _∷_, _++_, append-assoc}
 use lib.ListN.{length, take, replicate, length-append, length-replicate, replicate-append-replicate}
 use lib.Seq.{take-at, length-take-le}
 use borrow.Author.Tests.{lt-ltb}
-use Rattle.base.specs.Lists.{written, Wrote}
+use Rattle.base.specs.Lists.{written}
+use Rattle.base.specs.Areas.{Wrote}
 use Rattle.base.specs.Ascii.{ascii}
 use Rattle.decimal.specs.Decimal.{decimal}
 use Rattle.decimal.proofs.Laws.{decimal-short}
@@ -14,9 +15,9 @@ use Rattle.sweep.specs.Areas.{writtenAt}
 use Rattle.sweep.proofs.Areas.{written-front}
 use Rattle.base.proofs.Areas.{written-length}
 use Rattle.line_writers.specs.Lines.{refusedLine}
-use Rattle.listing_lines.specs.Listing.{listingOf}
+use Rattle.listing_lines.specs.Listing.{listingOf, Counts}
 use Rattle.line_writers.specs.Writes.{Put, Room}
-use Rattle.listing_lines.specs.Ready.{Ready, Counts}
+use Rattle.listing_lines.specs.Ready.{Ready}
 use Rattle.line_writers.proofs.Lines.{field, refused-word}
 use Rattle.listing_lines.proofs.Bound.{listing-short}
 

@@ -1,8 +1,8 @@
--- What `list` makes ready for the call, and a count of bytes at the front of an area.
+-- Follows the code; nothing to believe: what `list` makes ready for the call.
 use Prim.Native.Nat.{ℕ, _*_, _≤_}
 use mathlib.Core.Path.{_≡_}
 use mathlib.Core.List.{List}
-use lib.ListN.{length, take, replicate}
+use lib.ListN.{length, replicate}
 use Rattle.listing_lines.specs.Listing.{listingOf}
 
 -- the areas of the definition, zero, and an area with room for the listing
@@ -14,7 +14,3 @@ pub record Ready (text index items groups references labels out : List ℕ) : Ty
   pub reference-area : references ≡ replicate (length text) 0
   pub label-area : labels ≡ replicate (5 * length text) 0
   pub room : length (listingOf text) ≤ length out
-
--- `r` counts bytes at the front of an area. (The second part follows from the first; a caller that lends those bytes asks for it.)
-abbrev pub Counts : ℕ → List ℕ → Type 0
-Counts r area = (r ≤ length area) × (r ≡ length (take r area))

@@ -5,10 +5,11 @@ use line_writers::Told;
 ghost use mathlib.Core.Path.{_≡_};
 ghost use mathlib.Core.List.{[], _∷_};
 ghost use lib.ListN.{length, take, replicate};
-ghost use Rattle.base.specs.Lists.{written, Wrote};
-ghost use Rattle.annotation.specs.AnswerValues.{annotationValues};
-ghost use Rattle.listing_lines.specs.Listing.{listingOf, TextRefusalsOnly};
-ghost use Rattle.listing_lines.specs.Ready.{Ready, Counts};
+ghost use Rattle.base.specs.Lists.{written};
+ghost use Rattle.base.specs.Areas.{Wrote};
+ghost use Rattle.annotation.specs.Values.{annotationValues};
+ghost use Rattle.listing_lines.specs.Listing.{listingOf, TextRefusalsOnly, Counts};
+ghost use Rattle.listing_lines.specs.Ready.{Ready};
 
 // The numbers of an answer.
 fn told_by(answer: Annotation) -> Told

@@ -1,4 +1,5 @@
--- What the tables of the code say of the matchers: a test that is computed once over all of them.
+-- Follows the code; nothing to believe: what the tables of the code say of the matchers:
+-- a test that is computed once over all of them.
 use Prim.Native.Nat.{ℕ}
 use mathlib.Core.List.{List, [], _∷_}
 use mathlib.Core.Bool.{Bool, true, false, _&&_}

@@ -16,7 +16,8 @@ use Rattle.resolve.specs.declared.Matched.the-variants.{Group as MatchedGroup, 
 use Rattle.resolve.specs.Groups.{GroupAnswer, Found, NoGroup, barred, groupAccepted, judge}
 use Rattle.resolve.specs.Looks.{matched, Inside}
 use Rattle.resolve.proofs.Laws.{at-after, at-inside}
-use Rattle.records.specs.Rows.{rowsLength, Writable}
+use Rattle.records.specs.Rows.{rowsLength}
+use Rattle.records.specs.Writing.{Writable}
 
 module _ (s : List ℕ) (p : ℕ) (d : Close) where
   matched-is : {c n : ℕ} → matched (judge s p d) ≡ MatchedGroup c n

@@ -18,7 +18,7 @@ use Rattle.locator.specs.declared.Locator.the-variants.{Nothing}
 use Rattle.locator.specs.Answers.{codeOf, valueOf, suffixOf}
 use Rattle.locator.specs.Locators.{locatorOf}
 use Rattle.index.specs.Entries.{opensAt}
-use Rattle.index.specs.Built.{Enough}
+use Rattle.index.specs.Building.{Enough}
 use Rattle.resolve.proofs.AtBracket.{opens-in}
 use Rattle.lookup.specs.declared.Size.{Size}
 use Rattle.lookup.specs.declared.Size.the-variants.{Accepted as SizeIs, Refused as NoSize}

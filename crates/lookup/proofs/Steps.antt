@@ -12,7 +12,7 @@ use Rattle.base.specs.Lists.{written}
 use Rattle.base.proofs.Bools.{and-left}
 use Rattle.close.specs.declared.Close.{Close}
 use Rattle.index.specs.declared.Bracket.{Bracket}
-use Rattle.index.specs.Built.{Enough}
+use Rattle.index.specs.Building.{Enough}
 use Rattle.resolve.specs.declared.Look.{Look}
 use Rattle.lookup.specs.declared.LookUp.{LookUp}
 use Rattle.lookup.specs.declared.LookUp.the-variants.{Accepted, Refused}

@@ -1,11 +1,12 @@
--- What the paper claims of look-ups, as types: THEOREMS, proved in proofs/.
+-- Theorems: what the paper claims of look-ups, proved in proofs/.
 use Prim.Native.Nat.{ℕ}
 use mathlib.Core.Path.{_≡_}
 use mathlib.Core.List.{List}
 use lib.ListN.{length}
 use Rattle.index.specs.declared.Bracket.{Bracket}
 use Rattle.lookup.specs.LookUps.{lookUpPlain, lookUpRun}
-use Rattle.resolve.specs.Lefts.{Left, Keeps}
+use Rattle.resolve.specs.Lefts.{Left}
+use Rattle.resolve.specs.Keeps.{Keeps}
 
 -- With an index and a note "as earlier calls on that text left them" the call as run gives its plain answer.
 abbrev pub LookUpTrue : Type 0

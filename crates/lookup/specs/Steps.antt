@@ -1,4 +1,4 @@
--- A look-up in two halves, before and after a build that may be wanted between them.
+-- Follows the code; nothing to believe: a look-up in two halves around the build.
 use Prim.Native.Nat.{ℕ, _≤_, _<_}
 use mathlib.Core.List.{List}
 use mathlib.Core.Bool.{Bool, false}

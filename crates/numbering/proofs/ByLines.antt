@@ -9,7 +9,7 @@ use lib.ListN.{length, length-append}
 use lib.Dec.{eqb, ltb}
 use borrow.Author.Tests.{lt-ltb, le-ltb, ne-eqb}
 use Rattle.base.specs.Pick.{pick}
-use Rattle.base.specs.Last.{last}
+use Rattle.base.specs.LastPlace.{last}
 use Rattle.base.specs.Lists.{same}
 use Rattle.base.specs.Sorted.{Each}
 use Rattle.item.specs.declared.Item.{Item}
@@ -18,7 +18,8 @@ use Rattle.records.specs.Rows.{marksOf, recordOf, rowOf, rowsIn, rowsOf, rowsLe
 use Rattle.records.specs.Widths.{itemWidth}
 use Rattle.records.proofs.RowLaws.{rows-length}
 use Rattle.pool.specs.Layout.{countOf, entryAt, entriesOf}
-use Rattle.standing.specs.Rows.{Placed, groupRow, groupRows, placedBy, sweptFrom, itemRows}
+use Rattle.standing.specs.Rows.{Placed, groupRow, groupRows, placedBy, itemRows}
+use Rattle.standing.specs.Swept.{sweptFrom}
 use Rattle.records.specs.Widths.{groupWidth}
 use Rattle.definition_line.specs.Lines.{startsLine, colonAfter, bareItem, onlyKey, defines, inLine, groupEnd, nextOpen, keyOf, definedKey}
 use Rattle.definition.specs.Defs.{Def, lineDef, entryDef, definesKey, lastLine, firstEntry, defOf}

@@ -21,7 +21,8 @@ use Rattle.label.specs.Areas.{fitted, fittedAt}
 use Rattle.label.proofs.AreaLaws.{fitted-back}
 use Rattle.definition.specs.declared.defined.Defined.{Defined}
 use Rattle.definition.specs.Definitions.{definitionIn}
-use Rattle.records.specs.Records.{itemField, keyIn, suppressedIn}
+use Rattle.records.specs.Records.{keyIn, suppressedIn}
+use Rattle.records.specs.Fields.{itemField}
 use Rattle.definition.specs.Defined.{definedAs}
 use Rattle.uses.specs.Uses.{sameLabel, lastAlike}
 use Rattle.numbering.specs.declared.Numbering.{Numbering}

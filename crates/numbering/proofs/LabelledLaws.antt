@@ -12,7 +12,8 @@ use Rattle.item.specs.Group.{Group}
 use Rattle.records.specs.Rows.{recordOf, rowOf, rowsIn, rowsOf, rowsLength}
 use Rattle.records.specs.Widths.{itemWidth}
 use Rattle.standing.specs.Rows.{itemCount, itemRows}
-use Rattle.records.specs.Records.{itemField, suppressedIn}
+use Rattle.records.specs.Records.{suppressedIn}
+use Rattle.records.specs.Fields.{itemField}
 use Rattle.label.specs.Areas.{fittedAt}
 use Rattle.label.proofs.AreaLaws.{fitted-at-kept, fitted-at-there}
 use Rattle.uses.specs.Uses.{setLast}

@@ -1,4 +1,5 @@
--- Numbers, uses and labels, as the code writes them into the records, record by record.
+-- Theorems: numbers, uses and labels as the code writes them into the records, record by record,
+-- for the theorem `NumbersAgree` of the crate annotation.
 use Prim.Native.Nat.{ℕ, zero, suc, _+_, _*_}
 use mathlib.Core.List.{List, [], _++_}
 use mathlib.Core.Bool.{Bool, true, _&&_, not}

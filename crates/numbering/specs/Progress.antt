@@ -1,4 +1,4 @@
--- What the code holds on the way through the records.
+-- Follows the code; nothing to believe: what the code holds on the way through the records.
 use Prim.Native.Nat.{ℕ, _+_, _*_, _<_, _≤_, min}
 use mathlib.Core.Path.{_≡_}
 use mathlib.Core.List.{List}
@@ -8,7 +8,8 @@ use lib.Dec.{leb}
 use Rattle.base.specs.Lists.{written}
 use Rattle.numbering.specs.declared.Numbering.{Numbering}
 use Rattle.records.specs.Widths.{itemWidth}
-use Rattle.records.specs.Records.{itemField, keyIn, suppressedIn}
+use Rattle.records.specs.Records.{keyIn, suppressedIn}
+use Rattle.records.specs.Fields.{itemField}
 use Rattle.numbering.specs.Numbers.{Numbered, labelOf}
 
 -- item record `j` has this number, which is not 0, and the mark of suppression and the key of record `k`

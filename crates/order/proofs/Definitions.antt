@@ -27,7 +27,8 @@ use Rattle.definition.specs.Definitions.{definitionIn}
 use Rattle.records.specs.Records.{keyIn, groupField}
 use Rattle.definition.specs.Defined.{definedAs, foundIn, definitionNumber, definitionAt, keyBy, DefinedIn}
 use Rattle.definition.specs.Entries.{entryHas, entryIn}
-use Rattle.order.specs.Order.{less, insertBy, insertedFrom, Precedes}
+use Rattle.order.specs.Order.{less, insertBy, insertedFrom}
+use Rattle.order.specs.Precedes.{Precedes}
 use Rattle.order.specs.References.{sourceKeyIn, rankIn, numberOfKey, SourcesKnown}
 use Rattle.order.specs.Ordered.{rankBy, definitionOf, sourceBy, SortedBy}
 use Rattle.base.proofs.Lasts.{last-holds}

@@ -13,7 +13,8 @@ use Rattle.base.specs.Lists.{upFrom}
 use Rattle.base.specs.Sorted.{Each, Sorted}
 use Rattle.base.proofs.Alls.{each-map}
 use Rattle.base.proofs.Ups.{up-length}
-use Rattle.order.specs.Order.{less, insertBy, insertedFrom, referenceOrder, Precedes}
+use Rattle.order.specs.Order.{less, insertBy, insertedFrom, referenceOrder}
+use Rattle.order.specs.Precedes.{Precedes}
 use Rattle.order.proofs.Sorting.{less-asym, less-cut, less-or}
 
 -- one number -----------------------------------------------------------------------------------------------------------------------

@@ -21,7 +21,8 @@ use Rattle.definition.specs.Parts.{authorBytes, authorGiven}
 use Rattle.definition.specs.Defs.{defAuthor}
 use Rattle.definition.specs.declared.defined.Defined.{Defined}
 use Rattle.definition.specs.declared.defined.Defined.the-variants.{Line, Entry as EntryOf, Nothing}
-use Rattle.records.specs.Records.{itemField, groupField, keyIn}
+use Rattle.records.specs.Records.{groupField, keyIn}
+use Rattle.records.specs.Fields.{itemField}
 use Rattle.uses.specs.Uses.{usedAt}
 use Rattle.definition.specs.Defined.{definedAs, foundIn, definitionNumber, definitionAt, keyBy, DefinedIn}
 use Rattle.order.specs.References.{hasNumber, firstWith, sourceKeyIn, numberOfKey}

@@ -1,3 +1,4 @@
 pub mod Order
 pub mod Ordered
 pub mod References
+pub mod Precedes

@@ -1,8 +1,6 @@
--- The order of bytes, and reference order by it (the sort in `render_refs_list`).
-use Prim.Native.Nat.{ℕ, zero, suc, _+_, _<_}
-use mathlib.Core.Path.{_≡_}
+-- Document 01, Added by design: the order of bytes, and reference order by it (the sort in `render_refs_list`).
+use Prim.Native.Nat.{ℕ, zero, suc, _+_}
 use mathlib.Core.List.{List, [], _∷_}
-use mathlib.Core.Logic.{_⊎_}
 use mathlib.Core.Bool.{Bool, true, false}
 use mathlib.Core.Option.{Option, Option·getD}
 use lib.Dec.{eqb, ltb}
@@ -37,7 +35,3 @@ insertedFrom rank (suc count) l k = insertedFrom rank count (insertBy rank l k) 
 -- "Reference order": the numbers of `count` sources, "mode 0 by number; mode 1 by" rank, "equal ones by number"
 unfoldable pub referenceOrder : ℕ → (ℕ → List ℕ) → ℕ → List ℕ
 referenceOrder mode rank count = pick (eqb mode 0) (upFrom 1 count) (insertedFrom rank count [] 1)
-
--- number `m` comes before number `n`: it has the lesser rank, or the same rank and is the lesser
-abbrev pub Precedes : (ℕ → List ℕ) → ℕ → ℕ → Type 0
-Precedes rank m n = (less (rank m) (rank n) ≡ true) ⊎ ((rank m ≡ rank n) × (m < n))

@@ -1,5 +1,5 @@
--- Reference order as the code makes it: the numbers of the sources' definitions are inserted one after the other, by their ranks; then each
--- is replaced by the number of its source.
+-- Follows the code; nothing to believe: reference order as the code makes it: the numbers of the sources' definitions are
+-- inserted one after the other, by their ranks; then each is replaced by the number of its source.
 use Prim.Native.Nat.{ℕ, zero, suc, _+_, _≤_, _<_}
 use mathlib.Core.Path.{_≡_}
 use mathlib.Core.List.{List}

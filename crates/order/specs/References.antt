@@ -1,4 +1,4 @@
--- Reference order, from the records.
+-- Follows the code; nothing to believe: reference order, from the records.
 use Prim.Native.Nat.{ℕ, _≤_}
 use mathlib.Core.Path.{_≡_}
 use mathlib.Core.List.{List}
@@ -7,7 +7,8 @@ use lib.Dec.{eqb}
 use Rattle.base.specs.First.{first}
 use Rattle.definition.specs.Defs.{isDefined}
 use Rattle.definition.specs.Definitions.{definitionIn}
-use Rattle.records.specs.Records.{itemField, keyIn}
+use Rattle.records.specs.Records.{keyIn}
+use Rattle.records.specs.Fields.{itemField}
 use Rattle.uses.specs.Uses.{usedAt}
 use Rattle.order.specs.Order.{authorOr, referenceOrder}
 

@@ -1,4 +1,4 @@
--- Where the parts of an entry lie in the pool.
+-- Follows the code; nothing to believe: where the parts of an entry lie in the pool.
 use Prim.Native.Nat.{ℕ, _+_, _≤_}
 use mathlib.Core.Path.{_≡_}
 use mathlib.Core.List.{List}

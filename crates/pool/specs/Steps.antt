@@ -1,4 +1,4 @@
--- The layout, a field and a pair at a time: what the loops of the check go by.
+-- Follows the code; nothing to believe: the layout, a field and a pair at a time, as the loops of the check go.
 use Prim.Native.Nat.{ℕ, _+_}
 use mathlib.Core.List.{List}
 use mathlib.Core.Bool.{Bool, _&&_}

@@ -8,7 +8,7 @@ use mathlib.Core.List.{List, [], _∷_, _++_, append-assoc}
 use lib.ListN.{length, take, drop, set, take-append-drop, length-set}
 use lib.Seq.{drop-set-lt, take-suc-set}
 use Rattle.base.specs.Lists.{written}
-use Rattle.records.specs.Rows.{putAt}
+use Rattle.records.specs.Writing.{putAt}
 
 put-split : (k : ℕ) (vs row : List ℕ) → k + length vs ≤ length row → putAt k vs row ≡ take k row ++ (vs ++ drop (k + length vs) row)
 unfolding putAt

@@ -10,7 +10,8 @@ use lib.Dec.{eqb}
 use borrow.Author.Tests.{lt-ltb, le-ltb}
 use Rattle.base.specs.Lists.{part}
 use Rattle.base.proofs.Parts.{byte-past}
-use Rattle.records.specs.Records.{itemField, groupField, keyIn, suppressedIn, bareIn, closeOfRecord, nextIn}
+use Rattle.records.specs.Records.{groupField, keyIn, suppressedIn, bareIn, closeOfRecord, nextIn}
+use Rattle.records.specs.Fields.{itemField}
 
 -- a store past the end of an area changes nothing
 pub set-past : (area : List ℕ) (i v : ℕ) → length area ≤ i → area ≡ set area i v

@@ -22,7 +22,8 @@ use Rattle.item.specs.Facts.{partsOf}
 use Rattle.item.proofs.Bounds.{item-within}
 use Rattle.item.proofs.Pieces.{items-more, items-last, first-good, rest-good}
 use Rattle.item.specs.Group.{goodItems, Group, groupOf}
-use Rattle.records.specs.Rows.{marksOf, recordOf, rowOf, rowsIn, rowsOf, rowsLength, pieceRow, putAt, Narrow, NarrowItem, Writable}
+use Rattle.records.specs.Rows.{marksOf, recordOf, rowOf, rowsIn, rowsOf, rowsLength}
+use Rattle.records.specs.Writing.{pieceRow, putAt, Narrow, NarrowItem, Writable}
 use Rattle.records.proofs.Areas.{put-written}
 
 -- a record has 16 numbers ----------------------------------------------------------------------------------------------------------

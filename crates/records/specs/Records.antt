@@ -1,4 +1,5 @@
--- Item and group records as they lie in the lent areas. Any numbers may stand there: what is past the end of an area counts as 0.
+-- Follows the code; nothing to believe: item and group records as they lie in the lent areas. Any numbers may stand there:
+-- what is past the end of an area counts as 0.
 use Prim.Native.Nat.{ℕ, _+_, _-_, _*_, _%_}
 use mathlib.Core.List.{List}
 use mathlib.Core.Bool.{Bool, _&&_}
@@ -6,12 +7,8 @@ use lib.ListN.{length, getD}
 use lib.Dec.{eqb, ltb}
 use Rattle.base.specs.Pick.{pick}
 use Rattle.base.specs.Lists.{part}
-use Rattle.records.specs.Widths.{itemWidth}
 use Rattle.records.specs.Widths.{groupWidth}
-
--- the number at place `c` of item record `k`
-unfoldable pub itemField : List ℕ → ℕ → ℕ → ℕ
-itemField items k c = getD items (itemWidth * k + c) 0
+use Rattle.records.specs.Fields.{itemField}
 
 -- the number at place `c` of group record `g`
 unfoldable pub groupField : List ℕ → ℕ → ℕ → ℕ

@@ -1,4 +1,4 @@
--- How many numbers the records have: "Item record, 16 u16", "Group record, 5 u16".
+-- Document 01, Layouts: how many numbers the records have, and what stands where.
 use Prim.Native.Nat.{ℕ}
 
 -- how many numbers an item record has

@@ -21,7 +21,8 @@ ghost use Rattle.base.specs.Pick.{pick};
 ghost use Rattle.locator.specs.Answers.{codeOf, valueOf, suffixOf};
 ghost use Rattle.item.specs.Items.{itemOf};
 ghost use Rattle.item.specs.Group.{groupOf};
-ghost use Rattle.records.specs.Rows.{rowOf, rowsOf, pieceRow, Put, Narrow, NarrowLocator, NarrowItem, Writable};
+ghost use Rattle.records.specs.Rows.{rowOf, rowsOf};
+ghost use Rattle.records.specs.Writing.{pieceRow, Put, Narrow, NarrowLocator, NarrowItem, Writable};
 ghost use Rattle.records.specs.Widths.{itemWidth};
 
 // How many numbers an item record has.

@@ -4,7 +4,8 @@ pub mod item_records;
 ghost use mathlib.Core.Path.{_≡_};
 ghost use Prim.Native.Nat.{_<_};
 ghost use lib.ListN.{getD, set};
-ghost use Rattle.records.specs.Records.{itemField, groupField, keyIn, suppressedIn, bareIn, closeOfRecord, nextIn};
+ghost use Rattle.records.specs.Records.{groupField, keyIn, suppressedIn, bareIn, closeOfRecord, nextIn};
+ghost use Rattle.records.specs.Fields.{itemField};
 
 // The number at place `i` of an area; 0 past its end.
 pub fn number_at(area: &[u16], i: usize) -> usize

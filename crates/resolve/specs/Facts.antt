@@ -1,11 +1,11 @@
--- What the paper claims of the group at a bracket, as types: THEOREMS, proved in proofs/.
+-- Theorems: what the paper claims of the group at a bracket, proved in proofs/.
 use Prim.Native.Nat.{ℕ, _+_, _≤_, _<_}
 use mathlib.Core.Path.{_≡_}
 use mathlib.Core.List.{List}
 use mathlib.Core.Bool.{true}
 use lib.ListN.{length}
 use Rattle.base.specs.Sorted.{Each}
-use Rattle.base.specs.Spans.{presentOf, InOrder}
+use Rattle.base.specs.InOrder.{presentOf, InOrder}
 use Rattle.item.specs.declared.Item.{Item}
 use Rattle.item.specs.Facts.{partsOf}
 use Rattle.item.specs.Group.{Group}

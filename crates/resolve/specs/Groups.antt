@@ -1,4 +1,4 @@
--- The group at a bracket (`match_citation`).
+-- Document 01, Corners of the Rust: the group at a bracket (`match_citation`).
 use Prim.Native.Nat.{ℕ, _+_}
 use mathlib.Core.List.{List}
 use mathlib.Core.Bool.{Bool, _||_, _&&_, not}

@@ -3,3 +3,4 @@ pub mod Resolve
 pub mod Looks
 pub mod Lefts
 pub mod Facts
+pub mod Keeps

@@ -1,4 +1,5 @@
--- What the code says of a bracket: the group at it by its close and its count, and where a close lies.
+-- Follows the code; nothing to believe: what the code says of a bracket: the group at it by its close and its count,
+-- and where a close lies.
 use Prim.Native.Nat.{ℕ, _<_}
 use mathlib.Core.Path.{_≡_}
 use mathlib.Core.List.{List}

@@ -1,4 +1,5 @@
--- The close of a bracket as run, with an index and a note, whatever they hold (`citation_close_bracket`).
+-- Document 01, Corners of the Rust: the close of a bracket as run, with an index and a note, whatever they hold
+-- (`citation_close_bracket`).
 use Prim.Native.Nat.{ℕ, _-_}
 use mathlib.Core.List.{List}
 use mathlib.Core.Bool.{Bool, true, false, _&&_, not}

@@ -1,4 +1,4 @@
--- The author and the year of an entry of the pool.
+-- Document 01, Corners of the Rust: the author and the year of an entry of the pool (`csl_to_def`, `csl_year`).
 use Prim.Native.Nat.{ℕ}
 use mathlib.Core.List.{List, [], _∷_}
 use mathlib.Core.Bool.{Bool, true, false}

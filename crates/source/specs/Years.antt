@@ -1,4 +1,4 @@
--- A year of an entry: a number, or where its bytes lie in the pool.
+-- Follows the code; nothing to believe: a year of an entry: a number, or where its bytes lie in the pool.
 use Prim.Native.Nat.{ℕ, _+_, _≤_}
 use mathlib.Core.Path.{_≡_}
 use mathlib.Core.List.{List}

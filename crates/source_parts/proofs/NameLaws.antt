@@ -15,7 +15,8 @@ use Rattle.pool.specs.declared.Found.{Found}
 use Rattle.pool.specs.declared.Found.the-variants.{At, Missing}
 use Rattle.pool.specs.declared.NameParts.{NameParts}
 use Rattle.pool.specs.Places.{bytesAt, Inside, nameAtParts}
-use Rattle.source_parts.specs.Names.{nameBy, nameOf, lenOf, givenPart, givenLen, familyPart, familyLen, nameLenBy, nameLen}
+use Rattle.source_parts.specs.Names.{nameBy, nameOf, givenPart, familyPart}
+use Rattle.source_parts.specs.Lengths.{lenOf, givenLen, familyLen, nameLenBy, nameLen}
 
 pub found-length : (s : List ℕ) (f : Found) → Inside s f → lenOf f ≡ length (Option·getD (bytesAt s f) [])
 found-length s (At p) h = let l = part-length s (p .at) (p .at + p .len) (omega arith) h in omega arith

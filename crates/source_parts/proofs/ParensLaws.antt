@@ -17,7 +17,8 @@ use Rattle.source.specs.declared.Year.{Year}
 use Rattle.source.specs.declared.Year.the-variants.{Number, At as YearAt, Missing as NoYear}
 use Rattle.source.specs.Decimal.{signedDecimal}
 use Rattle.source.specs.Years.{writtenYear, YearInside}
-use Rattle.source_parts.specs.Parens.{inParens, yearLen, parensLen, yearText}
+use Rattle.source_parts.specs.Parens.{inParens}
+use Rattle.source_parts.specs.Lengths.{yearLen, parensLen, yearText}
 
 signed-short : (n : Bool) (m : ℕ) → length (signedDecimal (signed n m)) ≤ 21
 unfolding signedDecimal

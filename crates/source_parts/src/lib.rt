@@ -9,8 +9,9 @@ ghost use mathlib.Core.Option.{Option·getD};
 ghost use Prim.Native.Nat.{_+_, _≤_};
 ghost use lib.ListN.{length};
 ghost use Rattle.base.specs.Lists.{part, written};
-ghost use Rattle.source_parts.specs.Names.{lenOf, givenPart, givenLen, familyPart, familyLen, nameLen, nameOf};
-ghost use Rattle.source_parts.specs.Parens.{inParens, yearLen, parensLen, yearText};
+ghost use Rattle.source_parts.specs.Names.{givenPart, familyPart, nameOf};
+ghost use Rattle.source_parts.specs.Lengths.{lenOf, givenLen, familyLen, nameLen, yearLen, parensLen, yearText};
+ghost use Rattle.source_parts.specs.Parens.{inParens};
 ghost use Rattle.source.specs.Years.{YearInside, writtenYear};
 ghost use Rattle.pool.specs.Places.{bytesAt, Inside, nameAtParts};
 

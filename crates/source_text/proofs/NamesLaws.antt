@@ -24,7 +24,8 @@ use Rattle.pool.specs.Places.{Inside, nameAtParts, ReadsName, FieldsIn, EntryIn
 use Rattle.pool.proofs.FieldLaws.{field-long, field-shrinks, fields-next, fields-end}
 use Rattle.pool.proofs.ReaderLaws.{fields-of-entry, fields-order, fields-head, fields-rest}
 use Rattle.source_text.specs.Text.{beside, addName, namesOf}
-use Rattle.source_parts.specs.Names.{nameOf, lenOf, familyLen, nameLenBy, nameLen, givenLen}
+use Rattle.source_parts.specs.Names.{nameOf}
+use Rattle.source_parts.specs.Lengths.{lenOf, familyLen, nameLenBy, nameLen, givenLen}
 use Rattle.source_text.specs.Lengths.{besideLen, opened, addLen}
 use Rattle.source_text.specs.Room.{Fit, NameFits, NextFits}
 use Rattle.source_text.proofs.WriteLaws.{beside-length, beside-more, fit-total, fit-opened, fit-rest, fit-written}

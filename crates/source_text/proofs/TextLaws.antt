@@ -18,9 +18,9 @@ use Rattle.source.specs.declared.Year.{Year}
 use Rattle.source.specs.declared.Year.the-variants.{Number, At as YearAt, Missing as NoYear}
 use Rattle.source_text.specs.Text.{beside, namesOf, headOf, ended, bodyOf, sourceTextOf}
 use Rattle.source.specs.Entry.{yearOf}
-use Rattle.source_parts.specs.Parens.{inParens, yearLen, parensLen}
+use Rattle.source_parts.specs.Parens.{inParens}
+use Rattle.source_parts.specs.Lengths.{yearLen, parensLen, lenOf}
 use Rattle.source_text.specs.Lengths.{besideLen}
-use Rattle.source_parts.specs.Names.{lenOf}
 use Rattle.source.specs.Years.{writtenYear, YearInside, ReadsYear}
 use Rattle.source_text.specs.Room.{Fit}
 use Rattle.source_parts.proofs.NameLaws.{found-length}

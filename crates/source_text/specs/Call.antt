@@ -1,4 +1,4 @@
--- The source text call.
+-- Document 01, Ten numbers: the source text call.
 use Prim.Native.Nat.{ℕ}
 use mathlib.Core.List.{List}
 use mathlib.Core.Bool.{not}

@@ -1,4 +1,4 @@
--- A few computed cases: the layout and the text of pools of one entry.
+-- Cases: the layout and the text of pools of one entry.
 use mathlib.Core.Path.{_≡_, refl}
 use mathlib.Core.List.{List, [], _∷_}
 use mathlib.Core.Bool.{true}

@@ -1,4 +1,4 @@
--- The lengths of what is joined, and what stands before a part that is to follow.
+-- Follows the code; nothing to believe: the lengths of what is joined, and what stands before a part that is to follow.
 use Prim.Native.Nat.{ℕ, _+_}
 use mathlib.Core.List.{List, _++_}
 use lib.ListN.{length}

@@ -1,4 +1,5 @@
--- What the writers require, parts that lie in the pool and room for what is written, and what they leave.
+-- Follows the code; nothing to believe: what the writers require, parts that lie in the pool and room for what is written,
+-- and what they leave.
 use Prim.Native.Nat.{ℕ, _≤_, _<_}
 use mathlib.Core.List.{List}
 use lib.ListN.{length, take}

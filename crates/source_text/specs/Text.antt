@@ -1,4 +1,4 @@
--- The text of an entry of the pool (`csl_to_def`).
+-- Document 01, Corners of the Rust: the text of an entry of the pool (`csl_to_def`).
 use mathlib.Core.Option.{Option·getD}
 use Prim.Native.Nat.{ℕ}
 use mathlib.Core.List.{List, [], _∷_, _++_}

@@ -1,5 +1,4 @@
--- "For an answer that is an enum, a definition gives this paper's number and values for each of its cases": the number (0 accepted),
--- then "the bytes written".
+-- Document 01, Layouts: the numbers and values of the source text call: the number (0 accepted), then the bytes written.
 use Prim.Native.Nat.{ℕ}
 use mathlib.Core.List.{List, [], _∷_}
 use lib.Dec.{eqb}

@@ -1,9 +1,8 @@
--- The records of a sweep: its groups with their standing, and their items.
+-- Document 01, Layouts: the records of a sweep: its groups with their standing, and their items.
 use Prim.Native.Nat.{ℕ, _+_, _-_}
 use mathlib.Core.List.{List, [], _∷_, _++_, flatMap}
 use mathlib.Core.Bool.{Bool}
 use lib.ListN.{length}
-use Rattle.base.specs.Pick.{pick}
 use Rattle.item.specs.Group.{Group}
 use Rattle.records.specs.Rows.{rowsOf}
 use Rattle.definition_line.specs.Lines.{inLine, groupEnd}
@@ -38,20 +37,6 @@ unfoldable pub placedBy : (Bool → Group → ℕ) → List ℕ → Bool → ℕ
 placedBy standing text before from [] = []
 placedBy standing text before from (g ∷ gs) =
     placed g (standing (inLine text before from g) g) ∷ placedBy standing text (inLine text before from g) (groupEnd g) gs
-
--- What is known of a group's standing in the sweep: 0 in a definition line, and 1 elsewhere until its keys are known to be defined.
-abbrev pub sweptFrom : List ℕ → Bool → ℕ → List Group → List Placed
-sweptFrom = placedBy (λ inside g. pick inside 0 1)
-
--- whether the last of some groups stands in a definition line
-unfoldable pub insideAfter : List ℕ → Bool → ℕ → List Group → Bool
-insideAfter text before from [] = before
-insideAfter text before from (g ∷ gs) = insideAfter text (inLine text before from g) (groupEnd g) gs
-
--- where the last of some groups ends
-unfoldable pub endAfter : ℕ → List Group → ℕ
-endAfter from [] = from
-endAfter from (g ∷ gs) = endAfter (groupEnd g) gs
 
 -- the records of the groups' items, none of them numbered
 abbrev pub itemRows : List Group → List ℕ

@@ -1,4 +1,4 @@
--- A group by its place: the bracket that opens it, its close, and how many items it has.
+-- Follows the code; nothing to believe: a group by its place: the bracket that opens it, its close, and how many items it has.
 use Prim.Native.Nat.{ℕ, _<_}
 use mathlib.Core.Path.{_≡_}
 use mathlib.Core.List.{List}

@@ -17,7 +17,8 @@ use Rattle.definition_line.specs.Lines.{inLine, groupEnd}
 use Rattle.sweep.specs.declared.group_records.SweepState.{SweepState}
 use Rattle.standing.proofs.Swept.{placed-length}
 use Rattle.sweep.specs.Sweep.{Lent, Swept, lentAfter, sweepRun}
-use Rattle.standing.specs.Rows.{Placed, placed, groupRow, groupRows, itemCount, itemRows, placedBy, sweptFrom, insideAfter, endAfter}
+use Rattle.standing.specs.Rows.{Placed, placed, groupRow, groupRows, itemCount, itemRows, placedBy}
+use Rattle.standing.specs.Swept.{sweptFrom, insideAfter, endAfter}
 use Rattle.sweep.specs.Stops.{stopFrom, startState, SweptTo}
 use Rattle.sweep.specs.Areas.{writtenAt}
 use Rattle.sweep.specs.Recording.{recordsFit, Counted, Recorded}

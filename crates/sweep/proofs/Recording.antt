@@ -19,7 +19,8 @@ use Rattle.records.specs.Rows.{rowsOf, rowsLength}
 use Rattle.records.proofs.RowLaws.{rows-length}
 use Rattle.definition_line.specs.Lines.{inLine}
 use Rattle.sweep.specs.declared.group_records.SweepState.{SweepState}
-use Rattle.standing.specs.Rows.{groupRow, groupRows, itemCount, itemRows, placedBy, sweptFrom, insideAfter, endAfter}
+use Rattle.standing.specs.Rows.{groupRow, groupRows, itemCount, itemRows, placedBy}
+use Rattle.standing.specs.Swept.{sweptFrom, insideAfter, endAfter}
 use Rattle.sweep.specs.Areas.{writtenAt}
 use Rattle.sweep.specs.Recording.{recordsFit, Counted, ItemsRoom, Recordable, afterGroup, RecordedOne}
 use Rattle.standing.proofs.ItemSizes.{items-size}

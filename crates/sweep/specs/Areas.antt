@@ -1,4 +1,4 @@
--- Areas that are written from some place on.
+-- Follows the code; nothing to believe: areas that are written from some place on.
 use Prim.Native.Nat.{ℕ, _+_}
 use mathlib.Core.List.{List, _++_}
 use lib.ListN.{length, take, drop}

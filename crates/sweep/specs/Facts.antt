@@ -1,4 +1,4 @@
--- What the paper claims of sweeps, as types: THEOREMS, proved in proofs/.
+-- Theorems: what the paper claims of sweeps, proved in proofs/.
 use Prim.Native.Nat.{ℕ, _/_, _≤_}
 use mathlib.Core.List.{List, [], _++_}
 use mathlib.Core.Path.{_≡_}

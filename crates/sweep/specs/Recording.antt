@@ -1,4 +1,4 @@
--- Groups recorded: the states of a sweep, and what the two areas are then.
+-- Follows the code; nothing to believe: groups recorded: the states of a sweep, and what the two areas are then.
 use Prim.Native.Nat.{ℕ, _+_, _*_, _≤_}
 use mathlib.Core.Path.{_≡_}
 use mathlib.Core.List.{List, [], _∷_}
@@ -8,7 +8,8 @@ use lib.Dec.{leb}
 use Rattle.item.specs.Pieces.{itemsOf}
 use Rattle.item.specs.Group.{Group, groupOf}
 use Rattle.records.specs.Widths.{itemWidth}
-use Rattle.standing.specs.Rows.{groupRows, itemCount, itemRows, sweptFrom, insideAfter, endAfter}
+use Rattle.standing.specs.Rows.{groupRows, itemCount, itemRows}
+use Rattle.standing.specs.Swept.{sweptFrom, insideAfter, endAfter}
 use Rattle.records.specs.Widths.{groupWidth}
 use Rattle.standing.specs.Stands.{GroupFrom}
 use Rattle.sweep.specs.declared.group_records.SweepState.{SweepState}

@@ -1,4 +1,4 @@
--- One turn of the sweep, as the code takes it.
+-- Follows the code; nothing to believe: one turn of the sweep, as the code takes it.
 use Prim.Native.Nat.{ℕ, _<_}
 use mathlib.Core.Path.{_≡_}
 use mathlib.Core.List.{List, []}

@@ -1,4 +1,4 @@
--- Trimming: a stretch of a text without the white space at its ends.
+-- Document 01, Corners of the Rust: trimming: a stretch of a text without the white space at its ends.
 use Prim.Native.Nat.{ℕ, _-_}
 use mathlib.Core.List.{List}
 use mathlib.Core.Bool.{not}

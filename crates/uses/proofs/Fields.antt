@@ -13,7 +13,8 @@ use Rattle.records.specs.Rows.{recordOf}
 use Rattle.records.specs.Widths.{itemWidth}
 use Rattle.standing.specs.Rows.{Placed, placed, groupRow}
 use Rattle.records.specs.Widths.{groupWidth}
-use Rattle.records.specs.Records.{itemField, groupField}
+use Rattle.records.specs.Records.{groupField}
+use Rattle.records.specs.Fields.{itemField}
 use Rattle.uses.specs.Uses.{setLast}
 
 pub set-append-add : (xs ys : List ℕ) (n a : ℕ) → set (xs ++ ys) (length xs + n) a ≡ xs ++ set ys n a

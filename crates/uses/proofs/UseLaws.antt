@@ -8,9 +8,10 @@ use lib.ListN.{set}
 use lib.Dec.{ltb}
 use borrow.Author.Tests.{lt-ltb, le-ltb, eq-eqb, ne-eqb}
 use Rattle.base.specs.Pick.{pick}
-use Rattle.base.specs.Last.{last}
+use Rattle.base.specs.LastPlace.{last}
 use Rattle.base.specs.Lists.{same}
-use Rattle.records.specs.Records.{itemField, keyIn}
+use Rattle.records.specs.Records.{keyIn}
+use Rattle.records.specs.Fields.{itemField}
 use Rattle.uses.specs.Uses.{sameUse, lastUse, alikeAt, sameLabel, lastAlike, numberIn, useIn, sourcesIn, setLast}
 use Rattle.uses.specs.Uses.{Counts}
 use Rattle.base.proofs.Lasts.{last-out, last-stop, last-more}

@@ -1,14 +1,16 @@
--- The number and the use of an item record, by the last one before it with the same key, and the place where they stand in its record.
+-- Follows the code; nothing to believe: the number and the use of an item record, by the last one before it with the same key,
+-- and the place where they stand in its record.
 use Prim.Native.Nat.{ℕ, _+_, _*_, _%_}
 use mathlib.Core.List.{List}
 use mathlib.Core.Bool.{Bool, _&&_}
 use lib.ListN.{set}
 use lib.Dec.{eqb, ltb}
 use Rattle.base.specs.Pick.{pick}
-use Rattle.base.specs.Last.{last}
+use Rattle.base.specs.LastPlace.{last}
 use Rattle.base.specs.Lists.{same}
 use Rattle.records.specs.Widths.{itemWidth}
-use Rattle.records.specs.Records.{itemField, keyIn}
+use Rattle.records.specs.Records.{keyIn}
+use Rattle.records.specs.Fields.{itemField}
 use Prim.Native.Nat.{_≤_}
 use mathlib.Core.Path.{_≡_}
 use Rattle.uses.specs.declared.Count.{Count}

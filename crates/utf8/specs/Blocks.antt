@@ -1,4 +1,4 @@
--- Runs of ASCII: no part of what UTF-8 is, only of how the check goes on.
+-- Follows the code; nothing to believe: runs of ASCII: no part of what UTF-8 is, only of how the check goes on.
 use Prim.Native.Nat.{ℕ, zero, suc, _+_, _%_}
 use mathlib.Core.List.{List}
 use mathlib.Core.Bool.{Bool, true, _&&_}

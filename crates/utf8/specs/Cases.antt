@@ -1,4 +1,4 @@
--- A few computed cases of texts that are UTF-8 and that are not.
+-- Cases: texts that are UTF-8 and that are not.
 use mathlib.Core.Path.{_≡_, refl}
 use mathlib.Core.List.{[], _∷_}
 use mathlib.Core.Bool.{true, false}

@@ -1,4 +1,4 @@
--- What refuses a text before anything else is looked at.
+-- Document 01, Ten numbers: what refuses a text before anything else is looked at.
 use Prim.Native.Nat.{ℕ}
 use mathlib.Core.List.{List}
 use Rattle.base.specs.Pick.{pick}

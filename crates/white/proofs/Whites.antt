@@ -10,7 +10,8 @@ use borrow.Author.Tests.{ne-eqb, le-ltb, ltb-true, ltb-false, lt-leb, leb-true}
 use Rattle.base.specs.Pick.{pick}
 use Rattle.base.specs.Lists.{byteAt}
 use Rattle.base.proofs.Bools.{and-left, and-right, split}
-use Rattle.white.specs.White.{isInk, whiteOne, whiteTwo, whiteThree, spaceWidth, isWhite}
+use Rattle.white.specs.White.{whiteOne, whiteTwo, whiteThree, spaceWidth, isWhite}
+use Rattle.white.specs.Bytes.{isInk}
 
 -- the width by the bytes
 unfoldable pub widthBy : ℕ → ℕ → ℕ → ℕ

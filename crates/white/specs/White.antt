@@ -1,4 +1,4 @@
--- White space: "the 25 White_Space code points".
+-- Document 01, Corners of the Rust: white space, "the 25 White_Space code points".
 use Prim.Native.Nat.{ℕ, _+_, _-_}
 use mathlib.Core.List.{List}
 use mathlib.Core.Bool.{Bool, _&&_, _||_}
@@ -21,10 +21,6 @@ whiteThree a b c =
     || eqb a 0xE2 && eqb b 0x80 && (within 0x80 0x8A c || eqb c 0xA8 || eqb c 0xA9 || eqb c 0xAF)
     || eqb a 0xE2 && eqb b 0x81 && eqb c 0x9F
     || eqb a 0xE3 && eqb b 0x80 && eqb c 0x80
-
--- an ASCII byte that is no white space, control characters aside
-abbrev pub isInk : ℕ → Bool
-isInk b = within 33 127 b
 
 -- how many bytes the White_Space character has that begins at place `i`; 0 where none does
 unfoldable pub spaceWidth : List ℕ → ℕ → ℕ

@@ -4,7 +4,8 @@ use base::bytes::byte_at;
 ghost use mathlib.Core.Path.{_≡_};
 ghost use Prim.Native.Nat.{_-_, _<_};
 ghost use lib.ListN.{length};
-ghost use Rattle.white.specs.White.{isInk, whiteOne, whiteTwo, whiteThree, spaceWidth, isWhite};
+ghost use Rattle.white.specs.White.{whiteOne, whiteTwo, whiteThree, spaceWidth, isWhite};
+ghost use Rattle.white.specs.Bytes.{isInk};
 
 // Whether the byte is ASCII and no white space, control characters aside: what can be said without a look at the bytes around it.
 pub fn is_ink(b: u8) -> bool

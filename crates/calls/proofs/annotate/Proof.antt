@@ -38,7 +38,8 @@ use denote.Triple.Walked.{says, Stays, stay-none, stay-none-slice, stay-slice, g
 use denote.Exit.{yes}
 use Rattle.index.specs.declared.Bracket.{Bracket}
 use Rattle.index.proofs.Bracket as T
-use Rattle.index.specs.Built.{indexAfter, recordsAfter, builtWhen}
+use Rattle.index.specs.Built.{indexAfter, recordsAfter}
+use Rattle.index.specs.Building.{builtWhen}
 use Rattle.index.proofs.Lent.{at-list, lent, back}
 use Rattle.base.proofs.Calling.{calls-fn, calls-row, copied, last-list, no-last}
 use Rattle.index.proofs.Calls.{Count, BuildWhen, counts, builds-when}
@@ -55,9 +56,7 @@ use Rattle.annotation.specs.declared.preparation.Begun.{Begun}
 use Rattle.annotation.proofs.preparation.Begun as P
 use Rattle.annotation.proofs.preparation.Begun.Laws as P′
 use Rattle.annotation.specs.Content.{areas}
-use Rattle.annotation.specs.FirstHalf.{BegunBy}
-use Rattle.annotation.specs.SecondHalf.{Continues, Finished}
-use Rattle.annotation.specs.Values.{Done}
+use Rattle.annotation.specs.Halves.{BegunBy, Done, Continues, Finished}
 use Rattle.annotation.specs.Call.{AnnotateRan, annotateRun}
 use Rattle.annotation.proofs.BeginLaws.{wanted-enough}
 use Rattle.annotation.proofs.Answers.{ran-index, ran-records}

@@ -38,7 +38,8 @@ use denote.Triple.Walked.{says, Stays, stay-none, stay-none-slice, stay-slice, g
 use denote.Exit.{yes}
 use Rattle.index.specs.declared.Bracket.{Bracket}
 use Rattle.index.proofs.Bracket as T
-use Rattle.index.specs.Built.{indexAfter, recordsAfter, builtWhen}
+use Rattle.index.specs.Built.{indexAfter, recordsAfter}
+use Rattle.index.specs.Building.{builtWhen}
 use Rattle.index.proofs.Lent.{at-list, lent, back}
 use Rattle.base.proofs.Calling.{calls-fn, calls-row, copied, last-list, no-last}
 use Rattle.index.proofs.Calls.{Count, BuildWhen, counts, builds-when}

@@ -4,7 +4,7 @@ use Prim.Native.Nat.{_-_}
 use mathlib.Core.Path.{_≡_}
 use borrow.Author.Needs.{needs}
 use Rattle.base.specs.First.{first}
-use Rattle.definition_line.specs.Lines.{braceOrBreak}
+use Rattle.definition_line.specs.Search.{braceOrBreak}
 use Rattle.definition_line.proofs.Laws.{isEither, either-laws}
 use Rattle.definition_line.proofs.brace_or_break.Statement.{statement}
 use Rattle.definition_line.proofs.brace_or_break.Tie as tie

@@ -45,8 +45,7 @@ use Rattle.index.proofs.Lent.{at-list, lent, back}
 use Rattle.base.proofs.Calling.{calls-fn, calls-row-last, copied, last-list, no-last}
 use Rattle.annotation.specs.Content.{areas}
 use Rattle.annotation.specs.Call.{AnnotateRan, annotateRun}
-use Rattle.annotation.specs.AnswerValues.{annotationValues}
-use Rattle.annotation.specs.Values.{annotationNumbers, annotationAnswer}
+use Rattle.annotation.specs.Values.{annotationValues, annotationNumbers, annotationAnswer}
 use Rattle.annotation.proofs.answer.Annotation as R
 use Rattle.annotation.proofs.answer.Annotation.Laws as R′
 use Rattle.calls.proofs.annotate as called

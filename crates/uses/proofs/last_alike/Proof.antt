@@ -2,8 +2,9 @@
 -- `j`. Assumes nothing.
 use Prim.Native.Nat.{_%_, _≤_}
 use mathlib.Core.Path.{_≡_}
-use Rattle.base.specs.Last.{last}
-use Rattle.records.specs.Records.{itemField, keyIn}
+use Rattle.base.specs.LastPlace.{last}
+use Rattle.records.specs.Records.{keyIn}
+use Rattle.records.specs.Fields.{itemField}
 use Rattle.uses.specs.Uses.{sameLabel, lastAlike}
 use borrow.Author.Needs.{needs}
 use Rattle.uses.proofs.UseLaws.{alike-laws}

@@ -2,7 +2,7 @@
 -- `j`. Assumes nothing.
 use Prim.Native.Nat.{_≤_}
 use mathlib.Core.Path.{_≡_}
-use Rattle.base.specs.Last.{last}
+use Rattle.base.specs.LastPlace.{last}
 use Rattle.records.specs.Records.{keyIn}
 use Rattle.uses.specs.Uses.{sameUse, lastUse}
 use borrow.Author.Needs.{needs}

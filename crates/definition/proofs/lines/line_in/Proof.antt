@@ -2,7 +2,7 @@
 -- measure is `i`. Assumes nothing.
 use Prim.Native.Nat.{_≤_}
 use mathlib.Core.Path.{_≡_}
-use Rattle.base.specs.Last.{last}
+use Rattle.base.specs.LastPlace.{last}
 use Rattle.definition.specs.Lines.{definesKeyIn, lineIn}
 use borrow.Author.Needs.{needs}
 use Rattle.definition.proofs.LineLaws.{line-laws}

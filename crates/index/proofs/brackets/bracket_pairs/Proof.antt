@@ -40,7 +40,8 @@ use denote.Triple.Walked.{says, needs, Stays, stay-slice, stay-none-slice, walkO
 use denote.Exit.{yes}
 use Rattle.index.specs.declared.Bracket.{Bracket}
 use Rattle.index.specs.declared.Scan.{Scan}
-use Rattle.index.specs.Built.{blank, Both, built, Enough}
+use Rattle.index.specs.Built.{blank}
+use Rattle.index.specs.Building.{Both, built, Enough}
 use Rattle.index.specs.Passing.{unread, filled}
 use Rattle.index.specs.Scan.{start}
 use Rattle.index.proofs.Bracket as T

@@ -38,7 +38,8 @@ use denote.Triple.Table.{entered, cited}
 use denote.Triple.Walked.{says, needs, Stays, stay-none, stay-slice, stay-none-slice, walkOf, goes-none, goes-slice, goes-none-slice, Walks, ends-at, walked, walk-meets}
 use denote.Exit.{yes}
 use Rattle.index.specs.declared.Bracket.{Bracket}
-use Rattle.index.specs.Built.{Both, built, indexAfter, recordsAfter, builtWhen, Enough}
+use Rattle.index.specs.Built.{indexAfter, recordsAfter}
+use Rattle.index.specs.Building.{Both, built, builtWhen, Enough}
 use Rattle.index.proofs.Bracket as T
 use Rattle.index.proofs.Lent.{at-list, lent, back}
 use Rattle.base.proofs.Calling.{calls-row-last, copied, last-list, no-last}

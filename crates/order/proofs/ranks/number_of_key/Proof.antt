@@ -3,7 +3,7 @@
 use Prim.Native.Nat.{_-_, _≤_}
 use mathlib.Core.Path.{_≡_}
 use Rattle.base.specs.First.{first}
-use Rattle.records.specs.Records.{itemField}
+use Rattle.records.specs.Fields.{itemField}
 use Rattle.uses.specs.Uses.{usedAt}
 use Rattle.order.specs.References.{numberOfKey}
 use borrow.Author.Needs.{needs}
