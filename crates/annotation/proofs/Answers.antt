@@ -39,6 +39,7 @@ use Rattle.annotation.proofs.Passes.{numbers-agree}
 use Rattle.annotation.proofs.Found.{swept-fits}
 use Rattle.annotation.proofs.ByRecords.{known-sources, content-agrees}
 use Rattle.annotation.proofs.RefusalLaws.{Unrefused, unrefused}
+use Rattle.records.specs.Widths.{groupWidth}
 
 -- tests --------------------------------------------------------------------------------------------------------------------------------
 
@@ -154,7 +155,7 @@ module _ {text : List ℕ} {mode : ℕ} {pool : List ℕ} {note : ℕ} {index₀
           ap (λ (x : Numbered). x .groups) then-known
           ∙ (agrees .groups
           ∙ ap (λ (n : ℕ). content .groups ++ drop n groups₀)
-          (group-rows-length 0 (sweptFrom text false 0 all) ∙ (ap (λ (n : ℕ). 5 * n) (placed-length _ text false 0 all) ∙ sym (agrees .group-count))))
+          (group-rows-length 0 (sweptFrom text false 0 all) ∙ (ap (λ (n : ℕ). groupWidth * n) (placed-length _ text false 0 all) ∙ sym (agrees .group-count))))
 
       -- there are no more sources than a number of 16 bits holds
       pub sources-short : made .sources ≤ 65535

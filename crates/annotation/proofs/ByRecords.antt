@@ -16,7 +16,7 @@ use Rattle.item.specs.Group.{Group}
 use Rattle.pool.specs.Layout.{hasPool}
 use Rattle.definition.specs.Defs.{defOf}
 use Rattle.standing.specs.Rows.{itemCount}
-use Rattle.records.specs.Widths.{groupWidth}
+use Rattle.records.specs.Widths.{groupWidth, item-number}
 use Rattle.standing.proofs.Swept.{placed-length}
 use Rattle.definition.specs.Definitions.{definitionIn}
 use Rattle.records.specs.Records.{keyIn}
@@ -46,7 +46,7 @@ module _ (text items : List ℕ) (m : ℕ) (pooled : Bool) (sources : List Sourc
       go : Known text items pooled m sources (sourceKey sources k) → firstWith items m k < m
       go (inl c) =
           let b = c .1 .at .below in
-          let h = first-before (hasNumber items k) m 0 (c .0) (omega arith) (eq-eqb (itemField items (c .0) 12) k (c .1 .number ∙ e)) in
+          let h = first-before (hasNumber items k) m 0 (c .0) (omega arith) (eq-eqb (itemField items (c .0) item-number) k (c .1 .number ∙ e)) in
           omega arith
       go (inr u) = absurd (let z = u .new in omega arith)
 
@@ -56,7 +56,7 @@ module _ (text items : List ℕ) (m : ℕ) (pooled : Bool) (sources : List Sourc
   key-of-source k e h l =
       let j = firstWith items m k in
       let b = some-record k e l in
-      let q : itemField items j 12 ≡ k = eqb-true (itemField items j 12) k (first-holds (hasNumber items k) m 0 (omega arith)) in
+      let q : itemField items j item-number ≡ k = eqb-true (itemField items j item-number) k (first-holds (hasNumber items k) m 0 (omega arith)) in
       let r = d .numbers j b (omega arith) in
       let p : placeOf (keyIn text items j) sources ≡ k - 1 = omega (arith, r .0) in
       sym (place-key (keyIn text items j) sources (r .1)) ∙ ap (λ (i : ℕ). getD (map (λ (s : Source). s .key) sources) i []) p
@@ -70,14 +70,14 @@ module _ (text items : List ℕ) (m : ℕ) (pooled : Bool) (sources : List Sourc
       its : ℕ → Bool
       its = usedAt text items (sourceKey sources k)
 
-      go : Known text items pooled m sources (sourceKey sources k) → itemField items (first its m 0) 12 ≡ k
+      go : Known text items pooled m sources (sourceKey sources k) → itemField items (first its m 0) item-number ≡ k
       go (inl c) =
           let b = c .1 .at .below in
           let h = first-before its m 0 (c .0) (omega arith) (c .1 .at .holds) in
           let t = first-holds its m 0 (omega arith) in
-          let q = ltb-true 0 (itemField items (first its m 0) 12) (and-left (ltb 0 (itemField items (first its m 0) 12)) _ t) in
+          let q = ltb-true 0 (itemField items (first its m 0) item-number) (and-left (ltb 0 (itemField items (first its m 0) item-number)) _ t) in
           let r = d .numbers (first its m 0) (omega arith) q in
-          let s = same-true (keyIn text items (first its m 0)) (sourceKey sources k) (and-right (ltb 0 (itemField items (first its m 0) 12)) _ t) in
+          let s = same-true (keyIn text items (first its m 0)) (sourceKey sources k) (and-right (ltb 0 (itemField items (first its m 0) item-number)) _ t) in
           r .0 ∙ ap (λ (x : List ℕ). placeOf x sources + 1) s ∙ e
       go (inr u) = absurd (let z = u .new in omega arith)
 

@@ -13,7 +13,7 @@ use Rattle.base.specs.Pick.{pick}
 use Rattle.base.specs.LastPlace.{last}
 use Rattle.base.specs.Lists.{same}
 use Rattle.base.proofs.Lasts.{LastAt, LastNone, last-here, last-before, none-before, last-alike, none-alike}
-use Rattle.records.specs.Widths.{itemWidth}
+use Rattle.records.specs.Widths.{itemWidth, item-number, item-use}
 use Rattle.records.specs.Records.{keyIn}
 use Rattle.records.specs.Fields.{itemField}
 use Rattle.uses.specs.Uses.{usedAt, sameUse, lastUse, numberIn, useIn, sourcesIn}
@@ -25,8 +25,8 @@ use Rattle.annotation.proofs.Places.{uses-used, uses-other, uses-most, 
 -- what the first `k` item records and the sources say of a key: record `j` is the last that has it, or none has
 pub record Cited (text items : List ℕ) (pooled : Bool) (k : ℕ) (sources : List Source) (key : List ℕ) (j : ℕ) : Type 0 where
   pub at : LastAt (usedAt text items key) k j
-  pub number : itemField items j 12 ≡ placeOf key sources + 1
-  pub uses : pooled ≡ true → itemField items j 13 ≡ usesOf key sources
+  pub number : itemField items j item-number ≡ placeOf key sources + 1
+  pub uses : pooled ≡ true → itemField items j item-use ≡ usesOf key sources
   pub there : placeOf key sources < length sources
 
 pub record Uncited (text items : List ℕ) (k : ℕ) (sources : List Source) (key : List ℕ) : Type 0 where
@@ -39,8 +39,8 @@ Known text items pooled k sources key = ((j : ℕ) × Cited text items pooled k 
 -- item record `j`, where it is numbered, has the number of its key
 abbrev pub HasNumber : List ℕ → List ℕ → List Source → ℕ → Type 0
 HasNumber text items sources j =
-    0 < itemField items j 12
-    → (itemField items j 12 ≡ placeOf (keyIn text items j) sources + 1) × (placeOf (keyIn text items j) sources < length sources)
+    0 < itemField items j item-number
+    → (itemField items j item-number ≡ placeOf (keyIn text items j) sources + 1) × (placeOf (keyIn text items j) sources < length sources)
 
 -- the first `k` item records, and the sources used in them
 pub record Joined (text items : List ℕ) (pooled : Bool) (k : ℕ) (sources : List Source) : Type 0 where
@@ -60,7 +60,7 @@ joined-none text items pooled = record {
 }
 
 -- one more record that is not numbered
-pub joined-on : (text items : List ℕ) (pooled : Bool) (k : ℕ) (sources : List Source) → itemField items k 12 ≡ 0
+pub joined-on : (text items : List ℕ) (pooled : Bool) (k : ℕ) (sources : List Source) → itemField items k item-number ≡ 0
     → Joined text items pooled k sources → Joined text items pooled (suc k) sources
 joined-on text items pooled k sources z d = record {
   known = λ key. on key (d .known key);
@@ -86,15 +86,15 @@ joined-on text items pooled k sources z d = record {
 
     at : (j : ℕ) (t : Bool) → ltb j k ≡ t → j < suc k → HasNumber text items sources j
     at j true q h = d .numbers j (ltb-true j k q)
-    at j false q h = λ p. absurd (let e : j ≡ k = omega (arith, ltb-false j k q) in let f : itemField items j 12 ≡ 0 = ap (λ (i : ℕ). itemField items i 12) e ∙ z in omega arith)
+    at j false q h = λ p. absurd (let e : j ≡ k = omega (arith, ltb-false j k q) in let f : itemField items j item-number ≡ 0 = ap (λ (i : ℕ). itemField items i item-number) e ∙ z in omega arith)
 
 -- one more record that is: with the number of its key, and with one more use where there is a pool
 module _ (text items next : List ℕ) (pooled : Bool) (k : ℕ) (sources : List Source) (key : List ℕ)
     (d : Joined text items pooled k sources)
     (same-fields : (j c : ℕ) → j < k → c < itemWidth → itemField next j c ≡ itemField items j c)
     (its-key : keyIn text next k ≡ key)
-    (its-number : itemField next k 12 ≡ numberOf key sources)
-    (its-use : pooled ≡ true → itemField next k 13 ≡ usesOf key sources + 1) where
+    (its-number : itemField next k item-number ≡ numberOf key sources)
+    (its-use : pooled ≡ true → itemField next k item-use ≡ usesOf key sources + 1) where
   after : List Source
   after = used key sources
 
@@ -186,7 +186,7 @@ module _ (text items : List ℕ) (pooled : Bool) (k : ℕ) (sources : List Sourc
   number-agrees = go (d .known its)
     where
       go : Known text items pooled k sources its
-          → pick (ltb (last (usedAt text items its) k k) k) (itemField items (last (usedAt text items its) k k) 12) ((length sources + 1) % 65536)
+          → pick (ltb (last (usedAt text items its) k k) k) (itemField items (last (usedAt text items its) k k) item-number) ((length sources + 1) % 65536)
           ≡ placeOf its sources + 1
       go (inl c) = rw (c .1 .at .is k, lt-ltb (c .0) k (c .1 .at .below)) (c .1 .number)
       go (inr u) =
@@ -197,7 +197,7 @@ module _ (text items : List ℕ) (pooled : Bool) (k : ℕ) (sources : List Sourc
   use-agrees = on pooled refl
     where
       go : pooled ≡ true → Known text items pooled k sources its
-          → pick (ltb (last (usedAt text items its) k k) k) ((itemField items (last (usedAt text items its) k k) 13 + 1) % 65536) 1
+          → pick (ltb (last (usedAt text items its) k k) k) ((itemField items (last (usedAt text items its) k k) item-use + 1) % 65536) 1
           ≡ usesOf its sources + 1
       go p (inl c) =
           let e = c .1 .uses p in
@@ -205,7 +205,7 @@ module _ (text items : List ℕ) (pooled : Bool) (k : ℕ) (sources : List Sourc
       go p (inr u) = rw (u .none k, le-ltb k k (omega arith), uses-none its sources (u .new))
 
       on : (b : Bool) → pooled ≡ b
-          → pick b (pick (ltb (last (usedAt text items its) k k) k) ((itemField items (last (usedAt text items its) k k) 13 + 1) % 65536) 1) 0
+          → pick b (pick (ltb (last (usedAt text items its) k k) k) ((itemField items (last (usedAt text items its) k k) item-use + 1) % 65536) 1) 0
           ≡ pick b (usesOf its sources + 1) 0
       on true q = go q (d .known its)
       on false q = refl

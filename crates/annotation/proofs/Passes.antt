@@ -15,7 +15,7 @@ use Rattle.base.proofs.Alls.{each-map}
 use Rattle.item.specs.declared.Item.{Item}
 use Rattle.item.specs.Group.{Group}
 use Rattle.records.specs.Rows.{recordOf, rowOf, rowsIn, rowsOf}
-use Rattle.records.specs.Widths.{itemWidth}
+use Rattle.records.specs.Widths.{itemWidth, group-first, group-count, group-standing}
 use Rattle.pool.specs.Layout.{hasPool}
 use Rattle.definition_line.specs.Lines.{inLine, groupEnd, keyOf}
 use Rattle.definition.specs.Defs.{defOf, isDefined}
@@ -29,7 +29,7 @@ use Rattle.records.specs.Fields.{itemField}
 use Rattle.numbering.specs.Numbers.{Numbered, start, labelIn, citeAs, citeIn, citeFrom, keyDefined, keysDefined, standsNumbered, isNumbered, numberGroup, numberFrom, numberAll}
 use Rattle.uses.specs.Uses.{numberIn, useIn, sourcesIn}
 use Rattle.uses.proofs.Fields.{item-field, set-last, set-standing, SameItems, SameGroups, set-last-same, set-standing-same, set-last-other}
-use Rattle.numbering.proofs.ByLines.{key-same, definition-same, key-at, suppressed-at, regroup, Closes, LieAt, group-first, group-items, group-standing, definition-swept}
+use Rattle.numbering.proofs.ByLines.{key-same, definition-same, key-at, suppressed-at, regroup, Closes, LieAt, first-item-lies, item-count-lies, standing-lies, definition-swept}
 use Rattle.annotation.specs.Sources.{numberOf, useOf, used}
 use Rattle.annotation.specs.Content.{Tally, tally, allDefined, standingOf, placedFrom, placedOf, labelFor, cited, numbered, unnumbered, addItem, addGroup, tallyOf}
 use Rattle.annotation.specs.Steps.{Fits, sweptItems, sweptGroups, numberedFrom, DefinitionsAgree, NumbersAgree}
@@ -251,14 +251,14 @@ module _ (text : List ℕ) (mode : ℕ) (pool : List ℕ) (n : ℕ) (all : List 
           ∙ ap (λ (hs : List Group). t .rows ++ (itemRows hs ++ restItems)) (sym (placed-groups _ text before from (x ∷ gs)));
     }
 
-    field-first : groupField (s .groups) g 2 ≡ k
-    field-first = group-first (s .groups) (s .items) g k _ _ done restGroups (t .rows) restItems lies
+    field-first : groupField (s .groups) g group-first ≡ k
+    field-first = first-item-lies (s .groups) (s .items) g k _ _ done restGroups (t .rows) restItems lies
 
-    field-items : groupField (s .groups) g 3 ≡ length (x .items)
-    field-items = group-items (s .groups) (s .items) g k _ _ done restGroups (t .rows) restItems lies
+    field-items : groupField (s .groups) g group-count ≡ length (x .items)
+    field-items = item-count-lies (s .groups) (s .items) g k _ _ done restGroups (t .rows) restItems lies
 
-    field-standing : groupField (s .groups) g 4 ≡ pick inside 0 1
-    field-standing = group-standing (s .groups) (s .items) g k _ _ done restGroups (t .rows) restItems lies
+    field-standing : groupField (s .groups) g group-standing ≡ pick inside 0 1
+    field-standing = standing-lies (s .groups) (s .items) g k _ _ done restGroups (t .rows) restItems lies
 
     -- whether it is numbered
     numbered-as : isNumbered text mode pool n s g ≡ eqb (standingOf inside defined) 2
@@ -301,7 +301,7 @@ module _ (text : List ℕ) (mode : ℕ) (pool : List ℕ) (n : ℕ) (all : List 
     stands-groups : standing .groups ≡ done ++ (groupRow k (placed x 2) ++ (more ++ restGroups))
     unfolding standing standsNumbered
     stands-groups =
-        ap (λ (l : List ℕ). set l (groupWidth * g + 4) 2) group-is
+        ap (λ (l : List ℕ). set l (groupWidth * g + group-standing) 2) group-is
         ∙ set-standing done (placed x (pick inside 0 1)) (more ++ restGroups) g k 2 (a .count)
 
     -- the group with its standing

@@ -15,7 +15,7 @@ use Rattle.base.specs.Spans.{span}
 use Rattle.item.specs.declared.Item.{Item}
 use Rattle.item.specs.Group.{Group}
 use Rattle.records.specs.Rows.{recordOf, rowOf}
-use Rattle.records.specs.Widths.{itemWidth}
+use Rattle.records.specs.Widths.{itemWidth, item-use}
 use Rattle.pool.specs.Layout.{hasPool}
 use Rattle.definition_line.specs.Lines.{keyOf}
 use Rattle.standing.specs.Rows.{Placed}
@@ -47,16 +47,16 @@ uses-some-more x key (some k ∷ is) = omega (arith, uses-some-more x key is)
 -- the records, the sources and the items so far
 record UsedSo (pooled : Bool) (t : Tally) (is : List (Option (List ℕ))) : Type 0 where
   count : length (t .rows) ≡ itemWidth * length is
-  cells : (k : ℕ) → k < length is → itemField (t .rows) k 13 ≡ useAfter pooled (take k is) (getD is k none)
+  cells : (k : ℕ) → k < length is → itemField (t .rows) k item-use ≡ useAfter pooled (take k is) (getD is k none)
   uses : (x : List ℕ) → usesOf x (t .sources) ≡ usesIn x is
 
 -- one more record, with the use of its item
 cells-on : (pooled : Bool) (t : Tally) (is : List (Option (List ℕ))) (i : Option (List ℕ)) (row : List ℕ) → UsedSo pooled t is
     → getD row 13 0 ≡ useAfter pooled is i
     → (k : ℕ) → k < length (is ++ (i ∷ []))
-    → itemField (t .rows ++ row) k 13 ≡ useAfter pooled (take k (is ++ (i ∷ []))) (getD (is ++ (i ∷ [])) k none)
+    → itemField (t .rows ++ row) k item-use ≡ useAfter pooled (take k (is ++ (i ∷ []))) (getD (is ++ (i ∷ [])) k none)
 cells-on pooled t is i row u e =
-    by-place (λ k. itemField (t .rows ++ row) k 13 ≡ useAfter pooled (take k (is ++ (i ∷ []))) (getD (is ++ (i ∷ [])) k none)) is i
+    by-place (λ k. itemField (t .rows ++ row) k item-use ≡ useAfter pooled (take k (is ++ (i ∷ []))) (getD (is ++ (i ∷ [])) k none)) is i
     (λ k l. rw (take-append-le k is (i ∷ []) (omega arith), List·getD-append is (i ∷ []) none k l)
     (cell-front (t .rows) row (length is) k 13 (u .count) l (omega arith) ∙ u .cells k l))
     (rw (take-at is (i ∷ []) (length is) refl, getD-at is i [] none (length is) refl)
@@ -139,7 +139,7 @@ sources-used text mode all pool =
 
 -- with a pool the final use of a key is the count of its uses
 module _ (rows key : List ℕ) (all : List (Option (List ℕ)))
-    (h : (k : ℕ) → k < length all → itemField rows k 13 ≡ useAfter true (take k all) (getD all k none)) where
+    (h : (k : ℕ) → k < length all → itemField rows k item-use ≡ useAfter true (take k all) (getD all k none)) where
   final-uses : (is before : List (Option (List ℕ))) → before ++ is ≡ all
       → finalUse rows key (length before) (usesIn key before) is ≡ usesIn key all
   unfolding finalUse useAfter
@@ -152,7 +152,7 @@ module _ (rows key : List ℕ) (all : List (Option (List ℕ)))
       rw (l, go (same x key) refl ∙ sym (uses-some-more key x before))
       (final-uses is (before ++ (some x ∷ [])) (append-assoc before (some x ∷ []) is ∙ e))
     where
-      go : (b : Bool) → same x key ≡ b → pick b (itemField rows (length before) 13) (usesIn key before) ≡ usesIn key before + pick b 1 0
+      go : (b : Bool) → same x key ≡ b → pick b (itemField rows (length before) item-use) (usesIn key before) ≡ usesIn key before + pick b 1 0
       go true q =
           h (length before) (omega (arith, length-append before (some x ∷ is), ap length e))
           ∙ rw (← e, take-at before (some x ∷ is) (length before) refl, getD-at before (some x) is none (length before) refl, same-true x key q)

@@ -17,6 +17,7 @@ use Rattle.definition.specs.Definitions.{LinesBelow}
 use Rattle.records.specs.Records.{groupField, keyIn, bareIn, closeOfRecord}
 use Rattle.base.proofs.Bools.{split}
 use Rattle.base.proofs.Lasts.{last-out, last-stop, last-more}
+use Rattle.records.specs.Widths.{group-count, group-place, group-first}
 
 -- past the text no line starts, and no colon stands
 pub starts-past : (text : List ℕ) (at : ℕ) → length text < at → false ≡ startsLine text at
@@ -29,20 +30,20 @@ pub colon-past : (text : List ℕ) (close : ℕ) → length text ≤ close → f
 colon-past text close h = colon-cut text close (omega arith)
 
 module _ (text groups items : List ℕ) (g : ℕ) where
-  pub defines-count : {n : ℕ} → n ≡ groupField groups g 3 → (n ≡ 1 → ⊥) → false ≡ definesIn text groups items g
+  pub defines-count : {n : ℕ} → n ≡ groupField groups g group-count → (n ≡ 1 → ⊥) → false ≡ definesIn text groups items g
   unfolding definesIn
   defines-count p h = rw (← p, ne-eqb _ 1 h, and-false) refl
 
-  pub defines-start : {a : ℕ} {b : Bool} → a ≡ groupField groups g 0 → b ≡ startsLine text a → b ≡ false → false ≡ definesIn text groups items g
+  pub defines-start : {a : ℕ} {b : Bool} → a ≡ groupField groups g group-place → b ≡ startsLine text a → b ≡ false → false ≡ definesIn text groups items g
   unfolding definesIn
   defines-start p q h = rw (← p, ← q, h) refl
 
-  pub defines-bare : {k : ℕ} {b : Bool} → k ≡ groupField groups g 2 → b ≡ bareIn items k → b ≡ false → false ≡ definesIn text groups items g
+  pub defines-bare : {k : ℕ} {b : Bool} → k ≡ groupField groups g group-first → b ≡ bareIn items k → b ≡ false → false ≡ definesIn text groups items g
   unfolding definesIn
   defines-bare p q h = rw (← p, ← q, h, and-false) refl
 
-  pub defines-colon : {n a k e : ℕ} {b d r : Bool} → n ≡ groupField groups g 3 → n ≡ 1 → a ≡ groupField groups g 0 → b ≡ startsLine text a
-      → b ≡ true → k ≡ groupField groups g 2 → d ≡ bareIn items k → d ≡ true → e ≡ closeOfRecord groups g → r ≡ colonAfter text e
+  pub defines-colon : {n a k e : ℕ} {b d r : Bool} → n ≡ groupField groups g group-count → n ≡ 1 → a ≡ groupField groups g group-place → b ≡ startsLine text a
+      → b ≡ true → k ≡ groupField groups g group-first → d ≡ bareIn items k → d ≡ true → e ≡ closeOfRecord groups g → r ≡ colonAfter text e
       → r ≡ definesIn text groups items g
   unfolding definesIn
   defines-colon n1 n2 a1 b1 b2 k1 d1 d2 e1 r1 = r1 ∙ rw (e1, ← a1, ← b1, b2, ← n1, eq-eqb _ 1 n2, ← k1, ← d1, d2) refl
@@ -52,12 +53,12 @@ module _ (text groups items : List ℕ) (g : ℕ) where
   unfolding definesKeyIn definesIn
   key-colon key p q h = rw (← p, ← q, h, and-false) refl
 
-  pub key-other : (key : List ℕ) {k : ℕ} {own : List ℕ} {b : Bool} → k ≡ groupField groups g 2 → own ≡ keyIn text items k → b ≡ same own key → b ≡ false
+  pub key-other : (key : List ℕ) {k : ℕ} {own : List ℕ} {b : Bool} → k ≡ groupField groups g group-first → own ≡ keyIn text items k → b ≡ same own key → b ≡ false
       → false ≡ definesKeyIn text groups items key g
   unfolding definesKeyIn
   key-other key p q e h = rw (← p, ← q, ← e, h, and-false) refl
 
-  pub key-same : (key : List ℕ) {k : ℕ} {own : List ℕ} {b r : Bool} → k ≡ groupField groups g 2 → own ≡ keyIn text items k → b ≡ same own key → b ≡ true
+  pub key-same : (key : List ℕ) {k : ℕ} {own : List ℕ} {b r : Bool} → k ≡ groupField groups g group-first → own ≡ keyIn text items k → b ≡ same own key → b ≡ true
       → r ≡ definesIn text groups items g → r ≡ definesKeyIn text groups items key g
   unfolding definesKeyIn
   key-same key p q e h d = d ∙ rw (← p, ← q, ← e, h, and-true) refl

@@ -12,6 +12,7 @@ use Rattle.definition.specs.declared.defined.Defined.the-variants.{Line,
 use Rattle.definition.specs.Lines.{lineIn, lineDefIn}
 use Rattle.records.specs.Records.{groupField, keyIn}
 use Rattle.definition.specs.Entries.{entryIn}
+use Rattle.records.specs.Widths.{group-first}
 
 -- the definition that was found
 unfoldable pub definedAs : List ℕ → List ℕ → ℕ → List ℕ → Defined → Option Def
@@ -44,6 +45,6 @@ definitionAt pool n i = pick (ltb i n) (Line i) (pick (ltb (i - n) (countOf pool
 
 -- the key that it defines
 unfoldable pub keyBy : List ℕ → List ℕ → List ℕ → List ℕ → Defined → List ℕ
-keyBy text pool groups items (Line g) = keyIn text items (groupField groups g 2)
+keyBy text pool groups items (Line g) = keyIn text items (groupField groups g group-first)
 keyBy text pool groups items (EntryOf i) = entryAt pool i .id
 keyBy text pool groups items Nothing = []

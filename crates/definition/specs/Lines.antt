@@ -8,17 +8,18 @@ use Rattle.base.specs.Lists.{same}
 use Rattle.definition_line.specs.Lines.{startsLine, colonAfter}
 use Rattle.definition.specs.Defs.{Def, lineDef}
 use Rattle.records.specs.Records.{groupField, keyIn, bareIn, closeOfRecord, nextIn}
+use Rattle.records.specs.Widths.{group-place, group-count, group-first}
 
 -- group record `g` starts a definition line: "starts .. with a group of one item, no prefix, no locator, not suppressed; then `:` and at
 -- least one space"
 unfoldable pub definesIn : List ℕ → List ℕ → List ℕ → ℕ → Bool
 definesIn text groups items g =
-    startsLine text (groupField groups g 0) && eqb (groupField groups g 3) 1 && bareIn items (groupField groups g 2)
+    startsLine text (groupField groups g group-place) && eqb (groupField groups g group-count) 1 && bareIn items (groupField groups g group-first)
     && colonAfter text (closeOfRecord groups g)
 
 -- and its key is this one
 unfoldable pub definesKeyIn : List ℕ → List ℕ → List ℕ → List ℕ → ℕ → Bool
-definesKeyIn text groups items key g = definesIn text groups items g && same (keyIn text items (groupField groups g 2)) key
+definesKeyIn text groups items key g = definesIn text groups items g && same (keyIn text items (groupField groups g group-first)) key
 
 -- "The last definition line of a key wins": its group number among the first `n`; `n` where there is none
 unfoldable pub lineIn : List ℕ → List ℕ → List ℕ → ℕ → List ℕ → ℕ

@@ -32,13 +32,13 @@ fn defines_in(text: &[u8], groups: &[u16], items: &[u16], g: usize) -> bool
     requires { ⌜ g < 4294967296 ⌝ }
     ensures { λ r. ⌜ r ≡ definesIn (now (text .entry)) (now (groups .entry)) (now (items .entry)) g ⌝ }
 {
-    let count = records::group_field(groups, g, 3);
+    let count = records::group_field(groups, g, records::GROUP_COUNT);
     if count != 1 {
         return false;
     }
-    let at = records::group_field(groups, g, 0);
+    let at = records::group_field(groups, g, records::GROUP_PLACE);
     if starts(text, at) {
-        let k = records::group_field(groups, g, 2);
+        let k = records::group_field(groups, g, records::GROUP_FIRST);
         if records::bare_in(items, k) {
             colon(text, records::close_of_record(groups, g))
         } else {
@@ -56,7 +56,7 @@ fn defines_key_in(text: &[u8], groups: &[u16], items: &[u16], g: usize, key: &[u
     ensures { λ r. ⌜ r ≡ definesKeyIn (now (text .entry)) (now (groups .entry)) (now (items .entry)) (now (key .entry)) g ⌝ }
 {
     if colon(text, records::close_of_record(groups, g)) {
-        let k = records::group_field(groups, g, 2);
+        let k = records::group_field(groups, g, records::GROUP_FIRST);
         let own = records::key_in(text, items, k);
         if base::bytes::is_same(own, key) {
             defines_in(text, groups, items, g)

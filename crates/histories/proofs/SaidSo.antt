@@ -15,7 +15,7 @@ use Rattle.base.specs.Spans.{span}
 use Rattle.item.specs.declared.Item.{Item}
 use Rattle.item.specs.Group.{Group}
 use Rattle.records.specs.Rows.{recordOf, rowOf, rowsIn, rowsOf}
-use Rattle.records.specs.Widths.{itemWidth}
+use Rattle.records.specs.Widths.{itemWidth, item-label, item-label-length}
 use Rattle.pool.specs.Layout.{hasPool}
 use Rattle.definition_line.specs.Lines.{keyOf}
 use Rattle.definition.specs.Defs.{defOf}
@@ -49,8 +49,8 @@ record So (t : Tally) (rows : List ℕ) (ls : List (List ℕ)) (is : List (Optio
   alike : length rows ≡ itemWidth * length ls
   keyed : length is ≡ length ls
   found : (k c : ℕ) → k < length ls → c < 12 → itemField (t .rows) k c ≡ itemField rows k c
-  offsets : (k : ℕ) → k < length ls → itemField (t .rows) k 14 ≡ labelAfter (take k ls) (getD is k none)
-  lengths : (k : ℕ) → k < length ls → itemField (t .rows) k 15 ≡ length (getD ls k [])
+  offsets : (k : ℕ) → k < length ls → itemField (t .rows) k item-label ≡ labelAfter (take k ls) (getD is k none)
+  lengths : (k : ℕ) → k < length ls → itemField (t .rows) k item-label-length ≡ length (getD ls k [])
   joins : t .labels ≡ flatten ls
 
 -- its record `row`, its record `flat` when looked up, its label and its key
@@ -75,12 +75,12 @@ module _ (t : Tally) (rows : List ℕ) (ls : List (List ℕ)) (is : List (Option
         ∙ sym (item-field rows flat (length ls) c (u .alike)))
         k h;
     offsets = by-place
-        (λ k. itemField (t .rows ++ row) k 14 ≡ labelAfter (take k (ls ++ (label ∷ []))) (getD (is ++ (key ∷ [])) k none))
+        (λ k. itemField (t .rows ++ row) k item-label ≡ labelAfter (take k (ls ++ (label ∷ []))) (getD (is ++ (key ∷ [])) k none))
         ls label
         (λ k l. rw (take-append-le k ls (label ∷ []) (omega arith), List·getD-append is (key ∷ []) none k (omega (arith, u .keyed)))
         (front k 14 l (omega arith) ∙ u .offsets k l))
         (rw (take-at ls (label ∷ []) (length ls) refl, getD-at is key [] none (length ls) (u .keyed)) (back 14 ∙ at));
-    lengths = by-place (λ k. itemField (t .rows ++ row) k 15 ≡ length (getD (ls ++ (label ∷ [])) k [])) ls label
+    lengths = by-place (λ k. itemField (t .rows ++ row) k item-label-length ≡ length (getD (ls ++ (label ∷ [])) k [])) ls label
         (λ k l. rw (List·getD-append ls (label ∷ []) [] k l) (front k 15 l (omega arith) ∙ u .lengths k l))
         (rw (getD-at ls label [] [] (length ls) refl) (back 15 ∙ long));
     joins = ap (λ (r : List ℕ). r ++ label) (u .joins) ∙ sym (flatten-more ls label);

@@ -6,7 +6,7 @@ use mathlib.Core.Option.{Option, none, some}
 use lib.ListN.{length, getD, take}
 use Rattle.base.specs.Pick.{pick}
 use Rattle.item.specs.Group.{Group}
-use Rattle.records.specs.Widths.{itemWidth}
+use Rattle.records.specs.Widths.{itemWidth, item-number, item-use, item-label, item-label-length}
 use Rattle.pool.specs.Layout.{hasPool}
 use Rattle.standing.specs.Rows.{Placed, itemCount, itemRows, groupRows}
 use Rattle.records.specs.Fields.{itemField}
@@ -33,20 +33,20 @@ pub record SaysOf (text : List ℕ) (mode : ℕ) (pool : List ℕ) (all : List G
   pub items : (k c : ℕ) → k < itemCount all → c < 12 → itemField (content .items) k c ≡ itemField (itemRows all) k c
   -- "A source's number is the order of its first use in numbered groups, from 1."
   pub in-order : map (λ (s : Source). s .key) sources ≡ firstUses [] (numberedKeys text placed)
-  pub numbers : (k : ℕ) → k < itemCount all → itemField (content .items) k 12 ≡ getD (itemNumbers text sources placed) k 0
+  pub numbers : (k : ℕ) → k < itemCount all → itemField (content .items) k item-number ≡ getD (itemNumbers text sources placed) k 0
   -- "With a pool present, use indices of a source run 1, 2, and on."
   pub uses : (k : ℕ) → k < itemCount all
-      → itemField (content .items) k 13 ≡ useAfter (hasPool pool) (take k (itemKeys text placed)) (getD (itemKeys text placed) k none)
+      → itemField (content .items) k item-use ≡ useAfter (hasPool pool) (take k (itemKeys text placed)) (getD (itemKeys text placed) k none)
   -- "Labels follow each other from offset 0 in item order."
   pub labels : content .labels ≡ flatten (itemLabels text mode all pool sources placed)
   -- "label pair into the label bytes": its offset, also where the label is empty ("A numbered empty label is its offset with length 0"), and
   -- 0 "where not numbered"
   pub label-offsets : (k : ℕ) → k < itemCount all
-      → itemField (content .items) k 14
+      → itemField (content .items) k item-label
       ≡ labelAfter (take k (itemLabels text mode all pool sources placed)) (getD (itemKeys text placed) k none)
   -- and its length
   pub label-lengths : (k : ℕ) → k < itemCount all
-      → itemField (content .items) k 15 ≡ length (getD (itemLabels text mode all pool sources placed) k [])
+      → itemField (content .items) k item-label-length ≡ length (getD (itemLabels text mode all pool sources placed) k [])
 
 -- with the standings of the groups, and the sources of the numbered ones by number
 abbrev pub Says : List ℕ → ℕ → List ℕ → List Group → Areas → Type 0

@@ -14,80 +14,81 @@ use Rattle.line_writers.specs.declared.Told.{Told}
 use Rattle.line_writers.specs.Lines.{groupPart, itemPart, itemLine, itemLines, linesOf, groupLines, countLine, refusedLine, listed}
 use Rattle.line_writers.specs.Writes.{Put, Room, answerBy}
 use Rattle.line_writers.proofs.Puts.{two-first, two-second, two-put, Along, along-start, along-end, along-room, along-next}
+use Rattle.records.specs.Widths.{item-code, item-number, group-place, group-length, group-standing, group-first, group-count, itemWidth, groupWidth}
 
 -- a number and the byte after it
 abbrev pub field : ℕ → ℕ → List ℕ
 field n end = decimal n ++ (end ∷ [])
 
-group-at : (groups : List ℕ) (g c : ℕ) → getD (drop (5 * g) groups) c 0 ≡ groupField groups g c
+group-at : (groups : List ℕ) (g c : ℕ) → getD (drop (groupWidth * g) groups) c 0 ≡ groupField groups g c
 unfolding groupField
-group-at groups g c = getD-drop (5 * g) groups c 0
+group-at groups g c = getD-drop (groupWidth * g) groups c 0
 
-item-at : (items : List ℕ) (i c : ℕ) → getD (drop (16 * i) items) c 0 ≡ itemField items i c
+item-at : (items : List ℕ) (i c : ℕ) → getD (drop (itemWidth * i) items) c 0 ≡ itemField items i c
 unfolding itemField
-item-at items i c = getD-drop (16 * i) items c 0
+item-at items i c = getD-drop (itemWidth * i) items c 0
 
 -- what a line says of its group ------------------------------------------------------------------------------------------------------
 
 -- Each number is asked for only where it is put.
-module _ (k : ℕ) (groups out : List ℕ) (g : ℕ) (h : Room k (groupPart (drop (5 * g) groups)) out) where
+module _ (k : ℕ) (groups out : List ℕ) (g : ℕ) (h : Room k (groupPart (drop (groupWidth * g) groups)) out) where
   abbrev offset : List ℕ
-  offset = field (groupField groups g 0) 32
+  offset = field (groupField groups g group-place) 32
 
   abbrev size : List ℕ
-  size = field (groupField groups g 1) 32
+  size = field (groupField groups g group-length) 32
 
   abbrev standing : List ℕ
-  standing = field (groupField groups g 4) 32
+  standing = field (groupField groups g group-standing) 32
 
-  group-is : groupPart (drop (5 * g) groups) ≡ offset ++ (size ++ standing)
+  group-is : groupPart (drop (groupWidth * g) groups) ≡ offset ++ (size ++ standing)
   unfolding groupPart ascii
   group-is = rw (group-at groups g 0, group-at groups g 1, group-at groups g 4) (simp append-assoc refl)
 
-  module _ {o : ℕ} (eo : o ≡ groupField groups g 0) where
-    first-is : groupPart (drop (5 * g) groups) ≡ field o 32 ++ (size ++ standing)
+  module _ {o : ℕ} (eo : o ≡ groupField groups g group-place) where
+    first-is : groupPart (drop (groupWidth * g) groups) ≡ field o 32 ++ (size ++ standing)
     first-is = rw eo group-is
 
-    pub group-first : Room k (field o 32) out
-    group-first = two-first k _ out (field o 32) (size ++ standing) first-is h
+    pub group-part-first : Room k (field o 32) out
+    group-part-first = two-first k _ out (field o 32) (size ++ standing) first-is h
 
     module _ {a : ℕ} {out₁ : List ℕ} (p : Put k (field o 32) out out₁ a) where
       group-rest : Room a (size ++ standing) out₁
       group-rest = two-second k _ out (field o 32) (size ++ standing) first-is h p
 
-      module _ {l : ℕ} (el : l ≡ groupField groups g 1) where
+      module _ {l : ℕ} (el : l ≡ groupField groups g group-length) where
         second-is : size ++ standing ≡ field l 32 ++ standing
         second-is = rw el refl
 
-        pub group-second : Room a (field l 32) out₁
-        group-second = two-first a _ out₁ (field l 32) standing second-is group-rest
+        pub group-part-second : Room a (field l 32) out₁
+        group-part-second = two-first a _ out₁ (field l 32) standing second-is group-rest
 
-        module _ {b : ℕ} {out₂ : List ℕ} (q : Put a (field l 32) out₁ out₂ b) {s : ℕ} (es : s ≡ groupField groups g 4) where
-          pub group-third : Room b (field s 32) out₂
-          group-third = rw es (two-second a _ out₁ (field l 32) standing second-is group-rest q)
+        module _ {b : ℕ} {out₂ : List ℕ} (q : Put a (field l 32) out₁ out₂ b) {s : ℕ} (es : s ≡ groupField groups g group-standing) where
+          pub group-part-third : Room b (field s 32) out₂
+          group-part-third = rw es (two-second a _ out₁ (field l 32) standing second-is group-rest q)
 
-          pub group-put : {r : ℕ} {out₃ : List ℕ} → Put b (field s 32) out₂ out₃ r → Put k (groupPart (drop (5 * g) groups)) out out₃ r
-          group-put t =
+          pub group-part-put : {r : ℕ} {out₃ : List ℕ} → Put b (field s 32) out₂ out₃ r → Put k (groupPart (drop (groupWidth * g) groups)) out out₃ r
+          group-part-put t =
               two-put k _ out (field o 32) (size ++ standing) first-is h p
               (two-put a _ out₁ (field l 32) standing second-is group-rest q (rw es at t))
 
-pub ruleset group-laws = (group-first, group-second, group-third, group-put)
+pub ruleset group-laws = (group-part-first, group-part-second, group-part-third, group-part-put)
 
 -- what it says of its item -----------------------------------------------------------------------------------------------------------
 
-module _ (k : ℕ) (text items out : List ℕ) (i : ℕ) (h : Room k (itemPart text (drop (16 * i) items)) out) where
+module _ (k : ℕ) (text items out : List ℕ) (i : ℕ) (h : Room k (itemPart text (drop (itemWidth * i) items)) out) where
   abbrev code : List ℕ
-  code = field (itemField items i 10) 32
+  code = field (itemField items i item-code) 32
 
   abbrev number : List ℕ
-  number = field (itemField items i 12) 10
+  number = field (itemField items i item-number) 10
 
-  item-is : itemPart text (drop (16 * i) items) ≡ keyIn text items i ++ ((32 ∷ []) ++ (code ++ number))
+  item-is : itemPart text (drop (itemWidth * i) items) ≡ keyIn text items i ++ ((32 ∷ []) ++ (code ++ number))
   unfolding itemPart ascii keyIn
   item-is = rw (item-at items i 2, item-at items i 3, item-at items i 10, item-at items i 12) (simp append-assoc refl)
 
   module _ {key : List ℕ} (ek : key ≡ keyIn text items i) where
-    with-key : itemPart text (drop (16 * i) items) ≡ key ++ ((32 ∷ []) ++ (code ++ number))
+    with-key : itemPart text (drop (itemWidth * i) items) ≡ key ++ ((32 ∷ []) ++ (code ++ number))
     with-key = rw ek item-is
 
     pub item-first : Room k key out
@@ -100,7 +101,7 @@ module _ (k : ℕ) (text items out : List ℕ) (i : ℕ) (h : Room k (itemPart t
       pub item-second : Room a (32 ∷ []) out₁
       item-second = two-first a _ out₁ (32 ∷ []) (code ++ number) refl item-rest
 
-      module _ {b : ℕ} {out₂ : List ℕ} (q : Put a (32 ∷ []) out₁ out₂ b) {c : ℕ} (ec : c ≡ itemField items i 10) where
+      module _ {b : ℕ} {out₂ : List ℕ} (q : Put a (32 ∷ []) out₁ out₂ b) {c : ℕ} (ec : c ≡ itemField items i item-code) where
         item-numbers : Room b (code ++ number) out₂
         item-numbers = two-second a _ out₁ (32 ∷ []) (code ++ number) refl item-rest q
 
@@ -110,11 +111,11 @@ module _ (k : ℕ) (text items out : List ℕ) (i : ℕ) (h : Room k (itemPart t
         pub item-third : Room b (field c 32) out₂
         item-third = two-first b _ out₂ (field c 32) number with-code item-numbers
 
-        module _ {d : ℕ} {out₃ : List ℕ} (t : Put b (field c 32) out₂ out₃ d) {n : ℕ} (en : n ≡ itemField items i 12) where
+        module _ {d : ℕ} {out₃ : List ℕ} (t : Put b (field c 32) out₂ out₃ d) {n : ℕ} (en : n ≡ itemField items i item-number) where
           pub item-fourth : Room d (field n 10) out₃
           item-fourth = rw en (two-second b _ out₂ (field c 32) number with-code item-numbers t)
 
-          pub item-put : {r : ℕ} {out₄ : List ℕ} → Put d (field n 10) out₃ out₄ r → Put k (itemPart text (drop (16 * i) items)) out out₄ r
+          pub item-put : {r : ℕ} {out₄ : List ℕ} → Put d (field n 10) out₃ out₄ r → Put k (itemPart text (drop (itemWidth * i) items)) out out₄ r
           item-put w =
               two-put k _ out key ((32 ∷ []) ++ (code ++ number)) with-key h p
               (two-put a _ out₁ (32 ∷ []) (code ++ number) refl item-rest q
@@ -145,25 +146,25 @@ pub ruleset line-laws = (line-first, line-second, line-put)
 
 -- the line of item `i`, before the `n - 1` lines after it
 lines-more : (n : ℕ) (text group items : List ℕ) (i j : ℕ) → 0 < n → j ≡ i + 1
-    → itemLines n text group (drop (16 * i) items) ≡ itemLine text group (drop (16 * i) items) ++ itemLines (n - 1) text group (drop (16 * j) items)
+    → itemLines n text group (drop (itemWidth * i) items) ≡ itemLine text group (drop (itemWidth * i) items) ++ itemLines (n - 1) text group (drop (itemWidth * j) items)
 unfolding itemLines
 lines-more zero text group items i j h e = absurd (omega arith)
 lines-more (suc n) text group items i j h e =
     let p : suc n - 1 ≡ n = omega arith in
-    let q : 16 * i + 16 ≡ 16 * j = omega arith in
-    rw (p, drop-drop 16 (16 * i) items, q) refl
+    let q : itemWidth * i + itemWidth ≡ itemWidth * j = omega arith in
+    rw (p, drop-drop itemWidth (itemWidth * i) items, q) refl
 
 module _ (text groups items : List ℕ) (g first count : ℕ) where
   abbrev whole : List ℕ
-  whole = linesOf text (drop (5 * g) groups) items
+  whole = linesOf text (drop (groupWidth * g) groups) items
 
   abbrev left : ℕ → List ℕ
-  left j = itemLines (count - j) text (drop (5 * g) groups) (drop (16 * (first + j)) items)
+  left j = itemLines (count - j) text (drop (groupWidth * g) groups) (drop (itemWidth * (first + j)) items)
 
   abbrev line : ℕ → List ℕ
-  line j = itemLine text (drop (5 * g) groups) (drop (16 * (first + j)) items)
+  line j = itemLine text (drop (groupWidth * g) groups) (drop (itemWidth * (first + j)) items)
 
-  pub lines-start : (k : ℕ) (out : List ℕ) → first ≡ groupField groups g 2 → count ≡ groupField groups g 3 → Room k whole out → Along whole (left 0) k out out k
+  pub lines-start : (k : ℕ) (out : List ℕ) → first ≡ groupField groups g group-first → count ≡ groupField groups g group-count → Room k whole out → Along whole (left 0) k out out k
   unfolding linesOf
   lines-start k out e₁ e₂ h =
       let p : count - 0 ≡ count = omega arith in
@@ -173,8 +174,8 @@ module _ (text groups items : List ℕ) (g first count : ℕ) where
   left-is : (j : ℕ) → j < count → left j ≡ line j ++ left (j + 1)
   left-is j h =
       let p : count - j - 1 ≡ count - (j + 1) = omega arith in
-      lines-more (count - j) text (drop (5 * g) groups) items (first + j) (first + (j + 1)) (omega arith) (omega arith)
-      ∙ ap (λ (n : ℕ). line j ++ itemLines n text (drop (5 * g) groups) (drop (16 * (first + (j + 1))) items)) p
+      lines-more (count - j) text (drop (groupWidth * g) groups) items (first + j) (first + (j + 1)) (omega arith) (omega arith)
+      ∙ ap (λ (n : ℕ). line j ++ itemLines n text (drop (groupWidth * g) groups) (drop (itemWidth * (first + (j + 1))) items)) p
 
   module _ {k at : ℕ} {out₀ out : List ℕ} (j : ℕ) (a : Along whole (left j) k out₀ out at) where
     pub lines-room : j < count → Room at (line j) out
@@ -192,24 +193,24 @@ pub ruleset lines-laws = (lines-start, lines-room, lines-next, lines-end)
 -- the lines of all groups ------------------------------------------------------------------------------------------------------------
 
 groups-more : (n : ℕ) (text groups items : List ℕ) (g : ℕ) → 0 < n
-    → groupLines n text (drop (5 * g) groups) items
-    ≡ linesOf text (drop (5 * g) groups) items ++ groupLines (n - 1) text (drop (5 * (g + 1)) groups) items
+    → groupLines n text (drop (groupWidth * g) groups) items
+    ≡ linesOf text (drop (groupWidth * g) groups) items ++ groupLines (n - 1) text (drop (groupWidth * (g + 1)) groups) items
 unfolding groupLines
 groups-more zero text groups items g h = absurd (omega arith)
 groups-more (suc n) text groups items g h =
     let p : suc n - 1 ≡ n = omega arith in
-    let q : 5 * g + 5 ≡ 5 * (g + 1) = omega arith in
-    rw (p, drop-drop 5 (5 * g) groups, q) refl
+    let q : groupWidth * g + groupWidth ≡ groupWidth * (g + 1) = omega arith in
+    rw (p, drop-drop groupWidth (groupWidth * g) groups, q) refl
 
 module _ (text groups items : List ℕ) (n : ℕ) where
   abbrev all : List ℕ
   all = groupLines n text groups items
 
   abbrev after : ℕ → List ℕ
-  after g = groupLines (n - g) text (drop (5 * g) groups) items
+  after g = groupLines (n - g) text (drop (groupWidth * g) groups) items
 
   abbrev here : ℕ → List ℕ
-  here g = linesOf text (drop (5 * g) groups) items
+  here g = linesOf text (drop (groupWidth * g) groups) items
 
   pub groups-start : (k : ℕ) (out : List ℕ) → Room k all out → Along all (after 0) k out out k
   groups-start k out h = let p : n - 0 ≡ n = omega arith in along-start k all (after 0) out h (rw p refl)
@@ -218,7 +219,7 @@ module _ (text groups items : List ℕ) (n : ℕ) where
   after-is g h =
       let p : n - g - 1 ≡ n - (g + 1) = omega arith in
       groups-more (n - g) text groups items g (omega arith)
-      ∙ ap (λ (m : ℕ). here g ++ groupLines m text (drop (5 * (g + 1)) groups) items) p
+      ∙ ap (λ (m : ℕ). here g ++ groupLines m text (drop (groupWidth * (g + 1)) groups) items) p
 
   module _ {k at : ℕ} {out₀ out : List ℕ} (g : ℕ) (a : Along all (after g) k out₀ out at) where
     pub groups-room : g < n → Room at (here g) out

@@ -8,17 +8,18 @@ use Rattle.base.specs.Lists.{part}
 use Rattle.base.specs.Ascii.{ascii}
 use Rattle.decimal.specs.Decimal.{decimal}
 use Rattle.annotation.specs.Call.{Annotated}
+use Rattle.records.specs.Widths.{itemWidth, groupWidth, group-place, group-length, group-first, group-count, group-standing, item-key, item-key-length, item-code, item-number}
 
 -- what a line says of its group, with a space after each number: "group offset, length, standing"
 unfoldable pub groupPart : List ℕ → List ℕ
 groupPart group =
-    decimal (getD group 0 0) ++ ascii " " ++ decimal (getD group 1 0) ++ ascii " " ++ decimal (getD group 4 0) ++ ascii " "
+    decimal (getD group group-place 0) ++ ascii " " ++ decimal (getD group group-length 0) ++ ascii " " ++ decimal (getD group group-standing 0) ++ ascii " "
 
 -- what it says of its item: "key, label code, number"
 unfoldable pub itemPart : List ℕ → List ℕ → List ℕ
 itemPart text item =
-    part text (getD item 2 0) (getD item 2 0 + getD item 3 0) ++ ascii " " ++ decimal (getD item 10 0) ++ ascii " "
-    ++ decimal (getD item 12 0) ++ ascii "\n"
+    part text (getD item item-key 0) (getD item item-key 0 + getD item item-key-length 0) ++ ascii " " ++ decimal (getD item item-code 0) ++ ascii " "
+    ++ decimal (getD item item-number 0) ++ ascii "\n"
 
 -- the line of an item
 unfoldable pub itemLine : List ℕ → List ℕ → List ℕ → List ℕ
@@ -27,16 +28,16 @@ itemLine text group item = groupPart group ++ itemPart text item
 -- the lines of the `k` items from the front of the item records
 unfoldable pub itemLines : ℕ → List ℕ → List ℕ → List ℕ → List ℕ
 itemLines zero text group items = []
-itemLines (suc k) text group items = itemLine text group items ++ itemLines k text group (drop 16 items)
+itemLines (suc k) text group items = itemLine text group items ++ itemLines k text group (drop itemWidth items)
 
 -- the lines of the group whose record is at the front
 unfoldable pub linesOf : List ℕ → List ℕ → List ℕ → List ℕ
-linesOf text groups items = itemLines (getD groups 3 0) text groups (drop (16 * getD groups 2 0) items)
+linesOf text groups items = itemLines (getD groups group-count 0) text groups (drop (itemWidth * getD groups group-first 0) items)
 
 -- "then per item": the lines of the `g` groups from the front of the group records
 unfoldable pub groupLines : ℕ → List ℕ → List ℕ → List ℕ → List ℕ
 groupLines zero text groups items = []
-groupLines (suc g) text groups items = linesOf text groups items ++ groupLines g text (drop 5 groups) items
+groupLines (suc g) text groups items = linesOf text groups items ++ groupLines g text (drop groupWidth groups) items
 
 -- "counts (sources = distinct numbered keys)"
 unfoldable pub countLine : Annotated → List ℕ

@@ -9,6 +9,7 @@ ghost use lib.ListN.{drop};
 ghost use Rattle.decimal.specs.Decimal.{decimal};
 ghost use Rattle.line_writers.specs.Lines.{groupPart, itemPart, itemLine, linesOf, groupLines, countLine, listed};
 ghost use Rattle.line_writers.specs.Writes.{Put, Room, answerBy};
+ghost use Rattle.records.specs.Widths.{groupWidth, itemWidth};
 
 // The numbers of an answer that the listing says: the number of a refusal, or 0 and the counts of groups, items and sources.
 pub struct Told {
@@ -40,12 +41,12 @@ fn put_number(out: &mut [u8], k: usize, n: usize, end: u8) -> usize
 
 // What a line says of its group.
 fn put_group_part(groups: &[u16], g: usize, out: &mut [u8], k: usize) -> usize
-    requires { ⌜ (g < 65536) × Room k (groupPart (drop (5 * g) (now groups))) (now out) ⌝ }
-    ensures { λ r. ⌜ Put k (groupPart (drop (5 * g) (now (groups .entry)))) (now (out .entry)) (now (out .exit)) r ⌝ }
+    requires { ⌜ (g < 65536) × Room k (groupPart (drop (groupWidth * g) (now groups))) (now out) ⌝ }
+    ensures { λ r. ⌜ Put k (groupPart (drop (groupWidth * g) (now (groups .entry)))) (now (out .entry)) (now (out .exit)) r ⌝ }
 {
-    let offset = group_field(groups, g, 0);
-    let length = group_field(groups, g, 1);
-    let standing = group_field(groups, g, 4);
+    let offset = group_field(groups, g, records::GROUP_PLACE);
+    let length = group_field(groups, g, records::GROUP_LENGTH);
+    let standing = group_field(groups, g, records::GROUP_STANDING);
     let a = put_number(out, k, offset, b' ');
     let b = put_number(out, a, length, b' ');
     put_number(out, b, standing, b' ')
@@ -53,12 +54,12 @@ fn put_group_part(groups: &[u16], g: usize, out: &mut [u8], k: usize) -> usize
 
 // What a line says of its item.
 fn put_item_part(text: &[u8], items: &[u16], i: usize, out: &mut [u8], k: usize) -> usize
-    requires { ⌜ (i < 4294967296) × Room k (itemPart (now text) (drop (16 * i) (now items))) (now out) ⌝ }
-    ensures { λ r. ⌜ Put k (itemPart (now (text .entry)) (drop (16 * i) (now (items .entry)))) (now (out .entry)) (now (out .exit)) r ⌝ }
+    requires { ⌜ (i < 4294967296) × Room k (itemPart (now text) (drop (itemWidth * i) (now items))) (now out) ⌝ }
+    ensures { λ r. ⌜ Put k (itemPart (now (text .entry)) (drop (itemWidth * i) (now (items .entry)))) (now (out .entry)) (now (out .exit)) r ⌝ }
 {
     let key = key_in(text, items, i);
-    let code = item_field(items, i, 10);
-    let number = item_field(items, i, 12);
+    let code = item_field(items, i, records::ITEM_CODE);
+    let number = item_field(items, i, records::ITEM_NUMBER);
     let a = put(out, k, key);
     let b = put(out, a, b" ");
     let c = put_number(out, b, code, b' ');
@@ -75,8 +76,8 @@ fn put_line(
     out: &mut [u8],
     k: usize,
 ) -> usize
-    requires { ⌜ (g < 65536) × (i < 4294967296) × Room k (itemLine (now text) (drop (5 * g) (now groups)) (drop (16 * i) (now items))) (now out) ⌝ }
-    ensures { λ r. ⌜ Put k (itemLine (now (text .entry)) (drop (5 * g) (now (groups .entry))) (drop (16 * i) (now (items .entry)))) (now (out .entry)) (now (out .exit)) r ⌝ }
+    requires { ⌜ (g < 65536) × (i < 4294967296) × Room k (itemLine (now text) (drop (groupWidth * g) (now groups)) (drop (itemWidth * i) (now items))) (now out) ⌝ }
+    ensures { λ r. ⌜ Put k (itemLine (now (text .entry)) (drop (groupWidth * g) (now (groups .entry))) (drop (itemWidth * i) (now (items .entry)))) (now (out .entry)) (now (out .exit)) r ⌝ }
 {
     let a = put_group_part(groups, g, out, k);
     put_item_part(text, items, i, out, a)
@@ -91,11 +92,11 @@ fn put_lines(
     out: &mut [u8],
     k: usize,
 ) -> usize
-    requires { ⌜ (g < 65536) × Room k (linesOf (now text) (drop (5 * g) (now groups)) (now items)) (now out) ⌝ }
-    ensures { λ r. ⌜ Put k (linesOf (now (text .entry)) (drop (5 * g) (now (groups .entry))) (now (items .entry))) (now (out .entry)) (now (out .exit)) r ⌝ }
+    requires { ⌜ (g < 65536) × Room k (linesOf (now text) (drop (groupWidth * g) (now groups)) (now items)) (now out) ⌝ }
+    ensures { λ r. ⌜ Put k (linesOf (now (text .entry)) (drop (groupWidth * g) (now (groups .entry))) (now (items .entry))) (now (out .entry)) (now (out .exit)) r ⌝ }
 {
-    let first = group_field(groups, g, 2);
-    let count = group_field(groups, g, 3);
+    let first = group_field(groups, g, records::GROUP_FIRST);
+    let count = group_field(groups, g, records::GROUP_COUNT);
     let mut at = k;
     let mut j: usize = 0;
     while j < count {

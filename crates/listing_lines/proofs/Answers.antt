@@ -29,6 +29,7 @@ use Rattle.standing.proofs.Swept.{placed-length}
 use Rattle.listing_lines.specs.Listing.{listingAreas, listingAnswer, listingOf}
 use Rattle.line_writers.specs.Writes.{Put, Room, answerBy}
 use Rattle.listing_lines.specs.Ready.{Ready}
+use Rattle.records.specs.Widths.{groupWidth}
 
 -- the numbers of an answer, in the arms of a `match` on it
 module _ {a : Annotation} where
@@ -71,10 +72,10 @@ module _ (text index items groups references labels out : List ℕ) (z : Ready t
       ∙ rw (z .item-area, z .group-area, z .reference-area, z .label-area) refl
 
 -- how many groups there can be: as many as their area has room for
-pub content-groups : (text : List ℕ) (mode : ℕ) (all : List Group) (pool : List ℕ) → length (contentOf text mode all pool .groups) ≡ 5 * length all
+pub content-groups : (text : List ℕ) (mode : ℕ) (all : List Group) (pool : List ℕ) → length (contentOf text mode all pool .groups) ≡ groupWidth * length all
 unfolding contentOf placedOf
 content-groups text mode all pool =
-    group-rows-length 0 (placedFrom text all pool false 0 all) ∙ ap (λ (n : ℕ). 5 * n) (placed-length _ text false 0 all)
+    group-rows-length 0 (placedFrom text all pool false 0 all) ∙ ap (λ (n : ℕ). groupWidth * n) (placed-length _ text false 0 all)
 
 room-groups : (content given : Areas) → roomFor content given ≡ true → length (content .groups) ≤ length (given .groups)
 unfolding roomFor
@@ -84,13 +85,13 @@ room-groups content given h =
     (and-left (leb (length (content .items)) (length (given .items)) && leb (length (content .groups)) (length (given .groups))) _
     (and-left _ _ (and-left _ _ h))))
 
-answer-groups : (all : List Group) (content given : Areas) → length (content .groups) ≡ 5 * length all
-    → 5 * answerOf all content given .groups ≤ length (given .groups)
+answer-groups : (all : List Group) (content given : Areas) → length (content .groups) ≡ groupWidth * length all
+    → groupWidth * answerOf all content given .groups ≤ length (given .groups)
 unfolding answerOf annotateGives
 answer-groups all content given e = go (roomFor content given) refl
   where
     go : (t : Bool) → roomFor content given ≡ t
-        → 5 * pick t (annotateGives all content given) (annotateRefused 10 (zeroFilled given)) .groups ≤ length (given .groups)
+        → groupWidth * pick t (annotateGives all content given) (annotateRefused 10 (zeroFilled given)) .groups ≤ length (given .groups)
     go true q = let h = room-groups content given q in omega arith
     go false q = omega arith
 
@@ -108,7 +109,7 @@ groups-few text = go (eqb (annotateRefusal text 0 [] (length text) (length text)
         (annotateRefused (annotateRefusal text 0 [] (length text) (length text)) (listingAreas (length text))) .groups ≤ length text
     go true =
         let h = answer-groups (sweepOf text) (contentOf text 0 (sweepOf text) []) (listingAreas (length text)) (content-groups text 0 (sweepOf text) []) in
-        let l : length (listingAreas (length text) .groups) ≡ 5 * length text = length-replicate (5 * length text) 0 in
+        let l : length (listingAreas (length text) .groups) ≡ groupWidth * length text = length-replicate (groupWidth * length text) 0 in
         omega arith
     go false = omega arith
 

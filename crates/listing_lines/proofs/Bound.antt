@@ -34,6 +34,7 @@ use Rattle.annotation.proofs.Passes.{tally-agrees}
 use Rattle.line_writers.specs.Lines.{groupPart, itemPart, itemLine, itemLines, linesOf, groupLines, countLine, refusedLine, listed}
 use Rattle.listing_lines.specs.Listing.{listingAreas, listingAnswer, listingOf}
 use Rattle.listing_lines.proofs.KeyBytes.{keyWeight, sweep-keys}
+use Rattle.records.specs.Widths.{item-key-length, itemWidth}
 
 -- lines ------------------------------------------------------------------------------------------------------------------------------
 
@@ -59,7 +60,7 @@ line-short text group item =
 -- the lengths of the keys of the `k` item records from record `n` on
 unfoldable keySum : List ℕ → ℕ → ℕ → ℕ
 keySum items n zero = 0
-keySum items n (suc k) = itemField items n 3 + keySum items (n + 1) k
+keySum items n (suc k) = itemField items n item-key-length + keySum items (n + 1) k
 
 sum-add : (items : List ℕ) (n a b : ℕ) → keySum items n (a + b) ≡ keySum items n a + keySum items (n + a) b
 unfolding keySum
@@ -78,15 +79,15 @@ unfolding keySum
 sum-same items others h n zero = refl
 sum-same items others h n (suc k) = let p = h n 3 (omega arith) in let q = sum-same items others h (n + 1) k in omega arith
 
-lines-short : (k : ℕ) (text group items : List ℕ) (n : ℕ) → length (itemLines k text group (drop (16 * n) items)) ≤ 106 * k + keySum items n k
+lines-short : (k : ℕ) (text group items : List ℕ) (n : ℕ) → length (itemLines k text group (drop (itemWidth * n) items)) ≤ 106 * k + keySum items n k
 unfolding itemLines keySum itemField
 lines-short zero text group items n = omega arith
 lines-short (suc k) text group items n =
-    let p : 16 * n + 16 ≡ 16 * (n + 1) = omega arith in
+    let p : itemWidth * n + itemWidth ≡ itemWidth * (n + 1) = omega arith in
     let h = lines-short k text group items (n + 1) in
-    let l = line-short text group (drop (16 * n) items) in
-    let f = getD-drop (16 * n) items 3 0 in
-    rw (length-append, drop-drop 16 (16 * n) items, p) (omega arith)
+    let l = line-short text group (drop (itemWidth * n) items) in
+    let f = getD-drop (itemWidth * n) items 3 0 in
+    rw (length-append, drop-drop itemWidth (itemWidth * n) items, p) (omega arith)
 
 groups-short : (ps : List Placed) (text : List ℕ) (n : ℕ) (rest items : List ℕ)
     → length (groupLines (length ps) text (groupRows n ps ++ rest) items) ≤ 106 * itemCount (groupsOf ps) + keySum items n (itemCount (groupsOf ps))
@@ -105,12 +106,12 @@ key-there : (b : Bool) (it : Item) (more rest : List ℕ) → getD ((rowOf b it 
 unfolding rowOf recordOf
 key-there b it more rest = refl
 
-row-sum : (is : List Item) (integral : Bool) (before rest : List ℕ) (n : ℕ) → length before ≡ 16 * n
+row-sum : (is : List Item) (integral : Bool) (before rest : List ℕ) (n : ℕ) → length before ≡ itemWidth * n
     → keySum (before ++ (rowsIn integral is ++ rest)) n (length is) + 2 * length is ≡ weight keyWeight is
 unfolding keySum flatMap weight
 row-sum [] integral before rest n e = refl
 row-sum (i ∷ is) integral before rest n e =
-    let l : length (before ++ rowOf integral i) ≡ 16 * (n + 1) = let r = row-length integral i in rw length-append (omega arith) in
+    let l : length (before ++ rowOf integral i) ≡ itemWidth * (n + 1) = let r = row-length integral i in rw length-append (omega arith) in
     let h = row-sum is integral (before ++ rowOf integral i) rest (n + 1) l in
     let q : (before ++ rowOf integral i) ++ (rowsIn integral is ++ rest) ≡ before ++ ((rowOf integral i ++ rowsIn integral is) ++ rest)
     = simp append-assoc refl in
@@ -122,12 +123,12 @@ zero-sum : (items : List ℕ) (n : ℕ) → keySum items n 0 + 2 * 0 ≡ 0
 unfolding keySum
 zero-sum items n = refl
 
-rows-sum : (gs : List Group) (before rest : List ℕ) (n : ℕ) → length before ≡ 16 * n
+rows-sum : (gs : List Group) (before rest : List ℕ) (n : ℕ) → length before ≡ itemWidth * n
     → keySum (before ++ (itemRows gs ++ rest)) n (itemCount gs) + 2 * itemCount gs ≡ weights keyWeight gs
 unfolding flatMap itemCount weights rowsOf rowsLength
 rows-sum [] before rest n e = zero-sum (before ++ rest) n
 rows-sum (g ∷ gs) before rest n e =
-    let l : length (before ++ rowsIn (g .integral) (g .items)) ≡ 16 * (n + length (g .items)) =
+    let l : length (before ++ rowsIn (g .integral) (g .items)) ≡ itemWidth * (n + length (g .items)) =
     let r = rows-length g in rw length-append (omega arith) in
     let h = rows-sum gs (before ++ rowsIn (g .integral) (g .items)) rest (n + length (g .items)) l in
     let here = row-sum (g .items) (g .integral) before (itemRows gs ++ rest) n e in

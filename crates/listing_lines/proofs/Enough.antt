@@ -34,6 +34,7 @@ use Rattle.histories.specs.Said.{itemLabels}
 use Rattle.histories.proofs.SaidSo.{says}
 use Rattle.listing_lines.specs.Listing.{listingAreas, listingAnswer, TextRefusalsOnly}
 use Rattle.listing_lines.proofs.Answers.{content-groups}
+use Rattle.records.specs.Widths.{itemWidth, groupWidth}
 
 -- groups: the sweep finds one at a byte at most
 groups-by : (text : List ℕ) (n at : ℕ) → length (sweepIn n text at) ≤ n
@@ -108,10 +109,10 @@ module _ (text : List ℕ) (h : length text ≤ 4096) where
   abbrev content : Areas
   content = contentOf text 0 all []
 
-  enough-items : length (content .items) ≤ 16 * length text
+  enough-items : length (content .items) ≤ itemWidth * length text
   enough-items = omega (arith, says text 0 all [] .count, size-enough text)
 
-  enough-groups : length (content .groups) ≤ 5 * length text
+  enough-groups : length (content .groups) ≤ groupWidth * length text
   unfolding sweepOf
   enough-groups = omega (arith, content-groups text 0 all [], groups-by text (length text) 0)
 
@@ -132,8 +133,8 @@ module _ (text : List ℕ) (h : length text ≤ 4096) where
   unfolding roomFor listingAreas
   room =
       rw (
-        length-replicate {A = ℕ} (16 * length text) 0,
-        length-replicate {A = ℕ} (5 * length text) 0,
+        length-replicate {A = ℕ} (itemWidth * length text) 0,
+        length-replicate {A = ℕ} (groupWidth * length text) 0,
         length-replicate {A = ℕ} (length text) 0,
         le-leb _ _ enough-items,
         le-leb _ _ enough-groups,

@@ -20,6 +20,7 @@ use Rattle.line_writers.specs.Writes.{Put, Room}
 use Rattle.listing_lines.specs.Ready.{Ready}
 use Rattle.line_writers.proofs.Lines.{field, refused-word}
 use Rattle.listing_lines.proofs.Bound.{listing-short}
+use Rattle.records.specs.Widths.{itemWidth, groupWidth}
 
 -- what `list` promises of an answer
 pub said : (text before : List ℕ) {after : List ℕ} {r : ℕ} → 150000 ≤ length before → Wrote (listingOf text) before after r
@@ -61,13 +62,13 @@ module _ (text out : List ℕ) where
 -- any other text
 pub all-ready : (text index items groups references labels out : List ℕ) → length text ≤ 4096 → index ≡ replicate 4096 0 → items ≡ replicate 65536 0
     → groups ≡ replicate 20480 0 → references ≡ replicate 4096 0 → labels ≡ replicate 20480 0 → 150000 ≤ length out
-    → Ready text (take (length text) index) (take (16 * length text) items) (take (5 * length text) groups) (take (length text) references)
+    → Ready text (take (length text) index) (take (itemWidth * length text) items) (take (groupWidth * length text) groups) (take (length text) references)
     (take (5 * length text) labels) out
 all-ready text index items groups references labels out h a b c d e r = record {
   short = h;
   index-area = zeros-cut (length text) 4096 index a h;
-  item-area = zeros-cut (16 * length text) 65536 items b (omega arith);
-  group-area = zeros-cut (5 * length text) 20480 groups c (omega arith);
+  item-area = zeros-cut (itemWidth * length text) 65536 items b (omega arith);
+  group-area = zeros-cut (groupWidth * length text) 20480 groups c (omega arith);
   reference-area = zeros-cut (length text) 4096 references d h;
   label-area = zeros-cut (5 * length text) 20480 labels e (omega arith);
   room = let l = listing-short text in omega arith;

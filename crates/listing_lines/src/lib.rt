@@ -115,8 +115,8 @@ pub fn list(text: &[u8], out: &mut [u8; ROOM]) -> usize
     list_in(
         text,
         &mut index[..n],
-        &mut items[..16 * n],
-        &mut groups[..5 * n],
+        &mut items[..records::ITEM_WIDTH * n],
+        &mut groups[..records::GROUP_WIDTH * n],
         &mut references[..n],
         &mut labels[..5 * n],
         out,

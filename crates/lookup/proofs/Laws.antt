@@ -18,6 +18,7 @@ use Rattle.resolve.specs.Looks.{matched, Inside}
 use Rattle.resolve.proofs.Laws.{at-after, at-inside}
 use Rattle.records.specs.Rows.{rowsLength}
 use Rattle.records.specs.Writing.{Writable}
+use Rattle.records.specs.Widths.{itemWidth}
 
 module _ (s : List ℕ) (p : ℕ) (d : Close) where
   matched-is : {c n : ℕ} → matched (judge s p d) ≡ MatchedGroup c n
@@ -66,7 +67,7 @@ module _ (s : List ℕ) (p : ℕ) (d : Close) where
       unfolding groupAccepted
       matched-good = and-right (not (barred s c)) (goodItems s p c) matched-accepted
 
-      pub matched-writable : (items : List ℕ) → length s ≤ 65535 → Inside s p d → 16 * n ≤ length items → Writable s p c items
+      pub matched-writable : (items : List ℕ) → length s ≤ 65535 → Inside s p d → itemWidth * n ≤ length items → Writable s p c items
       unfolding rowsLength groupOf
       matched-writable items h i r = record {
         short = h;

@@ -33,6 +33,7 @@ use Rattle.lookup.proofs.Laws.{matched-none, matched-found, matched-cou
 use Rattle.resolve.proofs.Laws.{look-inside, after-inside}
 use Rattle.resolve.proofs.Runs.{look-wants, look-close}
 use Rattle.lookup.proofs.RefusalLaws.{unrefused}
+use Rattle.records.specs.Widths.{itemWidth}
 
 -- in the form of the needs ---------------------------------------------------------------------------------------------------------
 
@@ -76,7 +77,7 @@ module _ (s : List ℕ) (at note : ℕ) (d : Close) (items : List ℕ) {m : Matc
   items-none e = rw (matched-none s at d q e)
 
   module _ {c n : ℕ} (e : m ≡ MatchedGroup c n) where
-    width : rowsLength (groupOf s at c) ≡ 16 * n
+    width : rowsLength (groupOf s at c) ≡ itemWidth * n
     unfolding rowsLength groupOf
     width = rw (matched-count s at d q e) refl
 
@@ -93,7 +94,7 @@ module _ (s : List ℕ) (at note : ℕ) (d : Close) (items : List ℕ) {m : Matc
       items-few = rw (matched-found s at d q e, few)
 
     module _ (h : n ≤ length items / 16) where
-      pub items-room : 16 * n ≤ length items
+      pub items-room : itemWidth * n ≤ length items
       items-room = omega arith
 
       enough : ltb (length items) (rowsLength (groupOf s at c)) ≡ false

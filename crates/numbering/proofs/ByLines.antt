@@ -15,7 +15,7 @@ use Rattle.base.specs.Sorted.{Each}
 use Rattle.item.specs.declared.Item.{Item}
 use Rattle.item.specs.Group.{Group}
 use Rattle.records.specs.Rows.{marksOf, recordOf, rowOf, rowsIn, rowsOf, rowsLength}
-use Rattle.records.specs.Widths.{itemWidth}
+use Rattle.records.specs.Widths.{itemWidth, group-first, group-place, group-length, group-count, group-standing}
 use Rattle.records.proofs.RowLaws.{rows-length}
 use Rattle.pool.specs.Layout.{countOf, entryAt, entriesOf}
 use Rattle.standing.specs.Rows.{Placed, groupRow, groupRows, placedBy, itemRows}
@@ -58,7 +58,7 @@ module _ (text groups otherGroups items otherItems : List ℕ) (h : SameGroups g
         h g 3 (omega arith),
         h g 2 (omega arith),
         close-same groups otherGroups g h,
-        bare-same items otherItems (groupField otherGroups g 2) i,
+        bare-same items otherItems (groupField otherGroups g group-first) i,
       )
 
   pub lines-same : {n lines : ℕ} → LinesBelow text otherGroups otherItems n lines → LinesBelow text groups items n lines
@@ -67,7 +67,7 @@ module _ (text groups otherGroups items otherItems : List ℕ) (h : SameGroups g
   defines-same : (key : List ℕ) (g : ℕ) → definesKeyIn text groups items key g ≡ definesKeyIn text otherGroups otherItems key g
   unfolding definesKeyIn
   defines-same key g =
-      rw (starts-same g, h g 2 (omega arith), key-same text items otherItems (groupField otherGroups g 2) i)
+      rw (starts-same g, h g 2 (omega arith), key-same text items otherItems (groupField otherGroups g group-first) i)
 
   line-same : (n g : ℕ) → lineDefIn text groups n g ≡ lineDefIn text otherGroups n g
   unfolding lineDefIn nextIn
@@ -171,25 +171,25 @@ module _ (groups items : List ℕ) (g k : ℕ) (p : Placed) (ps : List Placed) (
   }
 
   -- the first
-  group-at : groupField groups g 0 ≡ p .group .at
+  group-at : groupField groups g group-place ≡ p .group .at
   unfolding groupRows groupRow
   group-at = rw (l .gis) (group-field gb (groupRows k (p ∷ ps) ++ ga) g 0 (l .gcount))
 
-  group-len : groupField groups g 1 ≡ groupEnd (p .group) - p .group .at
+  group-len : groupField groups g group-length ≡ groupEnd (p .group) - p .group .at
   unfolding groupRows groupRow
   group-len = rw (l .gis) (group-field gb (groupRows k (p ∷ ps) ++ ga) g 1 (l .gcount))
 
-  pub group-first : groupField groups g 2 ≡ k
+  pub first-item-lies : groupField groups g group-first ≡ k
   unfolding groupRows groupRow
-  group-first = rw (l .gis) (group-field gb (groupRows k (p ∷ ps) ++ ga) g 2 (l .gcount))
+  first-item-lies = rw (l .gis) (group-field gb (groupRows k (p ∷ ps) ++ ga) g 2 (l .gcount))
 
-  pub group-items : groupField groups g 3 ≡ length (p .group .items)
+  pub item-count-lies : groupField groups g group-count ≡ length (p .group .items)
   unfolding groupRows groupRow
-  group-items = rw (l .gis) (group-field gb (groupRows k (p ∷ ps) ++ ga) g 3 (l .gcount))
+  item-count-lies = rw (l .gis) (group-field gb (groupRows k (p ∷ ps) ++ ga) g 3 (l .gcount))
 
-  pub group-standing : groupField groups g 4 ≡ p .standing
+  pub standing-lies : groupField groups g group-standing ≡ p .standing
   unfolding groupRows groupRow
-  group-standing = rw (l .gis) (group-field gb (groupRows k (p ∷ ps) ++ ga) g 4 (l .gcount))
+  standing-lies = rw (l .gis) (group-field gb (groupRows k (p ∷ ps) ++ ga) g 4 (l .gcount))
 
   group-close : Closes (p .group) → closeOfRecord groups g ≡ p .group .close
   unfolding closeOfRecord
@@ -198,7 +198,7 @@ module _ (groups items : List ℕ) (g k : ℕ) (p : Placed) (ps : List Placed) (
   group-defines : (text key : List ℕ) → Closes (p .group) → definesKeyIn text groups items key g ≡ definesKey text key (p .group)
   unfolding definesKeyIn definesIn definesKey defines flatMap rowsOf
   group-defines text key h =
-      rw (group-at, group-items, group-first, group-close h, l .iis, append-assoc (rowsOf (p .group)) (itemRows (groupsOf ps)) ia)
+      rw (group-at, item-count-lies, first-item-lies, group-close h, l .iis, append-assoc (rowsOf (p .group)) (itemRows (groupsOf ps)) ia)
       (one-key text key ib (p .group .integral) (p .group .items) (itemRows (groupsOf ps) ++ ia) k
       (startsLine text (p .group .at)) (colonAfter text (p .group .close)) (l .icount))
 

@@ -18,6 +18,7 @@ use Rattle.uses.specs.Uses.{setLast, Counts}
 use Rattle.numbering.specs.Progress.{roomOf, state, Agrees, Holds, Advances}
 use Rattle.uses.proofs.Fields.{set-last-same, set-standing-same}
 use Rattle.numbering.proofs.ByLines.{lines-same}
+use Rattle.records.specs.Widths.{groupWidth, group-standing}
 
 -- labels that do not fit still do not with more of them
 pub full-more : (t u : Numbered) (room : ℕ) {before before′ items groups labels items′ groups′ labels′ : List ℕ} {s r : Numbering}
@@ -37,7 +38,7 @@ module _ (text groups items : List ℕ) {n lines : ℕ} (b : LinesBelow text gro
   lines-cited k number use-index at len e =
       rw e (lines-same text groups groups _ items (λ g c l. refl) (set-last-same items k number use-index at len) b)
 
-  pub lines-stood : (g standing : ℕ) {groups′ : List ℕ} → groups′ ≡ set groups (5 * g + 4) standing → LinesBelow text groups′ items n lines
+  pub lines-stood : (g standing : ℕ) {groups′ : List ℕ} → groups′ ≡ set groups (groupWidth * g + group-standing) standing → LinesBelow text groups′ items n lines
   lines-stood g standing e = rw e (lines-same text _ groups items items (set-standing-same groups g standing) (λ k c l. refl) b)
 
 -- steps one after the other --------------------------------------------------------------------------------------------------------

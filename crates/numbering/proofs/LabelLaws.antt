@@ -28,6 +28,7 @@ use Rattle.uses.specs.Uses.{sameLabel, lastAlike}
 use Rattle.numbering.specs.declared.Numbering.{Numbering}
 use Rattle.numbering.specs.Numbers.{labelOf}
 use Rattle.numbering.specs.Progress.{Alike, LabelStands, Labelled}
+use Rattle.records.specs.Widths.{item-number, item-marks, item-label, item-label-length}
 
 module _ (text pool groups items : List ℕ) (mode n k number : ℕ) where
   abbrev L : List ℕ
@@ -72,12 +73,12 @@ unfolding lastAlike sameLabel suppressedIn
 before-found text items k number mode sources {j} o e h =
     let t : sameLabel text items k number j ≡ true =
     rw e (last-holds (sameLabel text items k number) k k (omega arith) (rw e at h)) in
-    let r = and-three (eqb (itemField items j 12) number) (eqb (itemField items j 11 % 2) (itemField items k 11 % 2)) _ t in
+    let r = and-three (eqb (itemField items j item-number) number) (eqb (itemField items j item-marks % 2) (itemField items k item-marks % 2)) _ t in
     let z = eqb-false number 0 (or-false (eqb mode 0) (eqb number 0) (ltb sources number) o) in
     record {
       some = omega arith;
-      numbered = eqb-true (itemField items j 12) number (r .0);
-      mark = rw (eqb-true (itemField items j 11 % 2) (itemField items k 11 % 2) (r .1)) refl;
+      numbered = eqb-true (itemField items j item-number) number (r .0);
+      mark = rw (eqb-true (itemField items j item-marks % 2) (itemField items k item-marks % 2) (r .1)) refl;
       key = same-true (keyIn text items j) (keyIn text items k) (r .2);
     }
   where
@@ -95,13 +96,13 @@ before-low k j b t h = let l = ltb-true j k (and-left (ltb j k) b t) in omega ar
 module _ (text : List ℕ) (mode : ℕ) (pool : List ℕ) (n m k number j : ℕ) {s : Numbering} {items groups labels : List ℕ} {at len : ℕ}
     (l : Labelled text mode pool n m s items groups labels) (f : s .fits ≡ true) (h : s .«label_bytes» ≤ length labels)
     (t : (ltb j k && ltb j m) ≡ true) (a : j < k → Alike text items k number j)
-    (p : at ≡ itemField items j 14) (q : len ≡ itemField items j 15) where
+    (p : at ≡ itemField items j item-label) (q : len ≡ itemField items j item-label-length) where
   alike : Alike text items k number j
   alike = a (ltb-true j k (and-left (ltb j k) (ltb j m) t))
 
   stands : LabelStands (labelOf text mode pool groups items n k number) at len (s .«label_bytes») labels
   stands =
-      let z : 0 < itemField items j 12 = rw (alike .numbered) (alike .some) in
+      let z : 0 < itemField items j item-number = rw (alike .numbered) (alike .some) in
       let x = l .stands f j (ltb-true j m (and-right (ltb j k) (ltb j m) t)) z in
       rw (p, q) (record { inside = x .inside; is = x .is ∙ rw (alike .numbered, alike .mark, alike .key) refl })
 

@@ -10,7 +10,7 @@ use borrow.Author.Tests.{ltb-true, ltb-false, eqb-true, eqb-false, not-false}
 use Rattle.item.specs.declared.Item.{Item}
 use Rattle.item.specs.Group.{Group}
 use Rattle.records.specs.Rows.{recordOf, rowOf, rowsIn, rowsOf, rowsLength}
-use Rattle.records.specs.Widths.{itemWidth}
+use Rattle.records.specs.Widths.{itemWidth, item-number, item-label, item-label-length, groupWidth, group-standing}
 use Rattle.standing.specs.Rows.{itemCount, itemRows}
 use Rattle.records.specs.Records.{suppressedIn}
 use Rattle.records.specs.Fields.{itemField}
@@ -26,7 +26,7 @@ use Rattle.numbering.proofs.ByLines.{key-same, definition-same}
 
 -- the records that a sweep leaves: none of them has a number ---------------------------------------------------------------------------
 
-rows-unnumbered : (integral : Bool) (is : List Item) (after : List ℕ) (j : ℕ) → j < length is → itemField (rowsIn integral is ++ after) j 12 ≡ 0
+rows-unnumbered : (integral : Bool) (is : List Item) (after : List ℕ) (j : ℕ) → j < length is → itemField (rowsIn integral is ++ after) j item-number ≡ 0
 unfolding flatMap rowOf recordOf itemField
 rows-unnumbered integral [] after j l = absurd (omega arith)
 rows-unnumbered integral (i ∷ is) after zero l = refl
@@ -35,7 +35,7 @@ rows-unnumbered integral (i ∷ is) after (suc j) l =
     rw (e, append-assoc (rowOf integral i) (rowsIn integral is) after)
     (item-skip (rowOf integral i) (rowsIn integral is ++ after) 1 j 12 refl ∙ rows-unnumbered integral is after j (omega arith))
 
-swept-numbers : (gs : List Group) (after : List ℕ) (j : ℕ) → j < itemCount gs → itemField (itemRows gs ++ after) j 12 ≡ 0
+swept-numbers : (gs : List Group) (after : List ℕ) (j : ℕ) → j < itemCount gs → itemField (itemRows gs ++ after) j item-number ≡ 0
 unfolding flatMap itemCount rowsOf rowsLength
 swept-numbers [] after j l = absurd (omega arith)
 swept-numbers (g ∷ gs) after j l =
@@ -44,8 +44,8 @@ swept-numbers (g ∷ gs) after j l =
     n : ℕ
     n = length (g .items)
 
-    go : (t : Bool) → ltb j n ≡ t → (j - n < itemCount gs → itemField (itemRows gs ++ after) (j - n) 12 ≡ 0)
-        → itemField (rowsOf g ++ (itemRows gs ++ after)) j 12 ≡ 0
+    go : (t : Bool) → ltb j n ≡ t → (j - n < itemCount gs → itemField (itemRows gs ++ after) (j - n) item-number ≡ 0)
+        → itemField (rowsOf g ++ (itemRows gs ++ after)) j item-number ≡ 0
     go true p rec = rows-unnumbered (g .integral) (g .items) (itemRows gs ++ after) j (ltb-true j n p)
     go false p rec =
         let q = ltb-false j n p in
@@ -78,7 +78,7 @@ module _ (text : List ℕ) (mode : ℕ) (pool : List ℕ) (n m : ℕ) where
 
   module _ {s : Numbering} {items groups labels : List ℕ} (b : Labelled text mode pool n m s items groups labels) where
     -- the standing of a group moves none
-    pub labelled-stood : (g standing : ℕ) {groups′ : List ℕ} → groups′ ≡ set groups (5 * g + 4) standing
+    pub labelled-stood : (g standing : ℕ) {groups′ : List ℕ} → groups′ ≡ set groups (groupWidth * g + group-standing) standing
         → Labelled text mode pool n m s items groups′ labels
     labelled-stood g standing e = record {
       room = b .room;
@@ -103,7 +103,7 @@ module _ (text : List ℕ) (mode : ℕ) (pool : List ℕ) (n m : ℕ) where
         (i : items′ ≡ setLast items k number use-index (s .«label_bytes») len) where
       abbrev Stands : ℕ → Type 0
       Stands j =
-          LabelStands (labelOf text mode pool groups items′ n j (itemField items′ j 12)) (itemField items′ j 14) (itemField items′ j 15)
+          LabelStands (labelOf text mode pool groups items′ n j (itemField items′ j item-number)) (itemField items′ j item-label) (itemField items′ j item-label-length)
           (s .«label_bytes» + len) labels′
 
       same-label : (j x : ℕ) → labelOf text mode pool groups items′ n j x ≡ labelOf text mode pool groups items n j x
@@ -113,9 +113,9 @@ module _ (text : List ℕ) (mode : ℕ) (pool : List ℕ) (n m : ℕ) where
       here : k < m → Stands k
       here l =
           let a : itemWidth * k + itemWidth ≤ length items = omega (arith, b .room) in
-          let y : itemField items′ k 12 ≡ number = rw i (set-last-number items k number use-index (s .«label_bytes») len a) in
-          let u : itemField items′ k 14 ≡ s .«label_bytes» = rw i (set-last-at items k number use-index (s .«label_bytes») len a) in
-          let v : itemField items′ k 15 ≡ len = rw i (set-last-len items k number use-index (s .«label_bytes») len a) in
+          let y : itemField items′ k item-number ≡ number = rw i (set-last-number items k number use-index (s .«label_bytes») len a) in
+          let u : itemField items′ k item-label ≡ s .«label_bytes» = rw i (set-last-at items k number use-index (s .«label_bytes») len a) in
+          let v : itemField items′ k item-label-length ≡ len = rw i (set-last-len items k number use-index (s .«label_bytes») len a) in
           rw (y, u, v) (record {
             inside = omega arith;
             is =
@@ -126,7 +126,7 @@ module _ (text : List ℕ) (mode : ℕ) (pool : List ℕ) (n m : ℕ) where
       same-field : (j c : ℕ) → (j ≡ k → ⊥) → c < itemWidth → itemField items′ j c ≡ itemField items j c
       same-field j c d l = rw i (set-last-other items k number use-index (s .«label_bytes») len j c d l)
 
-      other : (j : ℕ) → (j ≡ k → ⊥) → j < m → 0 < itemField items′ j 12 → Stands j
+      other : (j : ℕ) → (j ≡ k → ⊥) → j < m → 0 < itemField items′ j item-number → Stands j
       other j d l z =
           let y = same-field j 12 d (omega arith) in
           let u = same-field j 14 d (omega arith) in
@@ -138,7 +138,7 @@ module _ (text : List ℕ) (mode : ℕ) (pool : List ℕ) (n m : ℕ) where
             is =
                 rw w (fitted-at-kept _ labels (s .«label_bytes») _ _ p (omega arith))
                 ∙ old .is
-                ∙ sym (same-label j (itemField items j 12));
+                ∙ sym (same-label j (itemField items j item-number));
           })
 
       pub labelled-done : {r : Numbering} → r ≡ state true sources (s .«label_bytes» + len) → Labelled text mode pool n m r items′ groups labels′
@@ -148,6 +148,6 @@ module _ (text : List ℕ) (mode : ℕ) (pool : List ℕ) (n m : ℕ) where
         stands = λ f j l z. go j l z (eqb j k) refl;
       })
         where
-          go : (j : ℕ) → j < m → 0 < itemField items′ j 12 → (t : Bool) → eqb j k ≡ t → Stands j
+          go : (j : ℕ) → j < m → 0 < itemField items′ j item-number → (t : Bool) → eqb j k ≡ t → Stands j
           go j l z true p = rw (eqb-true j k p) (here (rw (eqb-true j k p) at l))
           go j l z false p = other j (eqb-false j k p) l z

@@ -13,6 +13,7 @@ use Rattle.records.specs.Records.{groupField}
 use Rattle.numbering.specs.Numbers.{Numbered, start, citeIn, citeFrom, standsNumbered, isNumbered, numberGroup, numberFrom, numberAll, keysDefined}
 use Rattle.numbering.specs.Progress.{roomOf, state, Holds, Advances}
 use Rattle.numbering.proofs.CiteLaws.{full-more, none-yet, then, as-step, cite-grows}
+use Rattle.records.specs.Widths.{group-count, group-first, group-standing, groupWidth}
 
 module _ (text : List ℕ) (mode : ℕ) (pool : List ℕ) (n : ℕ) where
   -- the items of a group ----------------------------------------------------------------------------------------------------------
@@ -58,13 +59,13 @@ module _ (text : List ℕ) (mode : ℕ) (pool : List ℕ) (n : ℕ) where
   group-grows t g = go (isNumbered text mode pool n t g)
     where
       u : Numbered
-      u = citeFrom text mode pool n (groupField (t .groups) g 3) (standsNumbered text mode pool n t g) (groupField (t .groups) g 2)
+      u = citeFrom text mode pool n (groupField (t .groups) g group-count) (standsNumbered text mode pool n t g) (groupField (t .groups) g group-first)
 
       go : (b : Bool) → length (t .labels) ≤ length (pick b u t .labels)
       go true = grown
         where
           grown : length (t .labels) ≤ length (u .labels)
-          grown = cites-grow (groupField (t .groups) g 3) (standsNumbered text mode pool n t g) (groupField (t .groups) g 2)
+          grown = cites-grow (groupField (t .groups) g group-count) (standsNumbered text mode pool n t g) (groupField (t .groups) g group-first)
       go false = omega arith
 
   -- what is not numbered stays
@@ -94,7 +95,7 @@ module _ (text : List ℕ) (mode : ℕ) (pool : List ℕ) (n : ℕ) where
       long = refl;
     }
 
-    pub group-line : {d : ℕ} → not (s .fits) ≡ false → d ≡ groupField groups g 4 → d ≡ 0
+    pub group-line : {d : ℕ} → not (s .fits) ≡ false → d ≡ groupField groups g group-standing → d ≡ 0
         → Advances 65535 (λ t. numberGroup text mode pool n t g) s s items groups labels items groups labels
     unfolding isNumbered
     group-line o p z = unnumbered o (λ t e f. line t e)
@@ -102,10 +103,10 @@ module _ (text : List ℕ) (mode : ℕ) (pool : List ℕ) (n : ℕ) where
         line : (t : Numbered) → groups ≡ t .groups → isNumbered text mode pool n t g ≡ false
         line t e = rw (← e, ← p, eq-eqb _ 0 z) refl
 
-    module _ {first count : ℕ} {b : Bool} (o : not (s .fits) ≡ false) (p : first ≡ groupField groups g 2) (q : count ≡ groupField groups g 3)
+    module _ {first count : ℕ} {b : Bool} (o : not (s .fits) ≡ false) (p : first ≡ groupField groups g group-first) (q : count ≡ groupField groups g group-count)
         (k : b ≡ keysDefined text pool groups items n count first) where
       keys-of : (t : Numbered) → groups ≡ t .groups → items ≡ t .items
-          → keysDefined text pool (t .groups) (t .items) n (groupField (t .groups) g 3) (groupField (t .groups) g 2) ≡ b
+          → keysDefined text pool (t .groups) (t .items) n (groupField (t .groups) g group-count) (groupField (t .groups) g group-first) ≡ b
       keys-of t e f = rw (← e, ← f, ← p, ← q) (sym k)
 
       pub group-undefined : b ≡ false → Advances 65535 (λ t. numberGroup text mode pool n t g) s s items groups labels items groups labels
@@ -115,7 +116,7 @@ module _ (text : List ℕ) (mode : ℕ) (pool : List ℕ) (n : ℕ) where
           undefined : (t : Numbered) → groups ≡ t .groups → items ≡ t .items → isNumbered text mode pool n t g ≡ false
           undefined t e f = rw (keys-of t e f, z, and-false) refl
 
-      module _ {d : ℕ} {groups′ : List ℕ} (st : d ≡ groupField groups g 4) (nz : d ≡ 0 → ⊥) (w : groups′ ≡ set groups (5 * g + 4) 2) where
+      module _ {d : ℕ} {groups′ : List ℕ} (st : d ≡ groupField groups g group-standing) (nz : d ≡ 0 → ⊥) (w : groups′ ≡ set groups (groupWidth * g + group-standing) 2) where
         numbered-is : b ≡ true → (t : Numbered) → groups ≡ t .groups → items ≡ t .items
             → citeFrom text mode pool n count (standsNumbered text mode pool n t g) first ≡ numberGroup text mode pool n t g
         unfolding numberGroup isNumbered

@@ -6,7 +6,7 @@ use mathlib.Core.Bool.{Bool, true, _&&_, not}
 use lib.ListN.{length, set}
 use lib.Dec.{eqb}
 use Rattle.base.specs.Pick.{pick}
-use Rattle.records.specs.Widths.{groupWidth}
+use Rattle.records.specs.Widths.{groupWidth, group-standing, group-count, group-first}
 use Rattle.pool.specs.Layout.{hasPool}
 use Rattle.definition.specs.Defs.{isDefined}
 use Rattle.definition.specs.Definitions.{definitionIn}
@@ -74,20 +74,20 @@ module _ (text : List ℕ) (mode : ℕ) (pool : List ℕ) (n : ℕ) where
   standsNumbered t g = record {
     sources = t .sources;
     items = t .items;
-    groups = set (t .groups) (groupWidth * g + 4) 2;
+    groups = set (t .groups) (groupWidth * g + group-standing) 2;
     labels = t .labels;
   }
 
   -- "A group with any undefined key gets no number, use or label", and none in a definition line does
   unfoldable pub isNumbered : Numbered → ℕ → Bool
   isNumbered t g =
-      not (eqb (groupField (t .groups) g 4) 0)
-      && keysDefined text pool (t .groups) (t .items) n (groupField (t .groups) g 3) (groupField (t .groups) g 2)
+      not (eqb (groupField (t .groups) g group-standing) 0)
+      && keysDefined text pool (t .groups) (t .items) n (groupField (t .groups) g group-count) (groupField (t .groups) g group-first)
 
   -- group record `g`, and its item records where it is numbered
   unfoldable pub numberGroup : Numbered → ℕ → Numbered
   numberGroup t g =
-      pick (isNumbered t g) (citeFrom (groupField (t .groups) g 3) (standsNumbered t g) (groupField (t .groups) g 2)) t
+      pick (isNumbered t g) (citeFrom (groupField (t .groups) g group-count) (standsNumbered t g) (groupField (t .groups) g group-first)) t
 
   -- the `m` group records from `g` on
   unfoldable pub numberFrom : ℕ → Numbered → ℕ → Numbered

@@ -7,7 +7,7 @@ use lib.ListN.{length, take, drop}
 use lib.Dec.{leb}
 use Rattle.base.specs.Lists.{written}
 use Rattle.numbering.specs.declared.Numbering.{Numbering}
-use Rattle.records.specs.Widths.{itemWidth}
+use Rattle.records.specs.Widths.{itemWidth, item-number, item-label, item-label-length}
 use Rattle.records.specs.Records.{keyIn, suppressedIn}
 use Rattle.records.specs.Fields.{itemField}
 use Rattle.numbering.specs.Numbers.{Numbered, labelOf}
@@ -15,7 +15,7 @@ use Rattle.numbering.specs.Numbers.{Numbered, labelOf}
 -- item record `j` has this number, which is not 0, and the mark of suppression and the key of record `k`
 pub record Alike (text items : List ℕ) (k number j : ℕ) : Type 0 where
   pub some : 0 < number
-  pub numbered : itemField items j 12 ≡ number
+  pub numbered : itemField items j item-number ≡ number
   pub mark : suppressedIn items j ≡ suppressedIn items k
   pub key : keyIn text items j ≡ keyIn text items k
 
@@ -58,11 +58,11 @@ pub record LabelStands (label : List ℕ) (at len bytes : ℕ) (labels : List �
 -- says: a later record that is alike gets a copy.
 pub record Labelled (text : List ℕ) (mode : ℕ) (pool : List ℕ) (n m : ℕ) (s : Numbering) (items groups labels : List ℕ) : Type 0 where
   pub room : itemWidth * m ≤ length items
-  pub stands : s .fits ≡ true → (j : ℕ) → j < m → 0 < itemField items j 12
-      → LabelStands (labelOf text mode pool groups items n j (itemField items j 12)) (itemField items j 14) (itemField items j 15)
+  pub stands : s .fits ≡ true → (j : ℕ) → j < m → 0 < itemField items j item-number
+      → LabelStands (labelOf text mode pool groups items n j (itemField items j item-number)) (itemField items j item-label) (itemField items j item-label-length)
       (s .«label_bytes») labels
 
 -- none of the first `m` item records, for which there is room, has a number
 pub record Unnumbered (m : ℕ) (items : List ℕ) : Type 0 where
   pub room : itemWidth * m ≤ length items
-  pub none : (j : ℕ) → j < m → itemField items j 12 ≡ 0
+  pub none : (j : ℕ) → j < m → itemField items j item-number ≡ 0

@@ -141,8 +141,8 @@ fn label_at<'a>(
     let at = s.label_bytes;
     let j = labelled_before(text, mode, items, s.sources, k, number as usize);
     if (j < k) & (j < m) {
-        let from = records::item_field(items, j, 14);
-        let len = records::item_field(items, j, 15);
+        let from = records::item_field(items, j, records::ITEM_LABEL);
+        let len = records::item_field(items, j, records::ITEM_LABEL_LENGTH);
         label::copy_label(from, len, at, labels);
         return len;
     }
@@ -260,14 +260,14 @@ pub fn number_group<'a>(
     if !fits {
         return s;
     }
-    let standing = records::group_field(groups, g, 4);
+    let standing = records::group_field(groups, g, records::GROUP_STANDING);
     if standing == 0 {
         return s;
     }
-    let k = records::group_field(groups, g, 2);
-    let c = records::group_field(groups, g, 3);
+    let k = records::group_field(groups, g, records::GROUP_FIRST);
+    let c = records::group_field(groups, g, records::GROUP_COUNT);
     if all_defined(text, pool, groups, items, n, end, k, c) {
-        records::put(groups, 5 * g + 4, 2);
+        records::put(groups, records::GROUP_WIDTH * g + records::GROUP_STANDING, 2);
         cite_from(text, mode, pool, n, end, m, k, c, s, items, groups, labels)
     } else {
         s

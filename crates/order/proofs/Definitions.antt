@@ -34,6 +34,7 @@ use Rattle.order.specs.Ordered.{rankBy, definitionOf, sourceBy, SortedBy
 use Rattle.base.proofs.Lasts.{last-holds}
 use Rattle.order.proofs.Sorting.{less-asym, less-self}
 use Rattle.order.proofs.Insertions.{insert-alike, inserted-next, inserted-length, inserted-each, inserted-precedes}
+use Rattle.records.specs.Widths.{group-first}
 
 -- what a key is defined by ---------------------------------------------------------------------------------------------------------
 
@@ -64,7 +65,7 @@ module _ (text pool groups items key : List ℕ) (n : ℕ) where
   line-key : line < n → keyBy text pool groups items (Line line) ≡ key
   unfolding keyBy lineIn definesKeyIn
   line-key h =
-      same-true (keyIn text items (groupField groups line 2)) key
+      same-true (keyIn text items (groupField groups line group-first)) key
       (and-right (definesIn text groups items line) _ (last-holds (definesKeyIn text groups items key) n n (omega arith) h))
 
   entry-key : entry < countOf pool → keyBy text pool groups items (EntryOf entry) ≡ key

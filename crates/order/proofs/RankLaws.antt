@@ -29,6 +29,7 @@ use Rattle.order.specs.References.{hasNumber, firstWith, sourceKeyIn, nu
 use Rattle.order.specs.Ordered.{rankBy, definitionOf, sourceBy}
 use Rattle.definition.proofs.EntryLaws.{part-none}
 use Rattle.definition.proofs.DefinedLaws.{below-count, line-there, entry-there}
+use Rattle.records.specs.Widths.{item-number, group-first}
 
 -- the number of a definition -------------------------------------------------------------------------------------------------------
 
@@ -93,7 +94,7 @@ pub ruleset at-laws = (at-line, at-entry, at-nothing, below-count)
 
 -- its key
 module _ (text pool groups items : List ℕ) {d : Defined} {r : List ℕ} where
-  pub key-line : {g k : ℕ} → d ≡ Line g → k ≡ groupField groups g 2 → r ≡ keyIn text items k → r ≡ keyBy text pool groups items d
+  pub key-line : {g k : ℕ} → d ≡ Line g → k ≡ groupField groups g group-first → r ≡ keyIn text items k → r ≡ keyBy text pool groups items d
   unfolding keyBy
   key-line p q e = e ∙ rw (p, q) refl
 
@@ -142,11 +143,11 @@ module _ (items : List ℕ) (m k i : ℕ) where
     pub with-out : m ≤ i → i ≡ w
     with-out h = first-out (hasNumber items k) i m p h
 
-    pub with-stop : {r : ℕ} → i < m → r ≡ itemField items i 12 → r ≡ k → i ≡ w
+    pub with-stop : {r : ℕ} → i < m → r ≡ itemField items i item-number → r ≡ k → i ≡ w
     unfolding hasNumber
     with-stop h q e = first-stop (hasNumber items k) i m p h (eq-eqb _ k (sym q ∙ e))
 
-    pub with-more : {r : ℕ} → i < m → r ≡ itemField items i 12 → (r ≡ k → ⊥) → w ≡ first (hasNumber items k) (m - (i + 1)) (i + 1)
+    pub with-more : {r : ℕ} → i < m → r ≡ itemField items i item-number → (r ≡ k → ⊥) → w ≡ first (hasNumber items k) (m - (i + 1)) (i + 1)
     unfolding hasNumber
     with-more h q n = first-more (hasNumber items k) i m p h (ne-eqb _ k (λ e. n (q ∙ e)))
 
@@ -167,20 +168,20 @@ pub ruleset of-laws = (with-below, definition-is)
 -- the source of a definition -------------------------------------------------------------------------------------------------------
 
 module _ (text items key : List ℕ) (m i : ℕ) where
-  pub use-start : numberOfKey text items m key ≡ itemField items (first (usedAt text items key) (m - 0) 0) 12
+  pub use-start : numberOfKey text items m key ≡ itemField items (first (usedAt text items key) (m - 0) 0) item-number
   unfolding numberOfKey
   use-start = let z : m - 0 ≡ m = omega arith in rw z refl
 
-  module _ {w : ℕ} (p : w ≡ itemField items (first (usedAt text items key) (m - i) i) 12) where
-    pub use-out : {r : ℕ} → m ≤ i → r ≡ itemField items i 12 → r ≡ w
-    use-out h e = e ∙ ap (λ (j : ℕ). itemField items j 12) (first-out (usedAt text items key) i m refl h) ∙ sym p
+  module _ {w : ℕ} (p : w ≡ itemField items (first (usedAt text items key) (m - i) i) item-number) where
+    pub use-out : {r : ℕ} → m ≤ i → r ≡ itemField items i item-number → r ≡ w
+    use-out h e = e ∙ ap (λ (j : ℕ). itemField items j item-number) (first-out (usedAt text items key) i m refl h) ∙ sym p
 
     module _ (h : i < m) {b : Bool} (q : b ≡ usedAt text items key i) where
-      pub use-stop : {r : ℕ} → b ≡ true → r ≡ itemField items i 12 → r ≡ w
-      use-stop t e = e ∙ ap (λ (j : ℕ). itemField items j 12) (first-stop (usedAt text items key) i m refl h (sym q ∙ t)) ∙ sym p
+      pub use-stop : {r : ℕ} → b ≡ true → r ≡ itemField items i item-number → r ≡ w
+      use-stop t e = e ∙ ap (λ (j : ℕ). itemField items j item-number) (first-stop (usedAt text items key) i m refl h (sym q ∙ t)) ∙ sym p
 
-      pub use-more : b ≡ false → w ≡ itemField items (first (usedAt text items key) (m - (i + 1)) (i + 1)) 12
-      use-more t = p ∙ ap (λ (j : ℕ). itemField items j 12) (first-more (usedAt text items key) i m refl h (sym q ∙ t))
+      pub use-more : b ≡ false → w ≡ itemField items (first (usedAt text items key) (m - (i + 1)) (i + 1)) item-number
+      use-more t = p ∙ ap (λ (j : ℕ). itemField items j item-number) (first-more (usedAt text items key) i m refl h (sym q ∙ t))
 
 pub ruleset use-laws = (use-start, use-out, use-stop, use-more)
 

@@ -11,10 +11,11 @@ use Rattle.records.specs.Records.{keyIn}
 use Rattle.records.specs.Fields.{itemField}
 use Rattle.uses.specs.Uses.{usedAt}
 use Rattle.order.specs.Order.{authorOr, referenceOrder}
+use Rattle.records.specs.Widths.{item-number}
 
 -- item record `j` has the number `k`
 unfoldable pub hasNumber : List ℕ → ℕ → ℕ → Bool
-hasNumber items k j = eqb (itemField items j 12) k
+hasNumber items k j = eqb (itemField items j item-number) k
 
 -- the first of `m` item records that has the number `k`; `m` where there is none
 unfoldable pub firstWith : List ℕ → ℕ → ℕ → ℕ
@@ -35,7 +36,7 @@ module _ (text pool groups items : List ℕ) (n m : ℕ) where
 
 -- the number of the first of `m` item records that is numbered and has this key
 unfoldable pub numberOfKey : List ℕ → List ℕ → ℕ → List ℕ → ℕ
-numberOfKey text items m key = itemField items (first (usedAt text items key) m 0) 12
+numberOfKey text items m key = itemField items (first (usedAt text items key) m 0) item-number
 
 -- The sources have keys: that of each number up to `sources` is defined, and is that of no other number.
 pub record SourcesKnown (text pool groups items : List ℕ) (n m sources : ℕ) : Type 0 where

@@ -54,7 +54,7 @@ fn key_by<'a>(
 {
     match d {
         Defined::Line { group } => {
-            records::key_in(text, items, records::group_field(groups, group, 2))
+            records::key_in(text, items, records::group_field(groups, group, records::GROUP_FIRST))
         }
         Defined::Entry { number } => definition::entries::entry_id(pool, number),
         Defined::Nothing => base::bytes::part_of(text, 0, 0),
@@ -89,7 +89,7 @@ fn first_with(items: &[u16], m: usize, k: usize) -> usize
 {
     let mut j: usize = 0;
     while j < m {
-        if records::item_field(items, j, 12) == k {
+        if records::item_field(items, j, records::ITEM_NUMBER) == k {
             return j;
         }
         j += 1;
@@ -127,11 +127,11 @@ fn number_of_key(text: &[u8], items: &[u16], m: usize, key: &[u8]) -> usize
     let mut j: usize = 0;
     while j < m {
         if uses::is_use(text, items, j, key) {
-            return records::item_field(items, j, 12);
+            return records::item_field(items, j, records::ITEM_NUMBER);
         }
         j += 1;
     }
-    records::item_field(items, j, 12)
+    records::item_field(items, j, records::ITEM_NUMBER)
 }
 
 // The number of the source that definition number `i` defines.

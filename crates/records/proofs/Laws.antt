@@ -12,43 +12,44 @@ use Rattle.base.specs.Lists.{part}
 use Rattle.base.proofs.Parts.{byte-past}
 use Rattle.records.specs.Records.{groupField, keyIn, suppressedIn, bareIn, closeOfRecord, nextIn}
 use Rattle.records.specs.Fields.{itemField}
+use Rattle.records.specs.Widths.{item-key, item-key-length, item-marks, item-prefix-length, item-locator-length, group-place, group-length, itemWidth, groupWidth}
 
 -- a store past the end of an area changes nothing
 pub set-past : (area : List ℕ) (i v : ℕ) → length area ≤ i → area ≡ set area i v
 set-past area i v h = sym (set-out area i v h)
 
-pub item-at : (items : List ℕ) (k c : ℕ) {r : ℕ} → r ≡ getD items (16 * k + c) 0 → r ≡ itemField items k c
+pub item-at : (items : List ℕ) (k c : ℕ) {r : ℕ} → r ≡ getD items (itemWidth * k + c) 0 → r ≡ itemField items k c
 unfolding itemField
 item-at items k c p = p
 
-pub group-at : (groups : List ℕ) (g c : ℕ) {r : ℕ} → r ≡ getD groups (5 * g + c) 0 → r ≡ groupField groups g c
+pub group-at : (groups : List ℕ) (g c : ℕ) {r : ℕ} → r ≡ getD groups (groupWidth * g + c) 0 → r ≡ groupField groups g c
 unfolding groupField
 group-at groups g c p = p
 
-pub key-at : (text items : List ℕ) (k : ℕ) {at len : ℕ} {r : List ℕ} → at ≡ itemField items k 2 → len ≡ itemField items k 3
+pub key-at : (text items : List ℕ) (k : ℕ) {at len : ℕ} {r : List ℕ} → at ≡ itemField items k item-key → len ≡ itemField items k item-key-length
     → r ≡ part text at (at + len) → r ≡ keyIn text items k
 unfolding keyIn
 key-at text items k p q e = e ∙ rw (p, q) refl
 
-pub suppressed-at : (items : List ℕ) (k : ℕ) {m : ℕ} → m ≡ itemField items k 11 → eqb (m % 2) 1 ≡ suppressedIn items k
+pub suppressed-at : (items : List ℕ) (k : ℕ) {m : ℕ} → m ≡ itemField items k item-marks → eqb (m % 2) 1 ≡ suppressedIn items k
 unfolding suppressedIn
 suppressed-at items k p = rw p refl
 
-pub bare-at : (items : List ℕ) (k : ℕ) {a b m : ℕ} → a ≡ itemField items k 1 → b ≡ itemField items k 5 → m ≡ itemField items k 11
+pub bare-at : (items : List ℕ) (k : ℕ) {a b m : ℕ} → a ≡ itemField items k item-prefix-length → b ≡ itemField items k item-locator-length → m ≡ itemField items k item-marks
     → (eqb a 0 && eqb b 0 && eqb (m % 2) 0) ≡ bareIn items k
 unfolding bareIn
 bare-at items k p q e = rw (p, q, e) refl
 
-pub close-none : (groups : List ℕ) (g : ℕ) {a b : ℕ} → a ≡ groupField groups g 0 → b ≡ groupField groups g 1 → a + b ≡ 0
+pub close-none : (groups : List ℕ) (g : ℕ) {a b : ℕ} → a ≡ groupField groups g group-place → b ≡ groupField groups g group-length → a + b ≡ 0
     → 0 ≡ closeOfRecord groups g
 unfolding closeOfRecord
 close-none groups g p q h = omega arith
 
-pub close-at : (groups : List ℕ) (g : ℕ) {a b : ℕ} → a ≡ groupField groups g 0 → b ≡ groupField groups g 1 → a + b - 1 ≡ closeOfRecord groups g
+pub close-at : (groups : List ℕ) (g : ℕ) {a b : ℕ} → a ≡ groupField groups g group-place → b ≡ groupField groups g group-length → a + b - 1 ≡ closeOfRecord groups g
 unfolding closeOfRecord
 close-at groups g p q = rw (p, q) refl
 
-pub next-there : (text groups : List ℕ) (n g : ℕ) {r : ℕ} → g + 1 < n → r ≡ groupField groups (g + 1) 0 → r ≡ nextIn text groups n g
+pub next-there : (text groups : List ℕ) (n g : ℕ) {r : ℕ} → g + 1 < n → r ≡ groupField groups (g + 1) group-place → r ≡ nextIn text groups n g
 unfolding nextIn
 next-there text groups n g h p = p ∙ rw (lt-ltb (g + 1) n h) refl
 

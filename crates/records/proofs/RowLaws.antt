@@ -25,6 +25,7 @@ use Rattle.item.specs.Group.{goodItems, Group, groupOf}
 use Rattle.records.specs.Rows.{marksOf, recordOf, rowOf, rowsIn, rowsOf, rowsLength}
 use Rattle.records.specs.Writing.{pieceRow, putAt, Narrow, NarrowItem, Writable}
 use Rattle.records.proofs.Areas.{put-written}
+use Rattle.records.specs.Widths.{itemWidth}
 
 -- a record has 16 numbers ----------------------------------------------------------------------------------------------------------
 
@@ -32,7 +33,7 @@ pub row-length : (b : Bool) (it : Item) → length (rowOf b it) ≡ 16
 unfolding rowOf recordOf
 row-length b it = refl
 
-rows-in-length : (b : Bool) (its : List Item) → length (rowsIn b its) ≡ 16 * length its
+rows-in-length : (b : Bool) (its : List Item) → length (rowsIn b its) ≡ itemWidth * length its
 unfolding flatMap
 rows-in-length b [] = refl
 rows-in-length b (it ∷ its) = simp (length-append, row-length, rows-in-length b its) (omega arith)
@@ -137,7 +138,7 @@ piece-length b Bad g = absurd (true≢false (sym g))
 pub record Writing (s : List ℕ) (p c : ℕ) (items₀ : List ℕ) (b : Bool) (items : List ℕ) (from n : ℕ) : Type 0 where
   pub long : length items ≡ length items₀
   pub good : allGood s (pieces s from c) ≡ true
-  pub room : n + 16 * length (itemsIn s (pieces s from c)) ≤ length items
+  pub room : n + itemWidth * length (itemsIn s (pieces s from c)) ≤ length items
   pub gives : written (rowsOf (groupOf s p c)) items₀ ≡ take n items ++ written (rowsIn b (itemsIn s (pieces s from c))) (drop n items)
 
 pub writing-start : (s : List ℕ) (p c : ℕ) (items : List ℕ) {b : Bool} {from : ℕ} → Writable s p c items → b ≡ integralAt s p → from ≡ itemsStart s p
@@ -158,13 +159,13 @@ module _ {s : List ℕ} {p c : ℕ} {items₀ : List ℕ} {b : Bool} {items : Li
   piece-row-length : length (pieceRow b (itemOf s from q)) ≡ 16
   piece-row-length = piece-length b (itemOf s from q) piece-good-is
 
-  more-room : q < c → n + 16 + 16 * length (itemsIn s (pieces s (q + 1) c)) ≤ length items
+  more-room : q < c → n + itemWidth + itemWidth * length (itemsIn s (pieces s (q + 1) c)) ≤ length items
   more-room h =
       let e = ap length (items-more s from c d h) in
       let k = kept-length (itemOf s from q) (itemsIn s (pieces s (q + 1) c)) piece-good-is in
       omega (arith, w .room)
 
-  last-room : c ≤ q → n + 16 ≤ length items
+  last-room : c ≤ q → n + itemWidth ≤ length items
   last-room h =
       let e = ap length (items-last s from c d h) in
       let k = kept-length (itemOf s from q) [] piece-good-is in
@@ -178,7 +179,7 @@ module _ {s : List ℕ} {p c : ℕ} {items₀ : List ℕ} {b : Bool} {items : Li
 
   -- the rest of the area came back with the record of the piece
   module _ {x : List ℕ} (o : x ≡ written (pieceRow b (itemOf s from q)) (take (length items - n) (drop n items))) where
-    pub writing-next : q < c → Writing s p c items₀ b (take n items ++ (x ++ drop (length items - n) (drop n items))) (q + 1) (n + 16)
+    pub writing-next : q < c → Writing s p c items₀ b (take n items ++ (x ++ drop (length items - n) (drop n items))) (q + 1) (n + itemWidth)
     writing-next h =
         let r = pieceRow b (itemOf s from q) in
         let its = itemsIn s (pieces s (q + 1) c) in

@@ -7,7 +7,7 @@ use lib.ListN.{length, getD}
 use lib.Dec.{eqb, ltb}
 use Rattle.base.specs.Pick.{pick}
 use Rattle.base.specs.Lists.{part}
-use Rattle.records.specs.Widths.{groupWidth}
+use Rattle.records.specs.Widths.{groupWidth, item-key, item-key-length, item-marks, item-prefix-length, item-locator-length, group-place, group-length}
 use Rattle.records.specs.Fields.{itemField}
 
 -- the number at place `c` of group record `g`
@@ -16,20 +16,20 @@ groupField groups g c = getD groups (groupWidth * g + c) 0
 
 -- "pairs for prefix, key (without `@`), locator": the bytes of the key of item record `k`
 unfoldable pub keyIn : List ℕ → List ℕ → ℕ → List ℕ
-keyIn text items k = part text (itemField items k 2) (itemField items k 2 + itemField items k 3)
+keyIn text items k = part text (itemField items k item-key) (itemField items k item-key + itemField items k item-key-length)
 
 -- "marks (1 suppressed, 2 integral, added)"
 unfoldable pub suppressedIn : List ℕ → ℕ → Bool
-suppressedIn items k = eqb (itemField items k 11 % 2) 1
+suppressedIn items k = eqb (itemField items k item-marks % 2) 1
 
 -- "no prefix, no locator, not suppressed"
 unfoldable pub bareIn : List ℕ → ℕ → Bool
-bareIn items k = eqb (itemField items k 1) 0 && eqb (itemField items k 5) 0 && eqb (itemField items k 11 % 2) 0
+bareIn items k = eqb (itemField items k item-prefix-length) 0 && eqb (itemField items k item-locator-length) 0 && eqb (itemField items k item-marks % 2) 0
 
 -- "pair, first item, item count": the place of the close of group record `g`
 unfoldable pub closeOfRecord : List ℕ → ℕ → ℕ
-closeOfRecord groups g = groupField groups g 0 + groupField groups g 1 - 1
+closeOfRecord groups g = groupField groups g group-place + groupField groups g group-length - 1
 
 -- where the group after number `g` begins, `n` being all; the text's end where there is none
 unfoldable pub nextIn : List ℕ → List ℕ → ℕ → ℕ → ℕ
-nextIn text groups n g = pick (ltb (g + 1) n) (groupField groups (g + 1) 0) (length text)
+nextIn text groups n g = pick (ltb (g + 1) n) (groupField groups (g + 1) group-place) (length text)

@@ -23,10 +23,7 @@ ghost use Rattle.item.specs.Items.{itemOf};
 ghost use Rattle.item.specs.Group.{groupOf};
 ghost use Rattle.records.specs.Rows.{rowOf, rowsOf};
 ghost use Rattle.records.specs.Writing.{pieceRow, Put, Narrow, NarrowLocator, NarrowItem, Writable};
-ghost use Rattle.records.specs.Widths.{itemWidth};
-
-// How many numbers an item record has.
-pub const ITEM_WIDTH: usize = 16;
+ghost use Rattle.records.specs.Widths.{itemWidth, item-prefix, item-value, item-marks};
 
 // A pair at `k`.
 fn write_pair(row: &mut [u16], k: usize, pair: Span)
@@ -50,41 +47,41 @@ fn marks(suppressed: bool, integral: bool) -> u16
 // The pairs of the prefix, the key and the whole locator.
 fn write_parts(row: &mut [u16], item: Item)
     requires { ⌜ (itemWidth ≤ length (now row)) × NarrowItem item ⌝ }
-    ensures { λ _. ⌜ Put 0 (pairOf (item .prefix) ++ pairOf (item .key) ++ pairOf (item .whole))
+    ensures { λ _. ⌜ Put item-prefix (pairOf (item .prefix) ++ pairOf (item .key) ++ pairOf (item .whole))
         (now (row .entry)) (now (row .exit)) ⌝ }
 {
     let prefix = item.prefix;
     let key = item.key;
     let whole = item.whole;
-    write_pair(row, 0, prefix);
-    write_pair(row, 2, key);
-    write_pair(row, 4, whole);
+    write_pair(row, crate::ITEM_PREFIX, prefix);
+    write_pair(row, crate::ITEM_KEY, key);
+    write_pair(row, crate::ITEM_LOCATOR, whole);
 }
 
 // What the locator says: the pairs of value and suffix, and the label code.
 fn write_locator(row: &mut [u16], l: Locator)
     requires { ⌜ (itemWidth ≤ length (now row)) × NarrowLocator l ⌝ }
-    ensures { λ _. ⌜ Put 6 (pairOf (valueOf l) ++ pairOf (suffixOf l) ++ (codeOf l ∷ []))
+    ensures { λ _. ⌜ Put item-value (pairOf (valueOf l) ++ pairOf (suffixOf l) ++ (codeOf l ∷ []))
         (now (row .entry)) (now (row .exit)) ⌝ }
 {
     let value = value_of(l);
     let suffix = suffix_of(l);
     let code = code_of(l);
-    write_pair(row, 6, value);
-    write_pair(row, 8, suffix);
-    row[10] = code;
+    write_pair(row, crate::ITEM_VALUE, value);
+    write_pair(row, crate::ITEM_SUFFIX, suffix);
+    row[crate::ITEM_CODE] = code;
 }
 
 // The marks, and 0 for what is not numbered.
 fn write_marks(row: &mut [u16], marks: u16)
     requires { ⌜ itemWidth ≤ length (now row) ⌝ }
-    ensures { λ _. ⌜ Put 11 (marks ∷ 0 ∷ 0 ∷ 0 ∷ 0 ∷ []) (now (row .entry)) (now (row .exit)) ⌝ }
+    ensures { λ _. ⌜ Put item-marks (marks ∷ 0 ∷ 0 ∷ 0 ∷ 0 ∷ []) (now (row .entry)) (now (row .exit)) ⌝ }
 {
-    row[11] = marks;
-    row[12] = 0;
-    row[13] = 0;
-    row[14] = 0;
-    row[15] = 0;
+    row[crate::ITEM_MARKS] = marks;
+    row[crate::ITEM_NUMBER] = 0;
+    row[crate::ITEM_USE] = 0;
+    row[crate::ITEM_LABEL] = 0;
+    row[crate::ITEM_LABEL_LENGTH] = 0;
 }
 
 // The record of an item, at the front of `row`.
@@ -121,7 +118,7 @@ pub fn write_rows(text: &[u8], p: usize, c: usize, items: &mut [u16])
     let mut n = 0;
     while to < c {
         write_piece(text, from, to, integral, &mut items[n..]);
-        n += ITEM_WIDTH;
+        n += crate::ITEM_WIDTH;
         from = to + 1;
         to = piece_end(text, from, c);
     }

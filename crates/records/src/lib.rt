@@ -7,6 +7,52 @@ ghost use lib.ListN.{getD, set};
 ghost use Rattle.records.specs.Records.{groupField, keyIn, suppressedIn, bareIn, closeOfRecord, nextIn};
 ghost use Rattle.records.specs.Fields.{itemField};
 
+// How many numbers an item record has.
+pub const ITEM_WIDTH: usize = 16;
+
+// Where the numbers of an item record stand: the offset and the length of each pair, the label code, the marks, the number, the use.
+pub const ITEM_PREFIX: usize = 0;
+
+pub const ITEM_PREFIX_LENGTH: usize = 1;
+
+pub const ITEM_KEY: usize = 2;
+
+pub const ITEM_KEY_LENGTH: usize = 3;
+
+pub const ITEM_LOCATOR: usize = 4;
+
+pub const ITEM_LOCATOR_LENGTH: usize = 5;
+
+pub const ITEM_VALUE: usize = 6;
+
+pub const ITEM_SUFFIX: usize = 8;
+
+pub const ITEM_CODE: usize = 10;
+
+pub const ITEM_MARKS: usize = 11;
+
+pub const ITEM_NUMBER: usize = 12;
+
+pub const ITEM_USE: usize = 13;
+
+pub const ITEM_LABEL: usize = 14;
+
+pub const ITEM_LABEL_LENGTH: usize = 15;
+
+// How many numbers a group record has.
+pub const GROUP_WIDTH: usize = 5;
+
+// Where the numbers of a group record stand.
+pub const GROUP_PLACE: usize = 0;
+
+pub const GROUP_LENGTH: usize = 1;
+
+pub const GROUP_FIRST: usize = 2;
+
+pub const GROUP_COUNT: usize = 3;
+
+pub const GROUP_STANDING: usize = 4;
+
 // The number at place `i` of an area; 0 past its end.
 pub fn number_at(area: &[u16], i: usize) -> usize
     ensures { λ r. ⌜ (r ≡ getD (now (area .entry)) i 0) × (r < 65536) ⌝ }
@@ -35,7 +81,7 @@ pub fn item_field(items: &[u16], k: usize, c: usize) -> usize
     requires { ⌜ (k < 4294967296) × (c < 65536) ⌝ }
     ensures { λ r. ⌜ (r ≡ itemField (now (items .entry)) k c) × (r < 65536) ⌝ }
 {
-    number_at(items, 16 * k + c)
+    number_at(items, ITEM_WIDTH * k + c)
 }
 
 // The number at place `c` of group record `g`.
@@ -43,7 +89,7 @@ pub fn group_field(groups: &[u16], g: usize, c: usize) -> usize
     requires { ⌜ (g < 4294967296) × (c < 65536) ⌝ }
     ensures { λ r. ⌜ (r ≡ groupField (now (groups .entry)) g c) × (r < 65536) ⌝ }
 {
-    number_at(groups, 5 * g + c)
+    number_at(groups, GROUP_WIDTH * g + c)
 }
 
 // The key of item record `k`.
@@ -51,8 +97,8 @@ pub fn key_in<'a>(text: &'a [u8], items: &[u16], k: usize) -> &'a [u8]
     requires { ⌜ k < 4294967296 ⌝ }
     ensures { λ r. ⌜ now r ≡ keyIn (now (text .entry)) (now (items .entry)) k ⌝ }
 {
-    let at = item_field(items, k, 2);
-    let len = item_field(items, k, 3);
+    let at = item_field(items, k, ITEM_KEY);
+    let len = item_field(items, k, ITEM_KEY_LENGTH);
     base::bytes::part_of(text, at, len)
 }
 
@@ -61,7 +107,7 @@ pub fn suppressed_in(items: &[u16], k: usize) -> bool
     requires { ⌜ k < 4294967296 ⌝ }
     ensures { λ r. ⌜ r ≡ suppressedIn (now (items .entry)) k ⌝ }
 {
-    item_field(items, k, 11) % 2 == 1
+    item_field(items, k, ITEM_MARKS) % 2 == 1
 }
 
 // Whether it has no prefix, no locator, and is not suppressed.
@@ -69,9 +115,9 @@ pub fn bare_in(items: &[u16], k: usize) -> bool
     requires { ⌜ k < 4294967296 ⌝ }
     ensures { λ r. ⌜ r ≡ bareIn (now (items .entry)) k ⌝ }
 {
-    let prefix = item_field(items, k, 1);
-    let whole = item_field(items, k, 5);
-    let marks = item_field(items, k, 11);
+    let prefix = item_field(items, k, ITEM_PREFIX_LENGTH);
+    let whole = item_field(items, k, ITEM_LOCATOR_LENGTH);
+    let marks = item_field(items, k, ITEM_MARKS);
     (prefix == 0) & (whole == 0) & (marks % 2 == 0)
 }
 
@@ -80,7 +126,7 @@ pub fn close_of_record(groups: &[u16], g: usize) -> usize
     requires { ⌜ g < 4294967296 ⌝ }
     ensures { λ r. ⌜ r ≡ closeOfRecord (now (groups .entry)) g ⌝ }
 {
-    let end = group_field(groups, g, 0) + group_field(groups, g, 1);
+    let end = group_field(groups, g, GROUP_PLACE) + group_field(groups, g, GROUP_LENGTH);
     if end == 0 { 0 } else { end - 1 }
 }
 
@@ -90,7 +136,7 @@ pub fn next_in(text: &[u8], groups: &[u16], n: usize, g: usize) -> usize
     ensures { λ r. ⌜ r ≡ nextIn (now (text .entry)) (now (groups .entry)) n g ⌝ }
 {
     if g + 1 < n {
-        group_field(groups, g + 1, 0)
+        group_field(groups, g + 1, GROUP_PLACE)
     } else {
         text.len()
     }

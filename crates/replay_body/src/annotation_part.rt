@@ -104,10 +104,10 @@ fn holds(area: &[u16], n: usize, rows: &[u8], value: u16) -> bool {
 // Whether the areas of groups, items and references are the stored ones.
 pub fn has_records(part: &[u8], items: &[u16], groups: &[u16], references: &[u16]) -> bool {
     let rest = behind(number(part, 4));
-    holds(groups, 5 * number(part, 6), after(part, 16), rest)
+    holds(groups, records::GROUP_WIDTH * number(part, 6), after(part, 16), rest)
         & holds(
             items,
-            16 * number(part, 8),
+            records::ITEM_WIDTH * number(part, 8),
             after(part, items_place(part)),
             rest,
         )
@@ -147,8 +147,8 @@ pub fn refill_all(
     labels: &mut [u8],
 ) {
     let all = number(part, 4) == 10;
-    refill(items, 16 * number(part, 8), all);
-    refill(groups, 5 * number(part, 6), all);
+    refill(items, records::ITEM_WIDTH * number(part, 8), all);
+    refill(groups, records::GROUP_WIDTH * number(part, 6), all);
     refill(references, number(part, 10), all);
     refill_labels(labels, number(part, 12), all);
 }

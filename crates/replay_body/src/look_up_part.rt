@@ -45,12 +45,12 @@ pub fn has_rows(rows: &[u8], count: usize, items: &[u16]) -> bool {
     }
     let mut k: usize = 0;
     while k < count {
-        if !is_row(after(rows, 24 * k), items, 16 * k) {
+        if !is_row(after(rows, 24 * k), items, records::ITEM_WIDTH * k) {
             return false;
         }
         k += 1;
     }
-    is_filled(items, 16 * count, UNUSED)
+    is_filled(items, records::ITEM_WIDTH * count, UNUSED)
 }
 
 // Where the look-up after the one at `at` stands, which has `count` records.

@@ -40,7 +40,7 @@ fn look_up(body: &[u8], s: Session, index: &mut [u16], items: &mut [u16]) -> Ses
     let count = number(part, 6);
     let t = told(local_records::look_up(text_of(body), number(part, 0), s.note, index, items));
     let same = is_told(t, part) & has_rows(after(part, 10), count, items);
-    fill(items, 16 * count, UNUSED);
+    fill(items, records::ITEM_WIDTH * count, UNUSED);
     Session {
         at: next_place(at, count),
         note: t.note,

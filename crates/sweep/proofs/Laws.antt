@@ -26,10 +26,11 @@ use Rattle.sweep.specs.Facts.{goneOn}
 use Rattle.sweep.proofs.Areas.{written-none, written-more, written-front}
 use Rattle.sweep.proofs.Sizes.{count-append}
 use Rattle.sweep.proofs.Stops.{sweep-in-two}
+use Rattle.records.specs.Widths.{itemWidth, groupWidth}
 
 -- item records ---------------------------------------------------------------------------------------------------------------------
 
-pub item-rows-length : (gs : List Group) → length (itemRows gs) ≡ 16 * itemCount gs
+pub item-rows-length : (gs : List Group) → length (itemRows gs) ≡ itemWidth * itemCount gs
 unfolding flatMap itemCount rowsLength
 item-rows-length [] = refl
 item-rows-length (g ∷ gs) =
@@ -44,7 +45,7 @@ item-rows-append (g ∷ gs) hs = rw (item-rows-append gs hs) (sym (append-assoc 
 
 -- group records --------------------------------------------------------------------------------------------------------------------
 
-pub group-rows-length : (n : ℕ) (ps : List Placed) → length (groupRows n ps) ≡ 5 * length ps
+pub group-rows-length : (n : ℕ) (ps : List Placed) → length (groupRows n ps) ≡ groupWidth * length ps
 unfolding groupRows groupRow
 group-rows-length n [] = refl
 group-rows-length n (p ∷ ps) = let h = group-rows-length (n + length (p .group .items)) ps in omega arith
@@ -80,9 +81,9 @@ end-append from (g ∷ gs) hs = end-append (groupEnd g) gs hs
 module _ (n g m k items groups : ℕ) (h : n ≤ m) (i : g ≤ k) where
   pub fit-less : recordsFit m k items groups ≡ true → recordsFit n g items groups ≡ true
   fit-less e =
-      let a : 16 * m ≤ items = leb-true _ _ (and-left _ _ e) in
-      let b : 5 * k ≤ groups = leb-true _ _ (and-right (leb (16 * m) items) _ e) in
-      rw (le-leb (16 * n) items (omega arith), le-leb (5 * g) groups (omega arith))
+      let a : itemWidth * m ≤ items = leb-true _ _ (and-left _ _ e) in
+      let b : groupWidth * k ≤ groups = leb-true _ _ (and-right (leb (itemWidth * m) items) _ e) in
+      rw (le-leb (itemWidth * n) items (omega arith), le-leb (groupWidth * g) groups (omega arith))
 
   pub fit-both : (x : Bool) → ((x && recordsFit n g items groups) && recordsFit m k items groups) ≡ (x && recordsFit m k items groups)
   fit-both x = go (recordsFit m k items groups) refl
@@ -112,8 +113,8 @@ recorded-none text s items groups room = record {
   fitted = go (s .fits) room;
   item-area = refl;
   group-area = refl;
-  item-rows = λ h. written-none (16 * s .items) items;
-  group-rows = λ h. written-none (5 * s .groups) groups;
+  item-rows = λ h. written-none (itemWidth * s .items) items;
+  group-rows = λ h. written-none (groupWidth * s .groups) groups;
 }
   where
     go : (t : Bool) → (t ≡ true → recordsFit (s .items) (s .groups) (length items) (length groups) ≡ true)
@@ -148,38 +149,38 @@ module _ (text : List ℕ) (gs hs : List Group) (s r t : SweepState) (items grou
   room : t .fits ≡ true → recordsFit (r .items) (r .groups) (length items) (length groups) ≡ true
   room h = and-right (s .fits) _ (sym (a .fitted) ∙ fit-before h)
 
-  item-room : t .fits ≡ true → 16 * s .items + length (itemRows gs) ≤ length items
+  item-room : t .fits ≡ true → itemWidth * s .items + length (itemRows gs) ≤ length items
   item-room h =
-      let x = leb-true (16 * r .items) (length items) (and-left _ _ (room h)) in
+      let x = leb-true (itemWidth * r .items) (length items) (and-left _ _ (room h)) in
       let y = item-rows-length gs in
       let z = a .item-count in
       omega arith
 
-  group-room : t .fits ≡ true → 5 * s .groups + length (groupRows (s .items) (sweptFrom text (s .inside) (s .from) gs)) ≤ length groups
+  group-room : t .fits ≡ true → groupWidth * s .groups + length (groupRows (s .items) (sweptFrom text (s .inside) (s .from) gs)) ≤ length groups
   group-room h =
-      let x = leb-true (5 * r .groups) (length groups) (and-right (leb (16 * r .items) (length items)) _ (room h)) in
+      let x = leb-true (groupWidth * r .groups) (length groups) (and-right (leb (itemWidth * r .items) (length items)) _ (room h)) in
       let y = group-rows-length (s .items) (sweptFrom text (s .inside) (s .from) gs) in
       let w : length (sweptFrom text (s .inside) (s .from) gs) ≡ length gs = placed-length _ text (s .inside) (s .from) gs in
       let z = a .group-count in
       omega arith
 
-  all-items : t .fits ≡ true → items'' ≡ writtenAt (16 * s .items) (itemRows (gs ++ hs)) items
+  all-items : t .fits ≡ true → items'' ≡ writtenAt (itemWidth * s .items) (itemRows (gs ++ hs)) items
   all-items h =
       let y = item-rows-length gs in
       let z = a .item-count in
       b .item-rows h
       ∙ rw (a .item-rows (fit-before h), item-rows-append gs hs)
-      (written-more (16 * s .items) items (itemRows gs) (item-room h) (itemRows hs) (16 * r .items) (omega arith))
+      (written-more (itemWidth * s .items) items (itemRows gs) (item-room h) (itemRows hs) (itemWidth * r .items) (omega arith))
 
   all-groups : t .fits ≡ true
-      → groups'' ≡ writtenAt (5 * s .groups) (groupRows (s .items) (sweptFrom text (s .inside) (s .from) (gs ++ hs))) groups
+      → groups'' ≡ writtenAt (groupWidth * s .groups) (groupRows (s .items) (sweptFrom text (s .inside) (s .from) (gs ++ hs))) groups
   all-groups h =
       let y = group-rows-length (s .items) (sweptFrom text (s .inside) (s .from) gs) in
       let w : length (sweptFrom text (s .inside) (s .from) gs) ≡ length gs = placed-length _ text (s .inside) (s .from) gs in
       let z = a .group-count in
       b .group-rows h
       ∙ rw (a .group-rows (fit-before h), a .item-count, a .line, a .end, group-rows-append text (s .items) (s .inside) (s .from) gs hs)
-      (written-more (5 * s .groups) groups (groupRows (s .items) (sweptFrom text (s .inside) (s .from) gs)) (group-room h) _ (5 * r .groups) (omega arith))
+      (written-more (groupWidth * s .groups) groups (groupRows (s .items) (sweptFrom text (s .inside) (s .from) gs)) (group-room h) _ (groupWidth * r .groups) (omega arith))
 
   pub recorded-both : Recorded text (gs ++ hs) s items groups t items'' groups''
   recorded-both = record {

@@ -25,33 +25,34 @@ use Rattle.sweep.specs.Areas.{writtenAt}
 use Rattle.sweep.specs.Recording.{recordsFit, Counted, ItemsRoom, Recordable, afterGroup, RecordedOne}
 use Rattle.standing.proofs.ItemSizes.{items-size}
 use Rattle.sweep.proofs.Areas.{written-length, written-part}
+use Rattle.records.specs.Widths.{itemWidth, groupWidth}
 
 -- the item records of a group, written from item record `n` on ---------------------------------------------------------------------
 
 module _ (text : List ℕ) (at close n : ℕ) (items : List ℕ) (h : ItemsRoom text at close n items) where
-  pub items-by : 16 * n ≤ length items
+  pub items-by : itemWidth * n ≤ length items
   items-by = let r = h .room in omega arith
 
   pub items-good : goodItems text at close ≡ true
   unfolding groupAccepted
   items-good = and-right (not (barred text close)) _ (h .stands .good)
 
-  pub items-rest : rowsLength (groupOf text at close) ≤ length (take (length items - 16 * n) (drop (16 * n) items))
+  pub items-rest : rowsLength (groupOf text at close) ≤ length (take (length items - itemWidth * n) (drop (itemWidth * n) items))
   unfolding rowsLength groupOf
   items-rest = let r = h .room in simp (length-take, length-drop) (omega arith)
 
-  pub items-back : {back : List ℕ} → back ≡ written (rowsOf (groupOf text at close)) (take (length items - 16 * n) (drop (16 * n) items))
-      → take (16 * n) items ++ (back ++ drop (length items - 16 * n) (drop (16 * n) items))
-      ≡ writtenAt (16 * n) (rowsOf (groupOf text at close)) items
-  items-back {back} e = written-part (16 * n) items (rowsOf (groupOf text at close)) back items-by e
+  pub items-back : {back : List ℕ} → back ≡ written (rowsOf (groupOf text at close)) (take (length items - itemWidth * n) (drop (itemWidth * n) items))
+      → take (itemWidth * n) items ++ (back ++ drop (length items - itemWidth * n) (drop (itemWidth * n) items))
+      ≡ writtenAt (itemWidth * n) (rowsOf (groupOf text at close)) items
+  items-back {back} e = written-part (itemWidth * n) items (rowsOf (groupOf text at close)) back items-by e
 
-  room-for : 16 * n + length (rowsOf (groupOf text at close)) ≤ length items
+  room-for : itemWidth * n + length (rowsOf (groupOf text at close)) ≤ length items
   unfolding rowsLength groupOf
   room-for = let r = h .room in let l = rows-length (groupOf text at close) in omega arith
 
-  pub items-same : {back : List ℕ} → back ≡ written (rowsOf (groupOf text at close)) (take (length items - 16 * n) (drop (16 * n) items))
-      → length (take (16 * n) items ++ (back ++ drop (length items - 16 * n) (drop (16 * n) items))) ≡ length items
-  items-same e = rw (items-back e) (written-length (16 * n) items (rowsOf (groupOf text at close)) room-for)
+  pub items-same : {back : List ℕ} → back ≡ written (rowsOf (groupOf text at close)) (take (length items - itemWidth * n) (drop (itemWidth * n) items))
+      → length (take (itemWidth * n) items ++ (back ++ drop (length items - itemWidth * n) (drop (itemWidth * n) items))) ≡ length items
+  items-same e = rw (items-back e) (written-length (itemWidth * n) items (rowsOf (groupOf text at close)) room-for)
 
 pub ruleset item-laws = (items-by, items-good, items-rest, items-back, items-same)
 
@@ -84,14 +85,14 @@ module _ (text : List ℕ) (at close count : ℕ) (s : SweepState) (items groups
     fit : recordsFit (s .items + count) (s .groups + 1) items groups ≡ true
     fit = sym q ∙ and-right (s .fits) b t
 
-    pub items-room : 16 * (s .items + length (itemsOf text at close)) ≤ items
+    pub items-room : itemWidth * (s .items + length (itemsOf text at close)) ≤ items
     items-room =
         let k = h .stands .counts in
-        let z : 16 * (s .items + count) ≤ items = leb-true _ _ (and-left _ _ fit) in
+        let z : itemWidth * (s .items + count) ≤ items = leb-true _ _ (and-left _ _ fit) in
         omega arith
 
-    pub groups-room : 5 * s .groups + 5 ≤ groups
-    groups-room = let z : 5 * (s .groups + 1) ≤ groups = leb-true _ _ (and-right (leb (16 * (s .items + count)) items) _ fit) in omega arith
+    pub groups-room : groupWidth * s .groups + 5 ≤ groups
+    groups-room = let z : groupWidth * (s .groups + 1) ≤ groups = leb-true _ _ (and-right (leb (itemWidth * (s .items + count)) items) _ fit) in omega arith
 
 pub ruleset room-laws = (items-few, items-word, first-few, count-few, items-room, groups-room)
 
@@ -137,7 +138,7 @@ module _ (text : List ℕ) (at close count : ℕ) (s : SweepState) (items groups
   unfolding flatMap
   items-alone = append-nil (rowsOf (groupOf text at close))
 
-  rows-count : length (rowsOf (groupOf text at close)) ≡ 16 * length (itemsOf text at close)
+  rows-count : length (rowsOf (groupOf text at close)) ≡ itemWidth * length (itemsOf text at close)
   unfolding rowsLength groupOf
   rows-count = rows-length (groupOf text at close)
 
@@ -162,8 +163,8 @@ module _ (text : List ℕ) (at close count : ℕ) (s : SweepState) (items groups
       }
 
   pub recorded-fits : {r : SweepState} {standing : ℕ} {items' groups' : List ℕ} → (s .fits && b) ≡ true → standing ≡ pick inside 0 1
-      → items' ≡ writtenAt (16 * s .items) (rowsOf (groupOf text at close)) items
-      → groups' ≡ writtenAt (5 * s .groups) (at ∷ (close + 1 - at) ∷ s .items ∷ count ∷ standing ∷ []) groups
+      → items' ≡ writtenAt (itemWidth * s .items) (rowsOf (groupOf text at close)) items
+      → groups' ≡ writtenAt (groupWidth * s .groups) (at ∷ (close + 1 - at) ∷ s .items ∷ count ∷ standing ∷ []) groups
       → r ≡ afterGroup s close count inside true
       → RecordedOne text at close s items groups r items' groups'
   recorded-fits {r} {standing} {items'} {groups'} t d i g e =
@@ -180,8 +181,8 @@ module _ (text : List ℕ) (at close count : ℕ) (s : SweepState) (items groups
           line = after-line;
           end = after-end;
           fitted = rw (← q) (sym t);
-          item-area = ap length i ∙ written-length (16 * s .items) items (rowsOf (groupOf text at close)) (omega arith);
-          group-area = ap length g ∙ written-length (5 * s .groups) groups (at ∷ (close + 1 - at) ∷ s .items ∷ count ∷ standing ∷ []) k;
+          item-area = ap length i ∙ written-length (itemWidth * s .items) items (rowsOf (groupOf text at close)) (omega arith);
+          group-area = ap length g ∙ written-length (groupWidth * s .groups) groups (at ∷ (close + 1 - at) ∷ s .items ∷ count ∷ standing ∷ []) k;
           item-rows = λ z. i ∙ rw items-alone refl;
           group-rows = λ z. g ∙ rw (row-alone text (s .items) at close count (s .inside) (s .from) (h .stands .counts), d, l) refl;
         };

@@ -11,6 +11,7 @@ ghost use Rattle.item.specs.Group.{groupOf};
 ghost use Rattle.records.specs.Rows.{rowsOf};
 ghost use Rattle.sweep.specs.Areas.{writtenAt};
 ghost use Rattle.sweep.specs.Recording.{recordsFit, ItemsRoom, Recordable, RecordedOne, afterGroup};
+ghost use Rattle.records.specs.Widths.{itemWidth, groupWidth};
 
 // Where a sweep stands: its place, the counts of the groups and items so far, whether the last group stands in a definition line and
 // where it ended, whether all records so far fitted, and whether the bracket at its place wants a build.
@@ -29,15 +30,15 @@ fn has_room(n: usize, g: usize, items: usize, groups: usize) -> bool
     requires { ⌜ (n ≤ 65535) × (g ≤ 65535) ⌝ }
     ensures { λ r. ⌜ r ≡ recordsFit n g items groups ⌝ }
 {
-    (16 * n <= items) & (5 * g <= groups)
+    (records::ITEM_WIDTH * n <= items) & (records::GROUP_WIDTH * g <= groups)
 }
 
 // Writes the item records of the group from `at` to `close`, from item record `n` on.
 fn write_items(text: &[u8], at: usize, close: usize, n: usize, items: &mut [u16])
     requires { ⌜ ItemsRoom (now text) at close n (now items) ⌝ }
-    ensures { λ _. ⌜ now (items .exit) ≡ writtenAt (16 * n) (rowsOf (groupOf (now (text .entry)) at close)) (now (items .entry)) ⌝ }
+    ensures { λ _. ⌜ now (items .exit) ≡ writtenAt (itemWidth * n) (rowsOf (groupOf (now (text .entry)) at close)) (now (items .entry)) ⌝ }
 {
-    let k = 16 * n;
+    let k = records::ITEM_WIDTH * n;
     write_rows(text, at, close, &mut items[k..]);
 }
 
@@ -51,15 +52,15 @@ fn write_group(
     count: usize,
     standing: u16,
 )
-    requires { ⌜ (5 * g + 5 ≤ length (now groups)) × (at ≤ 65535) × (len ≤ 65535) × (first ≤ 65535) × (count ≤ 65535) ⌝ }
-    ensures { λ _. ⌜ now (groups .exit) ≡ writtenAt (5 * g) (at ∷ len ∷ first ∷ count ∷ standing ∷ []) (now (groups .entry)) ⌝ }
+    requires { ⌜ (groupWidth * g + groupWidth ≤ length (now groups)) × (at ≤ 65535) × (len ≤ 65535) × (first ≤ 65535) × (count ≤ 65535) ⌝ }
+    ensures { λ _. ⌜ now (groups .exit) ≡ writtenAt (groupWidth * g) (at ∷ len ∷ first ∷ count ∷ standing ∷ []) (now (groups .entry)) ⌝ }
 {
-    let k = 5 * g;
+    let k = records::GROUP_WIDTH * g;
     groups[k] = at as u16;
-    groups[k + 1] = len as u16;
-    groups[k + 2] = first as u16;
-    groups[k + 3] = count as u16;
-    groups[k + 4] = standing;
+    groups[k + records::GROUP_LENGTH] = len as u16;
+    groups[k + records::GROUP_FIRST] = first as u16;
+    groups[k + records::GROUP_COUNT] = count as u16;
+    groups[k + records::GROUP_STANDING] = standing;
 }
 
 // The state after a group that ends with `close`.

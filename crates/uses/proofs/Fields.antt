@@ -10,7 +10,7 @@ use Rattle.base.specs.declared.Span.{Span}
 use Rattle.base.specs.Spans.{span}
 use Rattle.item.specs.declared.Item.{Item}
 use Rattle.records.specs.Rows.{recordOf}
-use Rattle.records.specs.Widths.{itemWidth}
+use Rattle.records.specs.Widths.{itemWidth, item-number, item-label, item-label-length, item-use, group-standing}
 use Rattle.standing.specs.Rows.{Placed, placed, groupRow}
 use Rattle.records.specs.Widths.{groupWidth}
 use Rattle.records.specs.Records.{groupField}
@@ -49,7 +49,7 @@ set-last before integral i n₀ u₀ l₀ after k n u at len h =
 
 -- the standing of a group record
 pub set-standing : (before : List ℕ) (p : Placed) (after : List ℕ) (g k s : ℕ) → length before ≡ groupWidth * g
-    → set (before ++ (groupRow k p ++ after)) (groupWidth * g + 4) s ≡ before ++ (groupRow k (placed (p .group) s) ++ after)
+    → set (before ++ (groupRow k p ++ after)) (groupWidth * g + group-standing) s ≡ before ++ (groupRow k (placed (p .group) s) ++ after)
 unfolding groupRow
 set-standing before p after g k s h = rw (← h) (set-append-add before _ 4 s)
 
@@ -63,23 +63,23 @@ SameGroups groups others = (g c : ℕ) → c < 4 → groupField groups g c ≡ g
 module _ (items : List ℕ) (k n u at len : ℕ) where
   -- the last four numbers of an item record, written one after the other
   abbrev one : List ℕ
-  one = set items (itemWidth * k + 12) n
+  one = set items (itemWidth * k + item-number) n
 
   abbrev second : List ℕ
-  second = set one (itemWidth * k + 13) u
+  second = set one (itemWidth * k + item-use) u
 
   abbrev third : List ℕ
-  third = set second (itemWidth * k + 14) at
+  third = set second (itemWidth * k + item-label) at
 
   -- a place that is none of those that are written
   set-last-away : (p : ℕ) → ((c : ℕ) → 12 ≤ c → c < itemWidth → p ≡ itemWidth * k + c → ⊥)
       → getD (setLast items k n u at len) p 0 ≡ getD items p 0
   unfolding setLast
   set-last-away p h =
-      getD-set-other third (itemWidth * k + 15) p len 0 (h 15 (omega arith) (omega arith))
-      ∙ getD-set-other second (itemWidth * k + 14) p at 0 (h 14 (omega arith) (omega arith))
-      ∙ getD-set-other one (itemWidth * k + 13) p u 0 (h 13 (omega arith) (omega arith))
-      ∙ getD-set-other items (itemWidth * k + 12) p n 0 (h 12 (omega arith) (omega arith))
+      getD-set-other third (itemWidth * k + item-label-length) p len 0 (h 15 (omega arith) (omega arith))
+      ∙ getD-set-other second (itemWidth * k + item-label) p at 0 (h 14 (omega arith) (omega arith))
+      ∙ getD-set-other one (itemWidth * k + item-use) p u 0 (h 13 (omega arith) (omega arith))
+      ∙ getD-set-other items (itemWidth * k + item-number) p n 0 (h 12 (omega arith) (omega arith))
 
   -- no other item record changes
   pub set-last-other : (j c : ℕ) → (j ≡ k → ⊥) → c < itemWidth → itemField (setLast items k n u at len) j c ≡ itemField items j c
@@ -88,28 +88,28 @@ module _ (items : List ℕ) (k n u at len : ℕ) where
 
   -- the number and the label pair of the record itself
   module _ (h : itemWidth * k + itemWidth ≤ length items) where
-    pub set-last-number : itemField (setLast items k n u at len) k 12 ≡ n
+    pub set-last-number : itemField (setLast items k n u at len) k item-number ≡ n
     unfolding itemField setLast
     set-last-number =
-        getD-set-other third (itemWidth * k + 15) (itemWidth * k + 12) len 0 (λ e. omega arith)
-        ∙ getD-set-other second (itemWidth * k + 14) (itemWidth * k + 12) at 0 (λ e. omega arith)
-        ∙ getD-set-other one (itemWidth * k + 13) (itemWidth * k + 12) u 0 (λ e. omega arith)
-        ∙ getD-set-same items (itemWidth * k + 12) n 0 (omega arith)
+        getD-set-other third (itemWidth * k + item-label-length) (itemWidth * k + item-number) len 0 (λ e. omega arith)
+        ∙ getD-set-other second (itemWidth * k + item-label) (itemWidth * k + item-number) at 0 (λ e. omega arith)
+        ∙ getD-set-other one (itemWidth * k + item-use) (itemWidth * k + item-number) u 0 (λ e. omega arith)
+        ∙ getD-set-same items (itemWidth * k + item-number) n 0 (omega arith)
 
-    pub set-last-at : itemField (setLast items k n u at len) k 14 ≡ at
+    pub set-last-at : itemField (setLast items k n u at len) k item-label ≡ at
     unfolding itemField setLast
     set-last-at =
-        getD-set-other third (itemWidth * k + 15) (itemWidth * k + 14) len 0 (λ e. omega arith)
-        ∙ getD-set-same second (itemWidth * k + 14) at 0 (simp length-set (omega arith))
+        getD-set-other third (itemWidth * k + item-label-length) (itemWidth * k + item-label) len 0 (λ e. omega arith)
+        ∙ getD-set-same second (itemWidth * k + item-label) at 0 (simp length-set (omega arith))
 
-    pub set-last-len : itemField (setLast items k n u at len) k 15 ≡ len
+    pub set-last-len : itemField (setLast items k n u at len) k item-label-length ≡ len
     unfolding itemField setLast
-    set-last-len = getD-set-same third (itemWidth * k + 15) len 0 (simp length-set (omega arith))
+    set-last-len = getD-set-same third (itemWidth * k + item-label-length) len 0 (simp length-set (omega arith))
 
 pub set-last-same : (items : List ℕ) (k n u at len : ℕ) → SameItems (setLast items k n u at len) items
 unfolding itemField
 set-last-same items k n u at len j c h = set-last-away items k n u at len (itemWidth * j + c) (λ d a b e. omega arith)
 
-pub set-standing-same : (groups : List ℕ) (g s : ℕ) → SameGroups (set groups (groupWidth * g + 4) s) groups
+pub set-standing-same : (groups : List ℕ) (g s : ℕ) → SameGroups (set groups (groupWidth * g + group-standing) s) groups
 unfolding groupField
-set-standing-same groups g s j c h = getD-set-other groups (groupWidth * g + 4) (groupWidth * j + c) s 0 (λ e. omega arith)
+set-standing-same groups g s j c h = getD-set-other groups (groupWidth * g + group-standing) (groupWidth * j + c) s 0 (λ e. omega arith)

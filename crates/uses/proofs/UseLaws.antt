@@ -15,13 +15,14 @@ use Rattle.records.specs.Fields.{itemField}
 use Rattle.uses.specs.Uses.{sameUse, lastUse, alikeAt, sameLabel, lastAlike, numberIn, useIn, sourcesIn, setLast}
 use Rattle.uses.specs.Uses.{Counts}
 use Rattle.base.proofs.Lasts.{last-out, last-stop, last-more}
+use Rattle.records.specs.Widths.{item-number, item-marks, item-use, itemWidth}
 
-module _ (text items key : List ℕ) (j : ℕ) {n : ℕ} (p : n ≡ itemField items j 12) where
-  pub use-none : n ≡ 0 → false ≡ (ltb 0 (itemField items j 12) && same (keyIn text items j) key)
+module _ (text items key : List ℕ) (j : ℕ) {n : ℕ} (p : n ≡ itemField items j item-number) where
+  pub use-none : n ≡ 0 → false ≡ (ltb 0 (itemField items j item-number) && same (keyIn text items j) key)
   use-none h = rw (← p, h) refl
 
   pub use-same : {own : List ℕ} {r : Bool} → (n ≡ 0 → ⊥) → own ≡ keyIn text items j → r ≡ same own key
-      → r ≡ (ltb 0 (itemField items j 12) && same (keyIn text items j) key)
+      → r ≡ (ltb 0 (itemField items j item-number) && same (keyIn text items j) key)
   use-same h q e = let l : 0 < n = omega arith in e ∙ rw (← p, lt-ltb 0 n l, q) refl
 
 -- the search for the last use of a key
@@ -34,7 +35,7 @@ module _ (text items : List ℕ) (k i : ℕ) where
   use-end p = last-out (sameUse text items k) k i p
 
   module _ {w : ℕ} {b : Bool} {key : List ℕ} (p : w ≡ last (sameUse text items k) i k) (l : 0 < i) (e : key ≡ keyIn text items k)
-      (q : b ≡ (ltb 0 (itemField items (i - 1) 12) && same (keyIn text items (i - 1)) key)) where
+      (q : b ≡ (ltb 0 (itemField items (i - 1) item-number) && same (keyIn text items (i - 1)) key)) where
     tested : b ≡ sameUse text items k (i - 1)
     unfolding sameUse
     tested = q ∙ rw e refl
@@ -48,11 +49,11 @@ module _ (text items : List ℕ) (k i : ℕ) where
 pub ruleset use-laws = (use-none, use-same, use-start, use-end, use-here, use-before)
 
 -- a record with the same label
-module _ (text items key : List ℕ) (number mark j : ℕ) {a : ℕ} (p : a ≡ itemField items j 12) where
+module _ (text items key : List ℕ) (number mark j : ℕ) {a : ℕ} (p : a ≡ itemField items j item-number) where
   pub alike-other : (a ≡ number → ⊥) → false ≡ alikeAt text items number mark key j
   alike-other h = rw (← p, ne-eqb a number h) refl
 
-  module _ {b : ℕ} (e : a ≡ number) (q : b ≡ itemField items j 11) where
+  module _ {b : ℕ} (e : a ≡ number) (q : b ≡ itemField items j item-marks) where
     pub alike-unmarked : (b % 2 ≡ mark → ⊥) → false ≡ alikeAt text items number mark key j
     alike-unmarked h = rw (← p, ← q, eq-eqb a number e, ne-eqb (b % 2) mark h) refl
 
@@ -69,7 +70,7 @@ module _ (text items : List ℕ) (k number i : ℕ) where
   alike-end p = last-out (sameLabel text items k number) k i p
 
   module _ {w : ℕ} {b : Bool} {mark : ℕ} {key : List ℕ} (p : w ≡ last (sameLabel text items k number) i k) (l : 0 < i)
-      (o : mark ≡ itemField items k 11 % 2) (e : key ≡ keyIn text items k)
+      (o : mark ≡ itemField items k item-marks % 2) (e : key ≡ keyIn text items k)
       (q : b ≡ alikeAt text items number mark key (i - 1)) where
     alike-tested : b ≡ sameLabel text items k number (i - 1)
     unfolding sameLabel
@@ -85,7 +86,7 @@ pub ruleset alike-laws = (alike-other, alike-unmarked, alike-same, alike-start, 
 
 -- the number and the use where the key was used before, and where it was not
 module _ (text items : List ℕ) (pooled : Bool) (sources k : ℕ) {j : ℕ} (p : j ≡ lastUse text items k) where
-  pub counts-again : {n u v : ℕ} → j < k → n ≡ itemField items j 12 → u ≡ itemField items j 13 → v ≡ pick pooled ((u + 1) % 65536) 0
+  pub counts-again : {n u v : ℕ} → j < k → n ≡ itemField items j item-number → u ≡ itemField items j item-use → v ≡ pick pooled ((u + 1) % 65536) 0
       → Counts text items pooled sources k (record { number = n; use_index = v; sources = sources })
   unfolding numberIn useIn sourcesIn
   counts-again {n} {u} {v} h q r e = record {
@@ -107,8 +108,8 @@ module _ (text items : List ℕ) (pooled : Bool) (sources k : ℕ) {j : ℕ} (p 
 
 pub ruleset count-laws = (counts-again, counts-first)
 
-pub set-four : (items : List ℕ) (k n u a l : ℕ) {i1 i2 i3 i4 : List ℕ} → i1 ≡ set items (16 * k + 12) n → i2 ≡ set i1 (16 * k + 13) u
-    → i3 ≡ set i2 (16 * k + 14) a → i4 ≡ set i3 (16 * k + 15) l → i4 ≡ setLast items k n u a l
+pub set-four : (items : List ℕ) (k n u a l : ℕ) {i1 i2 i3 i4 : List ℕ} → i1 ≡ set items (itemWidth * k + 12) n → i2 ≡ set i1 (itemWidth * k + 13) u
+    → i3 ≡ set i2 (itemWidth * k + 14) a → i4 ≡ set i3 (itemWidth * k + 15) l → i4 ≡ setLast items k n u a l
 unfolding setLast
 set-four items k n u a l p q r s = s ∙ rw (r, q, p) refl
 

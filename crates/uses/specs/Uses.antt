@@ -8,7 +8,7 @@ use lib.Dec.{eqb, ltb}
 use Rattle.base.specs.Pick.{pick}
 use Rattle.base.specs.LastPlace.{last}
 use Rattle.base.specs.Lists.{same}
-use Rattle.records.specs.Widths.{itemWidth}
+use Rattle.records.specs.Widths.{itemWidth, item-number, item-marks, item-use, item-label, item-label-length}
 use Rattle.records.specs.Records.{keyIn}
 use Rattle.records.specs.Fields.{itemField}
 use Prim.Native.Nat.{_≤_}
@@ -17,7 +17,7 @@ use Rattle.uses.specs.declared.Count.{Count}
 
 -- item record `j` is numbered, and has this key
 abbrev pub usedAt : List ℕ → List ℕ → List ℕ → ℕ → Bool
-usedAt text items key j = ltb 0 (itemField items j 12) && same (keyIn text items j) key
+usedAt text items key j = ltb 0 (itemField items j item-number) && same (keyIn text items j) key
 
 -- it is numbered, and has the key of record `k`
 unfoldable pub sameUse : List ℕ → List ℕ → ℕ → ℕ → Bool
@@ -30,11 +30,11 @@ lastUse text items k = last (sameUse text items k) k k
 -- item record `j` has this number, this mark of suppression and this key
 abbrev pub alikeAt : List ℕ → List ℕ → ℕ → ℕ → List ℕ → ℕ → Bool
 alikeAt text items number mark key j =
-    eqb (itemField items j 12) number && eqb (itemField items j 11 % 2) mark && same (keyIn text items j) key
+    eqb (itemField items j item-number) number && eqb (itemField items j item-marks % 2) mark && same (keyIn text items j) key
 
 -- it has this number, and the mark of suppression and the key of record `k`
 unfoldable pub sameLabel : List ℕ → List ℕ → ℕ → ℕ → ℕ → Bool
-sameLabel text items k number j = alikeAt text items number (itemField items k 11 % 2) (keyIn text items k) j
+sameLabel text items k number j = alikeAt text items number (itemField items k item-marks % 2) (keyIn text items k) j
 
 -- the last such record before `k`; `k` where there is none
 unfoldable pub lastAlike : List ℕ → List ℕ → ℕ → ℕ → ℕ
@@ -43,12 +43,12 @@ lastAlike text items k number = last (sameLabel text items k number) k k
 -- the number of item record `k`, `sources` being those so far. (A record's number is a u16.)
 unfoldable pub numberIn : List ℕ → List ℕ → ℕ → ℕ → ℕ
 numberIn text items sources k =
-    pick (ltb (lastUse text items k) k) (itemField items (lastUse text items k) 12) ((sources + 1) % 65536)
+    pick (ltb (lastUse text items k) k) (itemField items (lastUse text items k) item-number) ((sources + 1) % 65536)
 
 -- its use: one more than that of the last such record; 0 without a pool
 unfoldable pub useIn : List ℕ → List ℕ → Bool → ℕ → ℕ
 useIn text items pooled k =
-    pick pooled (pick (ltb (lastUse text items k) k) ((itemField items (lastUse text items k) 13 + 1) % 65536) 1) 0
+    pick pooled (pick (ltb (lastUse text items k) k) ((itemField items (lastUse text items k) item-use + 1) % 65536) 1) 0
 
 -- the sources after item record `k`
 unfoldable pub sourcesIn : List ℕ → List ℕ → ℕ → ℕ → ℕ
@@ -60,10 +60,10 @@ setLast items k number use-index at len =
     set
     (set
     (set
-    (set items (itemWidth * k + 12) number)
-    (itemWidth * k + 13) use-index)
-    (itemWidth * k + 14) at)
-    (itemWidth * k + 15) len
+    (set items (itemWidth * k + item-number) number)
+    (itemWidth * k + item-use) use-index)
+    (itemWidth * k + item-label) at)
+    (itemWidth * k + item-label-length) len
 
 -- the number and the use of item record `k`, and the sources after it
 pub record Counts (text items : List ℕ) (pooled : Bool) (before k : ℕ) (r : Count) : Type 0 where

@@ -17,7 +17,7 @@ pub fn is_use(text: &[u8], items: &[u16], j: usize, key: &[u8]) -> bool
     requires { ⌜ j < 4294967296 ⌝ }
     ensures { λ r. ⌜ r ≡ usedAt (now (text .entry)) (now (items .entry)) (now (key .entry)) j ⌝ }
 {
-    let number = records::item_field(items, j, 12);
+    let number = records::item_field(items, j, records::ITEM_NUMBER);
     if number == 0 {
         return false;
     }
@@ -45,10 +45,10 @@ fn is_alike(text: &[u8], items: &[u16], number: usize, mark: usize, key: &[u8], 
     requires { ⌜ j < 4294967296 ⌝ }
     ensures { λ r. ⌜ r ≡ alikeAt (now (text .entry)) (now (items .entry)) number mark (now (key .entry)) j ⌝ }
 {
-    if records::item_field(items, j, 12) != number {
+    if records::item_field(items, j, records::ITEM_NUMBER) != number {
         return false;
     }
-    if records::item_field(items, j, 11) % 2 != mark {
+    if records::item_field(items, j, records::ITEM_MARKS) % 2 != mark {
         return false;
     }
     base::bytes::is_same(records::key_in(text, items, j), key)
@@ -60,7 +60,7 @@ pub fn last_alike(text: &[u8], items: &[u16], k: usize, number: usize) -> usize
     requires { ⌜ k < 4294967296 ⌝ }
     ensures { λ r. ⌜ r ≡ lastAlike (now (text .entry)) (now (items .entry)) k number ⌝ }
 {
-    let mark = records::item_field(items, k, 11) % 2;
+    let mark = records::item_field(items, k, records::ITEM_MARKS) % 2;
     let key = records::key_in(text, items, k);
     let mut j = k;
     while 0 < j {
@@ -92,8 +92,8 @@ pub fn count_in(text: &[u8], items: &[u16], pooled: bool, sources: usize, k: usi
     let j = last_use(text, items, k);
     if j < k {
         Count {
-            number: records::item_field(items, j, 12) as u16,
-            use_index: next_use(pooled, records::item_field(items, j, 13)),
+            number: records::item_field(items, j, records::ITEM_NUMBER) as u16,
+            use_index: next_use(pooled, records::item_field(items, j, records::ITEM_USE)),
             sources,
         }
     } else {
@@ -110,8 +110,8 @@ pub fn set_last(items: &mut [u16], k: usize, number: u16, use_index: u16, at: u1
     requires { ⌜ k < 4294967296 ⌝ }
     ensures { λ _. ⌜ now (items .exit) ≡ setLast (now (items .entry)) k number use_index at len ⌝ }
 {
-    records::put(items, 16 * k + 12, number);
-    records::put(items, 16 * k + 13, use_index);
-    records::put(items, 16 * k + 14, at);
-    records::put(items, 16 * k + 15, len);
+    records::put(items, records::ITEM_WIDTH * k + records::ITEM_NUMBER, number);
+    records::put(items, records::ITEM_WIDTH * k + records::ITEM_USE, use_index);
+    records::put(items, records::ITEM_WIDTH * k + records::ITEM_LABEL, at);
+    records::put(items, records::ITEM_WIDTH * k + records::ITEM_LABEL_LENGTH, len);
 }

@@ -8,10 +8,11 @@ use Rattle.line_writers.specs.Lines.{groupLines}
 use Rattle.line_writers.proofs.Puts.{Along}
 use Rattle.line_writers.proofs.put_groups.Statement.{statement}
 use Rattle.line_writers.proofs.put_groups.Tie as tie
+use Rattle.records.specs.Widths.{groupWidth}
 
 abbrev Inv-loop : tie.InvT-loop
 Inv-loop text n groups items out₀ k at₀ g₀ out at g =
-    (g ≤ n) × (length out ≡ length out₀) × Along (groupLines n text groups items) (groupLines (n - g) text (drop (5 * g) groups) items) k out₀ out at
+    (g ≤ n) × (length out ≡ length out₀) × Along (groupLines n text groups items) (groupLines (n - g) text (drop (groupWidth * g) groups) items) k out₀ out at
 
 abbrev μ-loop : tie.MeasureT-loop
 μ-loop text n groups items out₀ k at₀ g₀ out at g = n - g

@@ -8,10 +8,11 @@ use Rattle.line_writers.specs.Lines.{itemLines, linesOf}
 use Rattle.line_writers.proofs.Puts.{Along}
 use Rattle.line_writers.proofs.put_lines.Statement.{statement}
 use Rattle.line_writers.proofs.put_lines.Tie as tie
+use Rattle.records.specs.Widths.{itemWidth, groupWidth}
 
 abbrev Inv-loop : tie.InvT-loop
 Inv-loop text groups g items out₀ k first count at₀ j₀ out at j =
-    (j ≤ count) × (length out ≡ length out₀) × Along (linesOf text (drop (5 * g) groups) items) (itemLines (count - j) text (drop (5 * g) groups) (drop (16 * (first + j)) items)) k out₀ out at
+    (j ≤ count) × (length out ≡ length out₀) × Along (linesOf text (drop (groupWidth * g) groups) items) (itemLines (count - j) text (drop (groupWidth * g) groups) (drop (itemWidth * (first + j)) items)) k out₀ out at
 
 abbrev μ-loop : tie.MeasureT-loop
 μ-loop text groups g items out₀ k first count at₀ j₀ out at j = count - j

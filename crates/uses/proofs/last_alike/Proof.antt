@@ -10,9 +10,10 @@ use borrow.Author.Needs.{needs}
 use Rattle.uses.proofs.UseLaws.{alike-laws}
 use Rattle.uses.proofs.last_alike.Statement.{statement}
 use Rattle.uses.proofs.last_alike.Tie as tie
+use Rattle.records.specs.Widths.{item-marks}
 
 abbrev Inv-loop : tie.InvT-loop
-Inv-loop text items k number mark key j₀ j = (j ≤ k) × (mark ≡ itemField items k 11 % 2) × (key ≡ keyIn text items k) × (lastAlike text items k number ≡ last (sameLabel text items k number) j k)
+Inv-loop text items k number mark key j₀ j = (j ≤ k) × (mark ≡ itemField items k item-marks % 2) × (key ≡ keyIn text items k) × (lastAlike text items k number ≡ last (sameLabel text items k number) j k)
 
 abbrev μ-loop : tie.MeasureT-loop
 μ-loop text items k number mark key j₀ j = j

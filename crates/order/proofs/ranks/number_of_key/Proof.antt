@@ -10,9 +10,10 @@ use borrow.Author.Needs.{needs}
 use Rattle.order.proofs.RankLaws.{use-laws}
 use Rattle.order.proofs.ranks.number_of_key.Statement.{statement}
 use Rattle.order.proofs.ranks.number_of_key.Tie as tie
+use Rattle.records.specs.Widths.{item-number}
 
 abbrev Inv-loop : tie.InvT-loop
-Inv-loop text items m key j₀ j = (j ≤ m) × (numberOfKey text items m key ≡ itemField items (first (usedAt text items key) (m - j) j) 12)
+Inv-loop text items m key j₀ j = (j ≤ m) × (numberOfKey text items m key ≡ itemField items (first (usedAt text items key) (m - j) j) item-number)
 
 abbrev μ-loop : tie.MeasureT-loop
 μ-loop text items m key j₀ j = m - j
