@@ -14,12 +14,12 @@ use Rattle.item.specs.Group.{Group}
 use Rattle.resolve.specs.Resolve.{noteAfter, indexAfter, recordsAfter}
 use Rattle.sweep.specs.declared.group_records.SweepState.{SweepState}
 use Rattle.sweep.specs.Sweep.{Lent, lentOf, lentAfter, sweepRun}
-use Rattle.standing.specs.Rows.{groupRows, itemCount, itemRows}
+use Rattle.standing.specs.GroupRecords.{groupRecords, itemCount, itemRecords}
 use Rattle.standing.specs.Swept.{sweptFrom}
 use Rattle.sweep.specs.Stops.{startState, SweptTo}
 use Rattle.sweep.specs.Recording.{Recorded}
 use Rattle.standing.proofs.Swept.{placed-length}
-use Rattle.sweep.proofs.Laws.{item-rows-length, group-rows-length, all-groups-count, all-items-count, all-fitted, all-item-rows, all-group-rows, swept-whole, swept-lent}
+use Rattle.sweep.proofs.Laws.{item-records-length, group-records-length, all-groups-count, all-items-count, all-fitted, all-item-records, all-group-records, swept-whole, swept-lent}
 use Rattle.numbering.specs.Numbers.{Numbered, numberAll}
 use Rattle.numbering.specs.Progress.{Unnumbered}
 use Rattle.numbering.proofs.LabelledLaws.{swept-unnumbered}
@@ -29,7 +29,7 @@ use Rattle.annotation.specs.declared.answer.Annotation.the-variants.{Acc
 use Rattle.annotation.specs.declared.preparation.Begun.{Begun}
 use Rattle.annotation.specs.Content.{Areas, areas, contentOf}
 use Rattle.annotation.specs.Refusal.{annotateRefusal}
-use Rattle.annotation.specs.Call.{annotateRefused, roomFor, filled, zeroFilled, annotateGives, answerOf, AnnotateRan, annotateRan, annotateSwept, annotateRun, zeros}
+use Rattle.annotation.specs.Call.{annotateRefused, roomFor, contentWritten, zeroFilled, annotateGives, answerOf, AnnotateRan, annotateRan, annotateSwept, annotateRun, zeros}
 use Rattle.annotation.specs.Halves.{Zeroed, Done, BegunBy}
 use Rattle.annotation.specs.Values.{annotationValues, annotationAnswer, annotationNumbers}
 use Rattle.annotation.specs.Steps.{sweptItems, sweptGroups, numberedFrom, Fits, ContentAs}
@@ -100,10 +100,10 @@ module _ {text : List ℕ} {mode : ℕ} {pool : List ℕ} {note : ℕ} {index₀
     fits = swept-fits text lent (not-refused .enough .short)
 
     abbrev restItems : List ℕ
-    restItems = drop (length (itemRows all)) items₀
+    restItems = drop (length (itemRecords all)) items₀
 
     abbrev restGroups : List ℕ
-    restGroups = drop (length (groupRows 0 (sweptFrom text false 0 all))) groups₀
+    restGroups = drop (length (groupRecords 0 (sweptFrom text false 0 all))) groups₀
 
     abbrev known : Numbered
     known = numberedFrom text mode all pool restItems restGroups
@@ -121,11 +121,11 @@ module _ {text : List ℕ} {mode : ℕ} {pool : List ℕ} {note : ℕ} {index₀
     module _ (f : s .fits ≡ true) where
       items-then : items' ≡ sweptItems all restItems
       unfolding written
-      items-then = all-item-rows whole f
+      items-then = all-item-records whole f
 
       groups-then : groups' ≡ sweptGroups text all restGroups
       unfolding written
-      groups-then = all-group-rows whole f
+      groups-then = all-group-records whole f
 
       -- none of the records has a number yet
       pub items-unnumbered : Unnumbered (s .items) items'
@@ -147,7 +147,7 @@ module _ {text : List ℕ} {mode : ℕ} {pool : List ℕ} {note : ℕ} {index₀
       unfolding written
       then-items =
           ap (λ (x : Numbered). x .items) then-known
-          ∙ (agrees .items ∙ ap (λ (n : ℕ). content .items ++ drop n items₀) (item-rows-length all ∙ sym (agrees .item-count)))
+          ∙ (agrees .items ∙ ap (λ (n : ℕ). content .items ++ drop n items₀) (item-records-length all ∙ sym (agrees .item-count)))
 
       then-groups : made .groups ≡ written (content .groups) groups₀
       unfolding written
@@ -155,7 +155,7 @@ module _ {text : List ℕ} {mode : ℕ} {pool : List ℕ} {note : ℕ} {index₀
           ap (λ (x : Numbered). x .groups) then-known
           ∙ (agrees .groups
           ∙ ap (λ (n : ℕ). content .groups ++ drop n groups₀)
-          (group-rows-length 0 (sweptFrom text false 0 all) ∙ (ap (λ (n : ℕ). groupWidth * n) (placed-length _ text false 0 all) ∙ sym (agrees .group-count))))
+          (group-records-length 0 (sweptFrom text false 0 all) ∙ (ap (λ (n : ℕ). groupWidth * n) (placed-length _ text false 0 all) ∙ sym (agrees .group-count))))
 
       -- there are no more sources than a number of 16 bits holds
       pub sources-short : made .sources ≤ 65535
@@ -225,7 +225,7 @@ module _ {text : List ℕ} {mode : ℕ} {pool : List ℕ} {note : ℕ} {index₀
         → references' ≡ pick t (written (wanted .references) references) (zeros references)
         → labels' ≡ pick t (written (wanted .labels) labels) (zeros labels)
         → Done ran r items' groups' references' labels'
-    unfolding annotateRan annotationAnswer annotationValues annotationNumbers annotateGives filled zeroFilled lentAfter
+    unfolding annotateRan annotationAnswer annotationValues annotationNumbers annotateGives contentWritten zeroFilled lentAfter
     done-by e true q v i g f l = record {
       answer = v ∙ rw (ran-swept, q, e);
       values = ap annotationValues v ∙ rw (ran-swept, q, e);

@@ -15,7 +15,7 @@ use Rattle.base.proofs.Sames.{same-true}
 use Rattle.item.specs.Group.{Group}
 use Rattle.pool.specs.Layout.{hasPool}
 use Rattle.definition.specs.Defs.{defOf}
-use Rattle.standing.specs.Rows.{itemCount}
+use Rattle.standing.specs.GroupRecords.{itemCount}
 use Rattle.records.specs.Widths.{groupWidth, item-number}
 use Rattle.standing.proofs.Swept.{placed-length}
 use Rattle.definition.specs.Definitions.{definitionIn}
@@ -25,7 +25,7 @@ use Rattle.numbering.specs.Numbers.{Numbered}
 use Rattle.uses.specs.Uses.{usedAt}
 use Rattle.order.specs.References.{hasNumber, firstWith, sourceKeyIn, rankIn, referencesIn, numberOfKey, SourcesKnown}
 use Rattle.order.proofs.Insertions.{order-length, order-same}
-use Rattle.sweep.proofs.Laws.{group-rows-length}
+use Rattle.sweep.proofs.Laws.{group-records-length}
 use Rattle.numbering.proofs.ByLines.{definition-same}
 use Rattle.annotation.specs.Sources.{Source, placeOf, numberOf, sourceKey}
 use Rattle.annotation.specs.Order.{rankOf, referencesOf}
@@ -138,7 +138,7 @@ content-agrees text mode all pool restItems restGroups f = record {
   labels = n .labels;
   references = references-agree text mode all pool restItems restGroups f;
   item-count = tally-agrees text mode all pool restItems restGroups f .count;
-  group-count = group-rows-length 0 (placedFrom text all pool false 0 all) ∙ ap (λ (m : ℕ). groupWidth * m) (placed-length _ text false 0 all);
+  group-count = group-records-length 0 (placedFrom text all pool false 0 all) ∙ ap (λ (m : ℕ). groupWidth * m) (placed-length _ text false 0 all);
   source-count = references-length text mode all pool (tallyOf text mode all pool .sources) ∙ sym (n .sources);
 }
   where

@@ -9,7 +9,7 @@ use lib.Dec.{eqb}
 use Rattle.base.specs.Pick.{pick}
 use Rattle.item.specs.Group.{Group}
 use Rattle.definition_line.specs.Lines.{keyOf}
-use Rattle.standing.specs.Rows.{Placed, itemCount}
+use Rattle.standing.specs.GroupRecords.{Placed, itemCount}
 use Rattle.standing.proofs.Swept.{groupsOf, placed-groups}
 use Rattle.annotation.specs.Sources.{Source}
 use Rattle.annotation.specs.Content.{placedOf, tallyOf}

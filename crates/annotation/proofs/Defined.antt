@@ -16,7 +16,7 @@ use Rattle.item.specs.Group.{Group}
 use Rattle.definition_line.specs.Lines.{keyOf, inLine, groupEnd}
 use Rattle.definition.specs.Defs.{defOf, isDefined}
 use Rattle.annotation.specs.Sources.{Source, source, sourceKey, used}
-use Rattle.standing.specs.Rows.{placedBy}
+use Rattle.standing.specs.GroupRecords.{placedBy}
 use Rattle.annotation.specs.Content.{allDefined, standingOf, placedFrom, placedOf, tallyOf}
 use Rattle.annotation.specs.Items.{numberedKeys}
 use Rattle.annotation.proofs.Numbers.{step, tally-uses}

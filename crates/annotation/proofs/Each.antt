@@ -11,7 +11,7 @@ use Rattle.base.specs.Fold.{fold}
 use Rattle.item.specs.declared.Item.{Item}
 use Rattle.item.specs.Group.{Group}
 use Rattle.records.specs.Widths.{itemWidth}
-use Rattle.standing.specs.Rows.{Placed, itemCount}
+use Rattle.standing.specs.GroupRecords.{Placed, itemCount}
 use Rattle.standing.proofs.Swept.{groupsOf}
 use Rattle.records.specs.Fields.{itemField}
 use Rattle.annotation.specs.Sources.{Source}

@@ -15,7 +15,7 @@ use Rattle.item.specs.Group.{Group, groupOf}
 use Rattle.resolve.specs.Resolve.{closeAsRun, groupAsRun}
 use Rattle.resolve.specs.Looks.{Inside}
 use Rattle.resolve.proofs.Runs.{run-inside}
-use Rattle.sweep.specs.Sweep.{Lent, Swept, swept, listed, nextAt, lentAfter, foundRun, buildsAt, sweepRunIn, sweepRun, foundWith}
+use Rattle.sweep.specs.Sweep.{Lent, Swept, swept, foundGroups, nextAt, lentAfter, foundRun, buildsAt, sweepRunIn, sweepRun, foundWith}
 use Rattle.sweep.proofs.Sizes.{size-enough-run}
 use Rattle.annotation.specs.Steps.{SweptFits}
 
@@ -26,20 +26,20 @@ pub each-append : {A : Type 0} (P : A → Type 0) (xs ys : List A) → Each P xs
 each-append P [] ys h k = k
 each-append P (x ∷ xs) ys h k = (h .0, each-append P xs ys (h .1) k)
 
-judged-within : (text : List ℕ) (p : ℕ) (c : Close) → Inside text p c → Each (Within text) (listed (judge text p c))
+judged-within : (text : List ℕ) (p : ℕ) (c : Close) → Inside text p c → Each (Within text) (foundGroups (judge text p c))
 unfolding judge groupOf
 judged-within text p (At c) k = go (groupAccepted text p c)
   where
-    go : (t : Bool) → Each (Within text) (listed (pick t (Found (groupOf text p c)) NoGroup))
+    go : (t : Bool) → Each (Within text) (foundGroups (pick t (Found (groupOf text p c)) NoGroup))
     go true = ((k .0, k .1), tt)
     go false = tt
 judged-within text p Nothing k = tt
 
-found-within : (text : List ℕ) (p : ℕ) (l : Lent) → Each (Within text) (listed (foundRun text p l))
+found-within : (text : List ℕ) (p : ℕ) (l : Lent) → Each (Within text) (foundGroups (foundRun text p l))
 unfolding foundWith groupAsRun
 found-within text p l = go (opensAt text p)
   where
-    go : (t : Bool) → Each (Within text) (listed (pick t (judge text p (closeAsRun text p (l .note) (l .index))) NoGroup))
+    go : (t : Bool) → Each (Within text) (foundGroups (pick t (judge text p (closeAsRun text p (l .note) (l .index))) NoGroup))
     go true = judged-within text p (closeAsRun text p (l .note) (l .index)) (run-inside text p (l .note) (l .index))
     go false = tt
 
@@ -49,11 +49,11 @@ unfolding sweepRunIn
 sweep-within zero text at so-far l h = h
 sweep-within (suc n) text at so-far l h =
     go (ltb at (length text))
-    (sweep-within n text (nextAt at (foundRun text at l)) (so-far ++ listed (foundRun text at l)) (lentAfter (buildsAt text at l) text l)
-    (each-append (Within text) so-far (listed (foundRun text at l)) h (found-within text at l)))
+    (sweep-within n text (nextAt at (foundRun text at l)) (so-far ++ foundGroups (foundRun text at l)) (lentAfter (buildsAt text at l) text l)
+    (each-append (Within text) so-far (foundGroups (foundRun text at l)) h (found-within text at l)))
   where
     on : Swept
-    on = sweepRunIn n text (nextAt at (foundRun text at l)) (so-far ++ listed (foundRun text at l)) (lentAfter (buildsAt text at l) text l)
+    on = sweepRunIn n text (nextAt at (foundRun text at l)) (so-far ++ foundGroups (foundRun text at l)) (lentAfter (buildsAt text at l) text l)
 
     go : (t : Bool) → Each (Within text) (on .groups) → Each (Within text) (pick t on (swept so-far l) .groups)
     go true k = k

@@ -14,12 +14,12 @@ use Rattle.base.specs.Spans.{span, missing}
 use Rattle.base.proofs.Alls.{each-map}
 use Rattle.item.specs.declared.Item.{Item}
 use Rattle.item.specs.Group.{Group}
-use Rattle.records.specs.Rows.{recordOf, rowOf, rowsIn, rowsOf}
+use Rattle.records.specs.ItemRecords.{itemRecord, unnumberedRecord, recordsIn, recordsOf}
 use Rattle.records.specs.Widths.{itemWidth, group-first, group-count, group-standing}
 use Rattle.pool.specs.Layout.{hasPool}
 use Rattle.definition_line.specs.Lines.{inLine, groupEnd, keyOf}
 use Rattle.definition.specs.Defs.{defOf, isDefined}
-use Rattle.standing.specs.Rows.{Placed, placed, groupRow, groupRows, placedBy, itemRows, itemCount}
+use Rattle.standing.specs.GroupRecords.{Placed, placed, groupRecord, groupRecords, placedBy, itemRecords, itemCount}
 use Rattle.standing.specs.Swept.{sweptFrom}
 use Rattle.records.specs.Widths.{groupWidth}
 use Rattle.standing.proofs.Swept.{placed-groups}
@@ -31,15 +31,15 @@ use Rattle.uses.specs.Uses.{numberIn, useIn, sourcesIn}
 use Rattle.uses.proofs.Fields.{item-field, set-last, set-standing, SameItems, SameGroups, set-last-same, set-standing-same, set-last-other}
 use Rattle.numbering.proofs.ByLines.{key-same, definition-same, key-at, suppressed-at, regroup, Closes, LieAt, first-item-lies, item-count-lies, standing-lies, definition-swept}
 use Rattle.annotation.specs.Sources.{numberOf, useOf, used}
-use Rattle.annotation.specs.Content.{Tally, tally, allDefined, standingOf, placedFrom, placedOf, labelFor, cited, numbered, unnumbered, addItem, addGroup, tallyOf}
+use Rattle.annotation.specs.Content.{Tally, tally, allDefined, standingOf, placedFrom, placedOf, labelFor, citedItem, numbered, unnumbered, addItem, addGroup, tallyOf}
 use Rattle.annotation.specs.Steps.{Fits, sweptItems, sweptGroups, numberedFrom, DefinitionsAgree, NumbersAgree}
 use Rattle.annotation.proofs.Joins.{Joined, joined-none, joined-on, joined-cite, number-agrees, use-agrees, sources-agree}
 
 -- the tally `t` of the first `k` items and the records of state `s` agree; `rest` is what the item area holds after their records, and
 -- `groups₀` and `items₀` are the areas as the sweep left them
 pub record Agrees (text : List ℕ) (pooled : Bool) (groups₀ items₀ : List ℕ) (t : Tally) (s : Numbered) (k : ℕ) (rest : List ℕ) : Type 0 where
-  pub items : s .items ≡ t .rows ++ rest
-  pub count : length (t .rows) ≡ itemWidth * k
+  pub items : s .items ≡ t .records ++ rest
+  pub count : length (t .records) ≡ itemWidth * k
   pub labels : s .labels ≡ t .labels
   pub sources : s .sources ≡ length (t .sources)
   pub joined : Joined text (s .items) pooled k (t .sources)
@@ -58,9 +58,9 @@ module _ (text : List ℕ) (mode : ℕ) (pool : List ℕ) (n : ℕ) (all : List 
 
   -- one more item of a numbered group
   module _ (t : Tally) (s : Numbered) (k : ℕ) (integral : Bool) (i : Item) (rest : List ℕ) (small : k < 65535)
-      (a : Ag t s k (rowOf integral i ++ rest)) where
+      (a : Ag t s k (unnumberedRecord integral i ++ rest)) where
     its-key : keyIn text (s .items) k ≡ keyOf text i
-    its-key = rw (a .items) (key-at text (t .rows) integral i rest k (a .count))
+    its-key = rw (a .items) (key-at text (t .records) integral i rest k (a .count))
 
     its-number : numberIn text (s .items) (s .sources) k ≡ numberOf (keyOf text i) (t .sources)
     its-number =
@@ -79,7 +79,7 @@ module _ (text : List ℕ) (mode : ℕ) (pool : List ℕ) (n : ℕ) (all : List 
         ∙ ap (λ (x : List ℕ). length (used x (t .sources))) its-key)
 
     its-suppressed : suppressedIn (s .items) k ≡ i .suppressed
-    its-suppressed = rw (a .items) (suppressed-at text (t .rows) integral i rest k (a .count))
+    its-suppressed = rw (a .items) (suppressed-at text (t .records) integral i rest k (a .count))
 
     its-label : labelIn text mode pool n s k ≡ labelFor text mode all pool (t .sources) i
     unfolding labelIn labelFor
@@ -88,24 +88,24 @@ module _ (text : List ℕ) (mode : ℕ) (pool : List ℕ) (n : ℕ) (all : List 
     -- its record
     its-record : List ℕ
     its-record =
-        recordOf integral i (numberOf (keyOf text i) (t .sources)) (useOf (hasPool pool) (keyOf text i) (t .sources))
+        itemRecord integral i (numberOf (keyOf text i) (t .sources)) (useOf (hasPool pool) (keyOf text i) (t .sources))
         (span (length (t .labels)) (length (labelFor text mode all pool (t .sources) i)))
 
     its-length : length its-record ≡ itemWidth
-    unfolding its-record recordOf
+    unfolding its-record itemRecord
     its-length = refl
 
-    its-items : citeIn text mode pool n s k .items ≡ t .rows ++ (its-record ++ rest)
-    unfolding citeIn citeAs rowOf its-record
+    its-items : citeIn text mode pool n s k .items ≡ t .records ++ (its-record ++ rest)
+    unfolding citeIn citeAs unnumberedRecord its-record
     its-items =
         rw (its-number, its-use, its-label, a .labels, a .items)
-        (set-last (t .rows) integral i 0 0 missing rest k _ _ _ _ (a .count))
+        (set-last (t .records) integral i 0 0 missing rest k _ _ _ _ (a .count))
 
     its-field : (c : ℕ) → itemField (citeIn text mode pool n s k .items) k c ≡ getD (its-record ++ rest) c 0
-    its-field c = rw its-items (item-field (t .rows) (its-record ++ rest) k c (a .count))
+    its-field c = rw its-items (item-field (t .records) (its-record ++ rest) k c (a .count))
 
     its-joined : Joined text (citeIn text mode pool n s k .items) (hasPool pool) (suc k) (used (keyOf text i) (t .sources))
-    unfolding citeIn citeAs its-record recordOf useOf
+    unfolding citeIn citeAs its-record itemRecord useOf
     its-joined =
         joined-cite text (s .items) _ (hasPool pool) k (t .sources) (keyOf text i) (a .joined)
         (λ j c h l. set-last-other (s .items) k _ _ _ _ j c (λ e. omega arith) l)
@@ -114,10 +114,10 @@ module _ (text : List ℕ) (mode : ℕ) (pool : List ℕ) (n : ℕ) (all : List 
         (λ p. its-field 13 ∙ rw p)
 
     cite-agrees : Ag (numbered text mode all pool integral t i) (citeIn text mode pool n s k) (k + 1) rest
-    unfolding citeIn citeAs numbered cited its-record
+    unfolding citeIn citeAs numbered citedItem its-record
     cite-agrees = record {
-      items = its-items ∙ sym (append-assoc (t .rows) its-record rest);
-      count = omega (arith, length-append (t .rows) its-record, its-length, a .count);
+      items = its-items ∙ sym (append-assoc (t .records) its-record rest);
+      count = omega (arith, length-append (t .records) its-record, its-length, a .count);
       labels = ap (λ (l : List ℕ). l ++ labelIn text mode pool n s k) (a .labels) ∙ ap (λ (l : List ℕ). t .labels ++ l) its-label;
       sources = its-sources;
       joined = rw (add-one k) its-joined;
@@ -126,18 +126,18 @@ module _ (text : List ℕ) (mode : ℕ) (pool : List ℕ) (n : ℕ) (all : List 
     }
 
   -- one more item of another group
-  on-agrees : (t : Tally) (s : Numbered) (k : ℕ) (integral : Bool) (i : Item) (rest : List ℕ) → Ag t s k (rowOf integral i ++ rest)
+  on-agrees : (t : Tally) (s : Numbered) (k : ℕ) (integral : Bool) (i : Item) (rest : List ℕ) → Ag t s k (unnumberedRecord integral i ++ rest)
       → Ag (unnumbered integral t i) s (k + 1) rest
-  unfolding unnumbered rowOf recordOf
+  unfolding unnumbered unnumberedRecord itemRecord
   on-agrees t s k integral i rest a = record {
-    items = a .items ∙ sym (append-assoc (t .rows) (rowOf integral i) rest);
-    count = omega (arith, length-append (t .rows) (rowOf integral i), a .count);
+    items = a .items ∙ sym (append-assoc (t .records) (unnumberedRecord integral i) rest);
+    count = omega (arith, length-append (t .records) (unnumberedRecord integral i), a .count);
     labels = a .labels;
     sources = a .sources;
     joined =
         rw (add-one k)
         (joined-on text (s .items) (hasPool pool) k (t .sources)
-        (rw (a .items) (item-field (t .rows) (rowOf integral i ++ rest) k 12 (a .count)))
+        (rw (a .items) (item-field (t .records) (unnumberedRecord integral i ++ rest) k 12 (a .count)))
         (a .joined));
     same-items = a .same-items;
     same-groups = a .same-groups;
@@ -155,7 +155,7 @@ module _ (text : List ℕ) (mode : ℕ) (pool : List ℕ) (n : ℕ) (all : List 
   add-unnumbered p t i q = rw q
 
   cites-agree : (p : Placed) (is : List Item) (t : Tally) (s : Numbered) (k : ℕ) (rest : List ℕ) → eqb (p .standing) 2 ≡ true
-      → k + length is ≤ 65535 → Ag t s k (rowsIn (p .group .integral) is ++ rest)
+      → k + length is ≤ 65535 → Ag t s k (recordsIn (p .group .integral) is ++ rest)
       → Ag (fold (addItem text mode all pool p) t is) (citeFrom text mode pool n (length is) s k) (k + length is) rest
   unfolding fold citeFrom flatMap
   cites-agree p [] t s k rest q l a = let e : k ≡ k + 0 = omega arith in subst (λ (m : ℕ). Ag t s m rest) e a
@@ -164,14 +164,14 @@ module _ (text : List ℕ) (mode : ℕ) (pool : List ℕ) (n : ℕ) (all : List 
       subst (λ (m : ℕ). Ag (fold (addItem text mode all pool p) (addItem text mode all pool p t i) is) (citeFrom text mode pool n (length is) (citeIn text mode pool n s k) (k + 1)) m rest) e
       (cites-agree p is (addItem text mode all pool p t i) (citeIn text mode pool n s k) (k + 1) rest q (omega arith) one)
     where
-      one : Ag (addItem text mode all pool p t i) (citeIn text mode pool n s k) (k + 1) (rowsIn (p .group .integral) is ++ rest)
+      one : Ag (addItem text mode all pool p t i) (citeIn text mode pool n s k) (k + 1) (recordsIn (p .group .integral) is ++ rest)
       one =
           rw (add-numbered p t i q)
-          (cite-agrees t s k (p .group .integral) i (rowsIn (p .group .integral) is ++ rest) (omega arith)
-          (rw (append-assoc (rowOf (p .group .integral) i) (rowsIn (p .group .integral) is) rest) at a))
+          (cite-agrees t s k (p .group .integral) i (recordsIn (p .group .integral) is ++ rest) (omega arith)
+          (rw (append-assoc (unnumberedRecord (p .group .integral) i) (recordsIn (p .group .integral) is) rest) at a))
 
   passes-agree : (p : Placed) (is : List Item) (t : Tally) (s : Numbered) (k : ℕ) (rest : List ℕ) → eqb (p .standing) 2 ≡ false
-      → Ag t s k (rowsIn (p .group .integral) is ++ rest)
+      → Ag t s k (recordsIn (p .group .integral) is ++ rest)
       → Ag (fold (addItem text mode all pool p) t is) s (k + length is) rest
   unfolding fold flatMap
   passes-agree p [] t s k rest q a = let e : k ≡ k + 0 = omega arith in subst (λ (m : ℕ). Ag t s m rest) e a
@@ -180,11 +180,11 @@ module _ (text : List ℕ) (mode : ℕ) (pool : List ℕ) (n : ℕ) (all : List 
       subst (λ (m : ℕ). Ag (fold (addItem text mode all pool p) (addItem text mode all pool p t i) is) s m rest) e
       (passes-agree p is (addItem text mode all pool p t i) s (k + 1) rest q one)
     where
-      one : Ag (addItem text mode all pool p t i) s (k + 1) (rowsIn (p .group .integral) is ++ rest)
+      one : Ag (addItem text mode all pool p t i) s (k + 1) (recordsIn (p .group .integral) is ++ rest)
       one =
           rw (add-unnumbered p t i q)
-          (on-agrees t s k (p .group .integral) i (rowsIn (p .group .integral) is ++ rest)
-          (rw (append-assoc (rowOf (p .group .integral) i) (rowsIn (p .group .integral) is) rest) at a))
+          (on-agrees t s k (p .group .integral) i (recordsIn (p .group .integral) is ++ rest)
+          (rw (append-assoc (unnumberedRecord (p .group .integral) i) (recordsIn (p .group .integral) is) rest) at a))
 
   -- the group records stay
   cites-groups : (m : ℕ) (s : Numbered) (k : ℕ) → citeFrom text mode pool n m s k .groups ≡ s .groups
@@ -194,26 +194,26 @@ module _ (text : List ℕ) (mode : ℕ) (pool : List ℕ) (n : ℕ) (all : List 
 
   -- every key of a group is defined
   defined-agrees : (integral : Bool) (is : List Item) (before rest : List ℕ) (s : Numbered) (k : ℕ) → length before ≡ itemWidth * k
-      → s .items ≡ before ++ (rowsIn integral is ++ rest) → SameItems (s .items) items₀ → SameGroups (s .groups) groups₀
+      → s .items ≡ before ++ (recordsIn integral is ++ rest) → SameItems (s .items) items₀ → SameGroups (s .groups) groups₀
       → keysDefined text pool (s .groups) (s .items) n (length is) k ≡ allDefined text all pool is
-  unfolding keysDefined keyDefined allDefined flatMap rowOf recordOf
+  unfolding keysDefined keyDefined allDefined flatMap unnumberedRecord itemRecord
   defined-agrees integral [] before rest s k h e si sg = refl
   defined-agrees integral (i ∷ is) before rest s k h e si sg =
       rw (its, defined-as s si sg (keyOf text i))
       (ap (λ (b : Bool). isDefined (defOf text all pool (keyOf text i)) && b)
-      (defined-agrees integral is (before ++ rowOf integral i) rest s (k + 1) (omega (arith, length-append before (rowOf integral i)))
-      (e ∙ regroup before (rowOf integral i) (rowsIn integral is) rest) si sg))
+      (defined-agrees integral is (before ++ unnumberedRecord integral i) rest s (k + 1) (omega (arith, length-append before (unnumberedRecord integral i)))
+      (e ∙ regroup before (unnumberedRecord integral i) (recordsIn integral is) rest) si sg))
     where
       its : keyIn text (s .items) k ≡ keyOf text i
       its =
-          rw (e, append-assoc (rowOf integral i) (rowsIn integral is) rest)
-          (key-at text before integral i (rowsIn integral is ++ rest) k h)
+          rw (e, append-assoc (unnumberedRecord integral i) (recordsIn integral is) rest)
+          (key-at text before integral i (recordsIn integral is ++ rest) k h)
 
   -- the groups from `gs` on are still to be numbered: `g` group records, `done`, and `k` items are before them
   record Stands (restItems restGroups : List ℕ) (t : Tally) (s : Numbered) (g k : ℕ) (done : List ℕ) (before : Bool) (from : ℕ) (gs : List Group) : Type 0 where
-    agrees : Ag t s k (itemRows gs ++ restItems)
+    agrees : Ag t s k (itemRecords gs ++ restItems)
     count : length done ≡ groupWidth * g
-    groups : s .groups ≡ done ++ (groupRows k (sweptFrom text before from gs) ++ restGroups)
+    groups : s .groups ≡ done ++ (groupRecords k (sweptFrom text before from gs) ++ restGroups)
 
   -- one group
   module _ (restItems restGroups : List ℕ) (t : Tally) (s : Numbered) (g k : ℕ) (done : List ℕ) (before : Bool) (from : ℕ) (x : Group) (gs : List Group)
@@ -226,21 +226,21 @@ module _ (text : List ℕ) (mode : ℕ) (pool : List ℕ) (n : ℕ) (all : List 
 
     -- the group records after its own
     more : List ℕ
-    more = groupRows (k + length (x .items)) (sweptFrom text inside (groupEnd x) gs)
+    more = groupRecords (k + length (x .items)) (sweptFrom text inside (groupEnd x) gs)
 
     -- its record and its items, as the sweep left them
-    group-is : s .groups ≡ done ++ (groupRow k (placed x (pick inside 0 1)) ++ (more ++ restGroups))
-    unfolding inside more groupRows placedBy
-    group-is = a .groups ∙ ap (λ (l : List ℕ). done ++ l) (append-assoc (groupRow k (placed x (pick inside 0 1))) more restGroups)
+    group-is : s .groups ≡ done ++ (groupRecord k (placed x (pick inside 0 1)) ++ (more ++ restGroups))
+    unfolding inside more groupRecords placedBy
+    group-is = a .groups ∙ ap (λ (l : List ℕ). done ++ l) (append-assoc (groupRecord k (placed x (pick inside 0 1))) more restGroups)
 
-    items-are : itemRows (x ∷ gs) ++ restItems ≡ rowsIn (x .integral) (x .items) ++ (itemRows gs ++ restItems)
-    unfolding flatMap rowsOf
-    items-are = append-assoc (rowsIn (x .integral) (x .items)) (itemRows gs) restItems
+    items-are : itemRecords (x ∷ gs) ++ restItems ≡ recordsIn (x .integral) (x .items) ++ (itemRecords gs ++ restItems)
+    unfolding flatMap recordsOf
+    items-are = append-assoc (recordsIn (x .integral) (x .items)) (itemRecords gs) restItems
 
-    here : Ag t s k (rowsIn (x .integral) (x .items) ++ (itemRows gs ++ restItems))
+    here : Ag t s k (recordsIn (x .integral) (x .items) ++ (itemRecords gs ++ restItems))
     here = subst (λ (l : List ℕ). Ag t s k l) items-are (a .agrees)
 
-    lies : LieAt (s .groups) (s .items) g k (placed x (pick inside 0 1) ∷ sweptFrom text inside (groupEnd x) gs) done restGroups (t .rows) restItems
+    lies : LieAt (s .groups) (s .items) g k (placed x (pick inside 0 1) ∷ sweptFrom text inside (groupEnd x) gs) done restGroups (t .records) restItems
     unfolding inside placedBy
     lies = record {
       gcount = a .count;
@@ -248,17 +248,17 @@ module _ (text : List ℕ) (mode : ℕ) (pool : List ℕ) (n : ℕ) (all : List 
       gis = a .groups;
       iis =
           a .agrees .items
-          ∙ ap (λ (hs : List Group). t .rows ++ (itemRows hs ++ restItems)) (sym (placed-groups _ text before from (x ∷ gs)));
+          ∙ ap (λ (hs : List Group). t .records ++ (itemRecords hs ++ restItems)) (sym (placed-groups _ text before from (x ∷ gs)));
     }
 
     field-first : groupField (s .groups) g group-first ≡ k
-    field-first = first-item-lies (s .groups) (s .items) g k _ _ done restGroups (t .rows) restItems lies
+    field-first = first-item-lies (s .groups) (s .items) g k _ _ done restGroups (t .records) restItems lies
 
     field-items : groupField (s .groups) g group-count ≡ length (x .items)
-    field-items = item-count-lies (s .groups) (s .items) g k _ _ done restGroups (t .rows) restItems lies
+    field-items = item-count-lies (s .groups) (s .items) g k _ _ done restGroups (t .records) restItems lies
 
     field-standing : groupField (s .groups) g group-standing ≡ pick inside 0 1
-    field-standing = standing-lies (s .groups) (s .items) g k _ _ done restGroups (t .rows) restItems lies
+    field-standing = standing-lies (s .groups) (s .items) g k _ _ done restGroups (t .records) restItems lies
 
     -- whether it is numbered
     numbered-as : isNumbered text mode pool n s g ≡ eqb (standingOf inside defined) 2
@@ -268,7 +268,7 @@ module _ (text : List ℕ) (mode : ℕ) (pool : List ℕ) (n : ℕ) (all : List 
           field-standing,
           field-items,
           field-first,
-          defined-agrees (x .integral) (x .items) (t .rows) (itemRows gs ++ restItems) s k (here .count) (here .items) (here .same-items) (here .same-groups),
+          defined-agrees (x .integral) (x .items) (t .records) (itemRecords gs ++ restItems) s k (here .count) (here .items) (here .same-items) (here .same-groups),
         )
         (go inside (allDefined text all pool (x .items)))
       where
@@ -286,7 +286,7 @@ module _ (text : List ℕ) (mode : ℕ) (pool : List ℕ) (n : ℕ) (all : List 
     unfolding numberGroup standing
     numbers-as = rw (numbered-as, field-items, field-first)
 
-    stands-agrees : Ag t standing k (rowsIn (x .integral) (x .items) ++ (itemRows gs ++ restItems))
+    stands-agrees : Ag t standing k (recordsIn (x .integral) (x .items) ++ (itemRecords gs ++ restItems))
     unfolding standing standsNumbered
     stands-agrees = record {
       items = here .items;
@@ -298,7 +298,7 @@ module _ (text : List ℕ) (mode : ℕ) (pool : List ℕ) (n : ℕ) (all : List 
       same-groups = λ j c h. set-standing-same (s .groups) g 2 j c h ∙ here .same-groups j c h;
     }
 
-    stands-groups : standing .groups ≡ done ++ (groupRow k (placed x 2) ++ (more ++ restGroups))
+    stands-groups : standing .groups ≡ done ++ (groupRecord k (placed x 2) ++ (more ++ restGroups))
     unfolding standing standsNumbered
     stands-groups =
         ap (λ (l : List ℕ). set l (groupWidth * g + group-standing) 2) group-is
@@ -308,24 +308,24 @@ module _ (text : List ℕ) (mode : ℕ) (pool : List ℕ) (n : ℕ) (all : List 
     its-place : Placed
     its-place = placed x (standingOf inside defined)
 
-    its-groups : (s′ : Numbered) → s′ .groups ≡ done ++ (groupRow k its-place ++ (more ++ restGroups))
-        → s′ .groups ≡ (done ++ groupRow k its-place) ++ (more ++ restGroups)
-    its-groups s′ e = e ∙ sym (append-assoc done (groupRow k its-place) (more ++ restGroups))
+    its-groups : (s′ : Numbered) → s′ .groups ≡ done ++ (groupRecord k its-place ++ (more ++ restGroups))
+        → s′ .groups ≡ (done ++ groupRecord k its-place) ++ (more ++ restGroups)
+    its-groups s′ e = e ∙ sym (append-assoc done (groupRecord k its-place) (more ++ restGroups))
 
-    its-count : length (done ++ groupRow k its-place) ≡ groupWidth * (g + 1)
-    unfolding groupRow
-    its-count = omega (arith, length-append done (groupRow k its-place), a .count)
+    its-count : length (done ++ groupRecord k its-place) ≡ groupWidth * (g + 1)
+    unfolding groupRecord
+    its-count = omega (arith, length-append done (groupRecord k its-place), a .count)
 
     group-agrees : k + length (x .items) ≤ 65535
         → Stands restItems restGroups (addGroup text mode all pool t its-place) (numberGroup text mode pool n s g) (g + 1) (k + length (x .items))
-        (done ++ groupRow k its-place) (inLine text before from x) (groupEnd x) gs
+        (done ++ groupRecord k its-place) (inLine text before from x) (groupEnd x) gs
     unfolding addGroup standingOf inside more its-place
     group-agrees small = subst (λ (s′ : Numbered). Then s′) (sym numbers-as) (go (eqb (standingOf inside defined) 2) refl)
       where
         Then : Numbered → Type 0
         Then s′ =
             Stands restItems restGroups (addGroup text mode all pool t its-place) s′ (g + 1) (k + length (x .items))
-            (done ++ groupRow k its-place) (inLine text before from x) (groupEnd x) gs
+            (done ++ groupRecord k its-place) (inLine text before from x) (groupEnd x) gs
 
         unchanged : (i d : Bool) → eqb (pick i 0 (pick d 2 1)) 2 ≡ false → _≡_ {A = ℕ} (pick i 0 1) (pick i 0 (pick d 2 1))
         unchanged true d q = refl
@@ -334,33 +334,33 @@ module _ (text : List ℕ) (mode : ℕ) (pool : List ℕ) (n : ℕ) (all : List 
 
         go : (b : Bool) → eqb (standingOf inside defined) 2 ≡ b → Then (pick b (citeFrom text mode pool n (length (x .items)) standing k) s)
         go true q = record {
-          agrees = cites-agree its-place (x .items) t standing k (itemRows gs ++ restItems) q small stands-agrees;
+          agrees = cites-agree its-place (x .items) t standing k (itemRecords gs ++ restItems) q small stands-agrees;
           count = its-count;
           groups =
               its-groups (citeFrom text mode pool n (length (x .items)) standing k)
               (cites-groups (length (x .items)) standing k
               ∙ stands-groups
-              ∙ ap (λ (m : ℕ). done ++ (groupRow k (placed x m) ++ (more ++ restGroups))) (sym (eqb-true (standingOf inside defined) 2 q)));
+              ∙ ap (λ (m : ℕ). done ++ (groupRecord k (placed x m) ++ (more ++ restGroups))) (sym (eqb-true (standingOf inside defined) 2 q)));
         }
         go false q = record {
-          agrees = passes-agree its-place (x .items) t s k (itemRows gs ++ restItems) q here;
+          agrees = passes-agree its-place (x .items) t s k (itemRecords gs ++ restItems) q here;
           count = its-count;
           groups =
               its-groups s
               (group-is
-              ∙ ap (λ (m : ℕ). done ++ (groupRow k (placed x m) ++ (more ++ restGroups))) (unchanged inside defined q));
+              ∙ ap (λ (m : ℕ). done ++ (groupRecord k (placed x m) ++ (more ++ restGroups))) (unchanged inside defined q));
         }
 
   -- all groups
   record Ended (restItems restGroups : List ℕ) (t : Tally) (s : Numbered) (k : ℕ) (done : List ℕ) (m : ℕ) (ps : List Placed) : Type 0 where
     agrees : Ag t s m restItems
-    groups : s .groups ≡ done ++ (groupRows k ps ++ restGroups)
+    groups : s .groups ≡ done ++ (groupRecords k ps ++ restGroups)
 
   groups-agree : (restItems restGroups : List ℕ) (t : Tally) (s : Numbered) (g k : ℕ) (done : List ℕ) (before : Bool) (from : ℕ) (gs : List Group)
       → Stands restItems restGroups t s g k done before from gs → k + itemCount gs ≤ 65535
       → Ended restItems restGroups (fold (addGroup text mode all pool) t (placedFrom text all pool before from gs))
       (numberFrom text mode pool n (length gs) s g) k done (k + itemCount gs) (placedFrom text all pool before from gs)
-  unfolding fold numberFrom itemCount flatMap groupRows placedBy its-place inside defined
+  unfolding fold numberFrom itemCount flatMap groupRecords placedBy its-place inside defined
   groups-agree restItems restGroups t s g k done before from [] a l = record {
     agrees = let e : k ≡ k + 0 = omega arith in subst (λ (m : ℕ). Ag t s m restItems) e (a .agrees);
     groups = a .groups;
@@ -382,13 +382,13 @@ module _ (text : List ℕ) (mode : ℕ) (pool : List ℕ) (n : ℕ) (all : List 
       s′ : Numbered
       s′ = numberFrom text mode pool n (length gs) (numberGroup text mode pool n s g) (g + 1)
 
-      on : Ended restItems restGroups t′ s′ (k + length (x .items)) (done ++ groupRow k p) (k + length (x .items) + itemCount gs) ps
+      on : Ended restItems restGroups t′ s′ (k + length (x .items)) (done ++ groupRecord k p) (k + length (x .items) + itemCount gs) ps
           → Ended restItems restGroups t′ s′ k done (k + (length (x .items) + itemCount gs)) (p ∷ ps)
       on r = record {
         agrees =
             let e : k + length (x .items) + itemCount gs ≡ k + (length (x .items) + itemCount gs) = omega arith in
             subst (λ (m : ℕ). Ag t′ s′ m restItems) e (r .agrees);
-        groups = r .groups ∙ sym (regroup done (groupRow k p) (groupRows (k + length (x .items)) ps) restGroups);
+        groups = r .groups ∙ sym (regroup done (groupRecord k p) (groupRecords (k + length (x .items)) ps) restGroups);
       }
 
 -- from the records as the sweep leaves them ------------------------------------------------------------------------------------------
@@ -435,7 +435,7 @@ module _ (text : List ℕ) (mode : ℕ) (all : List Group) (pool restItems restG
       (numberedFrom text mode all pool restItems restGroups) m restItems)
       e (ended .agrees)
 
-  pub numbered-groups : numberedFrom text mode all pool restItems restGroups .groups ≡ groupRows 0 (placedOf text all pool) ++ restGroups
+  pub numbered-groups : numberedFrom text mode all pool restItems restGroups .groups ≡ groupRecords 0 (placedOf text all pool) ++ restGroups
   numbered-groups = ended .groups
 
 pub numbers-agree : NumbersAgree

@@ -14,14 +14,14 @@ use Rattle.base.specs.Sorted.{Each, Sorted}
 use Rattle.base.specs.Spans.{span}
 use Rattle.item.specs.declared.Item.{Item}
 use Rattle.item.specs.Group.{Group}
-use Rattle.records.specs.Rows.{recordOf, rowOf}
+use Rattle.records.specs.ItemRecords.{itemRecord, unnumberedRecord}
 use Rattle.records.specs.Widths.{itemWidth, item-use}
 use Rattle.pool.specs.Layout.{hasPool}
 use Rattle.definition_line.specs.Lines.{keyOf}
-use Rattle.standing.specs.Rows.{Placed}
+use Rattle.standing.specs.GroupRecords.{Placed}
 use Rattle.records.specs.Fields.{itemField}
 use Rattle.annotation.specs.Sources.{Source, numberOf, usesOf, useOf, used}
-use Rattle.annotation.specs.Content.{Tally, labelFor, cited, numbered, unnumbered, addItem, tallyOf, placedOf}
+use Rattle.annotation.specs.Content.{Tally, labelFor, citedItem, numbered, unnumbered, addItem, tallyOf, placedOf}
 use Rattle.annotation.specs.Facts.{KeysDiffer, RecordsUsed, SourcesUsed, finalUse}
 use Rattle.annotation.specs.Items.{itemKeys, usesIn, useAfter}
 use Rattle.base.proofs.Sames.{same-refl, same-true}
@@ -46,31 +46,31 @@ uses-some-more x key (some k ∷ is) = omega (arith, uses-some-more x key is)
 
 -- the records, the sources and the items so far
 record UsedSo (pooled : Bool) (t : Tally) (is : List (Option (List ℕ))) : Type 0 where
-  count : length (t .rows) ≡ itemWidth * length is
-  cells : (k : ℕ) → k < length is → itemField (t .rows) k item-use ≡ useAfter pooled (take k is) (getD is k none)
+  count : length (t .records) ≡ itemWidth * length is
+  cells : (k : ℕ) → k < length is → itemField (t .records) k item-use ≡ useAfter pooled (take k is) (getD is k none)
   uses : (x : List ℕ) → usesOf x (t .sources) ≡ usesIn x is
 
 -- one more record, with the use of its item
 cells-on : (pooled : Bool) (t : Tally) (is : List (Option (List ℕ))) (i : Option (List ℕ)) (row : List ℕ) → UsedSo pooled t is
     → getD row 13 0 ≡ useAfter pooled is i
     → (k : ℕ) → k < length (is ++ (i ∷ []))
-    → itemField (t .rows ++ row) k item-use ≡ useAfter pooled (take k (is ++ (i ∷ []))) (getD (is ++ (i ∷ [])) k none)
+    → itemField (t .records ++ row) k item-use ≡ useAfter pooled (take k (is ++ (i ∷ []))) (getD (is ++ (i ∷ [])) k none)
 cells-on pooled t is i row u e =
-    by-place (λ k. itemField (t .rows ++ row) k item-use ≡ useAfter pooled (take k (is ++ (i ∷ []))) (getD (is ++ (i ∷ [])) k none)) is i
+    by-place (λ k. itemField (t .records ++ row) k item-use ≡ useAfter pooled (take k (is ++ (i ∷ []))) (getD (is ++ (i ∷ [])) k none)) is i
     (λ k l. rw (take-append-le k is (i ∷ []) (omega arith), List·getD-append is (i ∷ []) none k l)
-    (cell-front (t .rows) row (length is) k 13 (u .count) l (omega arith) ∙ u .cells k l))
+    (cell-front (t .records) row (length is) k 13 (u .count) l (omega arith) ∙ u .cells k l))
     (rw (take-at is (i ∷ []) (length is) refl, getD-at is i [] none (length is) refl)
-    (item-field (t .rows) row (length is) 13 (u .count) ∙ e))
+    (item-field (t .records) row (length is) 13 (u .count) ∙ e))
 
 module _ (text : List ℕ) (mode : ℕ) (all : List Group) (pool : List ℕ) where
   item-used : (p : Placed) (t : Tally) (i : Item) (is : List (Option (List ℕ))) → UsedSo (hasPool pool) t is
       → UsedSo (hasPool pool) (addItem text mode all pool p t i) (is ++ (pick (eqb (p .standing) 2) (some (keyOf text i)) none ∷ []))
-  unfolding addItem numbered unnumbered cited rowOf recordOf useAfter useOf
+  unfolding addItem numbered unnumbered citedItem unnumberedRecord itemRecord useAfter useOf
   item-used p t i is u = go (eqb (p .standing) 2)
     where
       row : List ℕ
       row =
-          recordOf (p .group .integral) i (numberOf (keyOf text i) (t .sources)) (useOf (hasPool pool) (keyOf text i) (t .sources))
+          itemRecord (p .group .integral) i (numberOf (keyOf text i) (t .sources)) (useOf (hasPool pool) (keyOf text i) (t .sources))
           (span (length (t .labels)) (length (labelFor text mode all pool (t .sources) i)))
 
       more : (x : List ℕ) (b : Bool) → same (keyOf text i) x ≡ b → usesOf x (used (keyOf text i) (t .sources)) ≡ usesIn x is + pick b 1 0
@@ -83,13 +83,13 @@ module _ (text : List ℕ) (mode : ℕ) (all : List Group) (pool : List ℕ) whe
           → UsedSo (hasPool pool) (pick b (numbered text mode all pool (p .group .integral) t i) (unnumbered (p .group .integral) t i))
           (is ++ (pick b (some (keyOf text i)) none ∷ []))
       go true = record {
-        count = count-more (t .rows) row is (some (keyOf text i)) (u .count) refl;
+        count = count-more (t .records) row is (some (keyOf text i)) (u .count) refl;
         cells = cells-on (hasPool pool) t is (some (keyOf text i)) row u (ap (λ (n : ℕ). pick (hasPool pool) (n + 1) 0) (u .uses (keyOf text i)));
         uses = λ x. more x (same (keyOf text i) x) refl ∙ sym (uses-some-more x (keyOf text i) is);
       }
       go false = record {
-        count = count-more (t .rows) (rowOf (p .group .integral) i) is none (u .count) refl;
-        cells = cells-on (hasPool pool) t is none (rowOf (p .group .integral) i) u refl;
+        count = count-more (t .records) (unnumberedRecord (p .group .integral) i) is none (u .count) refl;
+        cells = cells-on (hasPool pool) t is none (unnumberedRecord (p .group .integral) i) u refl;
         uses = λ x. u .uses x ∙ sym (uses-none-more x is);
       }
 
@@ -159,10 +159,10 @@ module _ (rows key : List ℕ) (all : List (Option (List ℕ)))
       go false q = omega arith
 
 pub final-use : (text : List ℕ) (mode : ℕ) (all : List Group) (pool : List ℕ) → hasPool pool ≡ true → (key : List ℕ)
-    → finalUse (tallyOf text mode all pool .rows) key 0 0 (itemKeys text (placedOf text all pool)) ≡ usesIn key (itemKeys text (placedOf text all pool))
+    → finalUse (tallyOf text mode all pool .records) key 0 0 (itemKeys text (placedOf text all pool)) ≡ usesIn key (itemKeys text (placedOf text all pool))
 unfolding usesIn
 final-use text mode all pool pooled key =
     let keys = itemKeys text (placedOf text all pool) in
-    final-uses (tallyOf text mode all pool .rows) key keys
+    final-uses (tallyOf text mode all pool .records) key keys
     (λ k l. all-used text mode all pool .cells k l ∙ ap (λ (b : Bool). useAfter b (take k keys) (getD keys k none)) pooled)
     keys [] refl

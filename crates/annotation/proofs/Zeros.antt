@@ -1,4 +1,4 @@
--- Areas that are filled with zeros, number by number, in the form of the code's needs.
+-- Areas that are contentWritten with zeros, number by number, in the form of the code's needs.
 use Prim.Native.Nat.{ℕ, _+_, _≤_, _<_}
 use native.Mathlib.Omega.{arith}
 use mathlib.Core.Path.{_≡_, refl, _∙_, ap}

@@ -25,7 +25,7 @@ pub record Done (ran : AnnotateRan) (r : Annotation) (items groups references la
   pub reference-area : references ≡ ran .answer .areas .references
   pub label-area : labels ≡ ran .answer .areas .labels
 
--- 10: all four areas are filled with zeros
+-- 10: all four areas are contentWritten with zeros
 pub record Zeroed (note : ℕ) (items groups references labels : List ℕ) (r : Annotation)
     (items' groups' references' labels' : List ℕ) : Type 0 where
   pub refused : r ≡ Refused 10 note

@@ -10,7 +10,7 @@ use Rattle.base.specs.Lists.{same}
 use Rattle.item.specs.declared.Item.{Item}
 use Rattle.definition_line.specs.Lines.{keyOf}
 use Rattle.annotation.specs.Sources.{Source, numberOf}
-use Rattle.standing.specs.Rows.{Placed}
+use Rattle.standing.specs.GroupRecords.{Placed}
 
 -- the keys of the items in numbered groups, in item order
 abbrev pub numberedKeys : List ℕ → List Placed → List (List ℕ)

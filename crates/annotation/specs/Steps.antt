@@ -10,7 +10,7 @@ use Rattle.item.specs.Group.{Group}
 use Rattle.records.specs.Widths.{itemWidth}
 use Rattle.definition.specs.Defs.{defOf}
 use Rattle.sweep.specs.Sweep.{Lent, sweepRun}
-use Rattle.standing.specs.Rows.{groupRows, itemRows, itemCount}
+use Rattle.standing.specs.GroupRecords.{groupRecords, itemRecords, itemCount}
 use Rattle.standing.specs.Swept.{sweptFrom}
 use Rattle.records.specs.Widths.{groupWidth}
 use Rattle.definition.specs.Definitions.{definitionIn}
@@ -28,11 +28,11 @@ pub record Fits (text : List ℕ) (all : List Group) : Type 0 where
 
 -- the records that the sweep leaves, and what the areas hold beyond
 abbrev pub sweptItems : List Group → List ℕ → List ℕ
-sweptItems all rest = itemRows all ++ rest
+sweptItems all rest = itemRecords all ++ rest
 
 -- the group records after the sweep, before what the area held behind them
 abbrev pub sweptGroups : List ℕ → List Group → List ℕ → List ℕ
-sweptGroups text all rest = groupRows 0 (sweptFrom text false 0 all) ++ rest
+sweptGroups text all rest = groupRecords 0 (sweptFrom text false 0 all) ++ rest
 
 -- the same after the pass that numbers them
 abbrev pub numberedFrom : List ℕ → ℕ → List Group → List ℕ → List ℕ → List ℕ → Numbered
@@ -51,8 +51,8 @@ DefinitionsAgree =
 
 -- records, labels and the count of sources
 pub record NumberedAs (text : List ℕ) (mode : ℕ) (all : List Group) (pool restItems restGroups : List ℕ) : Type 0 where
-  pub items : numberedFrom text mode all pool restItems restGroups .items ≡ tallyOf text mode all pool .rows ++ restItems
-  pub groups : numberedFrom text mode all pool restItems restGroups .groups ≡ groupRows 0 (placedOf text all pool) ++ restGroups
+  pub items : numberedFrom text mode all pool restItems restGroups .items ≡ tallyOf text mode all pool .records ++ restItems
+  pub groups : numberedFrom text mode all pool restItems restGroups .groups ≡ groupRecords 0 (placedOf text all pool) ++ restGroups
   pub labels : numberedFrom text mode all pool restItems restGroups .labels ≡ tallyOf text mode all pool .labels
   pub sources : numberedFrom text mode all pool restItems restGroups .sources ≡ length (tallyOf text mode all pool .sources)
 

@@ -23,8 +23,8 @@ use Rattle.pool.specs.Places.{Reads, ReadsName, FieldsIn, EntryIn}
 use Rattle.pool.proofs.FieldLaws.{fields-next, fields-end}
 use Rattle.pool.proofs.ReaderLaws.{fields-of-entry}
 use Rattle.pool.proofs.PoolLaws.{pair-there, entry-there}
-use Rattle.source.specs.declared.Year.{Year as SourceYear}
-use Rattle.source.specs.declared.Year.the-variants.{Number as SourceNumber, At as SourceAt, Missing as SourceMissing}
+use Rattle.source.specs.declared.EntryYear.{EntryYear as SourceYear}
+use Rattle.source.specs.declared.EntryYear.the-variants.{Number as SourceNumber, At as SourceAt, Missing as SourceMissing}
 use Rattle.source.specs.Years.{writtenYear, ReadsYear}
 use Rattle.source.specs.Entry.{isEmpty, authorBy, authorOf, yearOf}
 use Rattle.definition.specs.declared.Author.{Author}

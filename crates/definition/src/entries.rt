@@ -115,14 +115,14 @@ pub fn entry_year(pool: &[u8], i: usize) -> Year
     let e = pool::entry_end(pool, i);
     let year = source::csl_year(pool, at, e);
     match year {
-        source::Year::Number {
+        source::EntryYear::Number {
             negative,
             magnitude,
         } => Year::Number {
             negative,
             magnitude,
         },
-        source::Year::At { part } => Year::InPool { part },
-        source::Year::Missing => Year::Missing,
+        source::EntryYear::At { part } => Year::InPool { part },
+        source::EntryYear::Missing => Year::Missing,
     }
 }

@@ -22,7 +22,7 @@ use Rattle.locator.specs.Answers.{codeOf, valueOf, suffixOf}
 use Rattle.locator.proofs.Laws.{code-small, value-ends, suffix-ends}
 use Rattle.resolve.specs.Groups.{GroupAnswer, Found, NoGroup, groupAccepted, judge}
 use Rattle.item.specs.Group.{Group, groupOf}
-use Rattle.records.specs.Rows.{rowsLength}
+use Rattle.records.specs.ItemRecords.{recordsLength}
 use Rattle.resolve.specs.Resolve.{closeAsRun, groupAsRun, noteAfter}
 use Rattle.lookup.specs.Refusals.{tooFew, lookUpRefusal}
 use Rattle.lookup.specs.LookUps.{LookedUp, lookUpRefused, lookUpGives, lookUpAnswers, lookedUp, lookUpBuilds, ranWith, lookUpRun}
@@ -30,10 +30,10 @@ use Rattle.lookup.specs.Others.{sized, located, locatorCall, sizeCall}
 use Rattle.lookup.specs.Values.{lookUpNumbers, locatorNumbers, sizeNumbers}
 use Rattle.lookup.proofs.RefusalLaws.{unrefused}
 use Rattle.pool.specs.Layout.{wellFormed}
-use Rattle.sweep.specs.Sweep.{Lent, Swept, lentOf, lentAfter, swept, listed, nextAt, foundRun, buildsAt, sweepRunIn, sweepRun}
+use Rattle.sweep.specs.Sweep.{Lent, Swept, lentOf, lentAfter, swept, foundGroups, nextAt, foundRun, buildsAt, sweepRunIn, sweepRun}
 use Rattle.sweep.specs.Stops.{stopFrom}
 use Rattle.sweep.specs.Facts.{goneOn}
-use Rattle.standing.specs.Rows.{itemCount}
+use Rattle.standing.specs.GroupRecords.{itemCount}
 use Rattle.standing.proofs.ItemSizes.{items-size}
 use Rattle.sweep.proofs.Sizes.{size-enough-run}
 use Rattle.resolve.specs.Looks.{Inside}
@@ -112,7 +112,7 @@ module _ (s : List ℕ) (at : ℕ) (items : List ℕ) where
           record { number = omega arith; close = omega (arith, k .1); count = omega (arith, k .1) }
 
       go : (t : Bool) → Low (lookUpAnswers (pick t (Found (groupOf s at c)) NoGroup) items)
-      go true = full (ltb (length items) (rowsLength (groupOf s at c)))
+      go true = full (ltb (length items) (recordsLength (groupOf s at c)))
       go false = refused-low 5 items (omega arith)
   judged-low h Nothing k = refused-low 5 items (omega arith)
 
@@ -153,7 +153,7 @@ look-up-words s at note index records items h =
 -- an annotation ---------------------------------------------------------------------------------------------------------------------
 
 -- each turn of a sweep finds one group at most
-listed-few : (f : GroupAnswer) → length (listed f) ≤ 1
+listed-few : (f : GroupAnswer) → length (foundGroups f) ≤ 1
 listed-few (Found g) = omega arith
 listed-few NoGroup = omega arith
 
@@ -162,15 +162,15 @@ unfolding sweepRunIn
 sweep-few zero text at so-far l = omega arith
 sweep-few (suc n) text at so-far l =
     go (foundRun text at l) (ltb at (length text))
-    (sweep-few n text (nextAt at (foundRun text at l)) (so-far ++ listed (foundRun text at l)) (lentAfter (buildsAt text at l) text l))
+    (sweep-few n text (nextAt at (foundRun text at l)) (so-far ++ foundGroups (foundRun text at l)) (lentAfter (buildsAt text at l) text l))
   where
     go : (f : GroupAnswer) (t : Bool)
-        → length (sweepRunIn n text (nextAt at f) (so-far ++ listed f) (lentAfter (buildsAt text at l) text l) .groups) ≤ length (so-far ++ listed f) + n
-        → length (pick t (sweepRunIn n text (nextAt at f) (so-far ++ listed f) (lentAfter (buildsAt text at l) text l)) (swept so-far l) .groups)
+        → length (sweepRunIn n text (nextAt at f) (so-far ++ foundGroups f) (lentAfter (buildsAt text at l) text l) .groups) ≤ length (so-far ++ foundGroups f) + n
+        → length (pick t (sweepRunIn n text (nextAt at f) (so-far ++ foundGroups f) (lentAfter (buildsAt text at l) text l)) (swept so-far l) .groups)
         ≤ length so-far + suc n
     go f true h =
         let k = listed-few f in
-        let e : length (so-far ++ listed f) ≡ length so-far + length (listed f) = simp length-append refl in
+        let e : length (so-far ++ foundGroups f) ≡ length so-far + length (foundGroups f) = simp length-append refl in
         omega arith
     go f false h = omega arith
 

@@ -18,7 +18,7 @@ use Rattle.item.specs.Group.{Group}
 use Rattle.resolve.proofs.AtBracket.{opens-in}
 use Rattle.resolve.proofs.Parts.{group-in-order}
 use Rattle.definition_line.specs.Lines.{groupEnd}
-use Rattle.sweep.specs.Sweep.{listed, nextAt, foundAt, sweepIn, sweepOf}
+use Rattle.sweep.specs.Sweep.{foundGroups, nextAt, foundAt, sweepIn, sweepOf}
 use Rattle.histories.specs.EveryGroup.{Admits, Some, AllOf}
 
 module _ (text : List ℕ) where
@@ -55,7 +55,7 @@ module _ (text : List ℕ) where
   each-fine (suc n) at = go (ltb at (length text)) (foundAt text at) refl (λ k. each-fine n k)
     where
       go : (b : Bool) (f : GroupAnswer) → foundAt text at ≡ f → ((k : ℕ) → Each (Fine k) (sweepIn n text k))
-          → Each (Fine at) (pick b (listed f ++ sweepIn n text (nextAt at f)) [])
+          → Each (Fine at) (pick b (foundGroups f ++ sweepIn n text (nextAt at f)) [])
       go true (Found g) e rest =
           let k = here at g e in
           (k .0, later at (groupEnd g) (sweepIn n text (groupEnd g)) (omega (arith, k .1)) (rest (groupEnd g)))
@@ -68,7 +68,7 @@ module _ (text : List ℕ) where
   in-order (suc n) at = go (ltb at (length text)) (foundAt text at) (λ k. in-order n k)
     where
       go : (b : Bool) (f : GroupAnswer) → ((k : ℕ) → Sorted (λ (g h : Group). groupEnd g ≤ h .at) (sweepIn n text k))
-          → Sorted (λ (g h : Group). groupEnd g ≤ h .at) (pick b (listed f ++ sweepIn n text (nextAt at f)) [])
+          → Sorted (λ (g h : Group). groupEnd g ≤ h .at) (pick b (foundGroups f ++ sweepIn n text (nextAt at f)) [])
       go true (Found g) rest = (
         each-map (Fine (groupEnd g)) (λ (h : Group). groupEnd g ≤ h .at) (sweepIn n text (groupEnd g)) (λ h k. k .0) (each-fine n (groupEnd g)),
         rest (groupEnd g),
@@ -110,7 +110,7 @@ module _ (text : List ℕ) where
       (go (foundAt text at) refl (λ k l m. every-one n k p g a l (omega (arith, enough, m))))
     where
       go : (f : GroupAnswer) → foundAt text at ≡ f → ((k : ℕ) → k ≤ p → at < k → Some (Covers p g) (sweepIn n text k))
-          → Some (Covers p g) (listed f ++ sweepIn n text (nextAt at f))
+          → Some (Covers p g) (foundGroups f ++ sweepIn n text (nextAt at f))
       go (Found x) e rest = by-end (decLe (groupEnd x) p)
         where
           by-end : Dec (groupEnd x ≤ p) → Some (Covers p g) (x ∷ sweepIn n text (groupEnd x))

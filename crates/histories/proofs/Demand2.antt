@@ -14,7 +14,7 @@ use Rattle.text.specs.Escape.{escapedAt}
 use Rattle.utf8.specs.Refusal.{afterText}
 use Rattle.resolve.specs.Groups.{GroupAnswer, Found, NoGroup, groupAt}
 use Rattle.item.specs.Group.{Group}
-use Rattle.records.specs.Rows.{rowsLength}
+use Rattle.records.specs.ItemRecords.{recordsLength}
 use Rattle.lookup.specs.Refusals.{tooFew, lookUpRefusal}
 use Rattle.lookup.specs.LookUps.{LookedUp, lookUpGives, lookUpRefused, lookUpAnswers, lookedUp, lookUpPlain}
 use Rattle.lookup.proofs.RefusalLaws.{unrefused}
@@ -50,13 +50,13 @@ module _ (text : List ℕ) (at n m : ℕ) (items : List ℕ) where
   unfolding lookUpPlain lookedUp
   unrefused-answer z = rw (eq-eqb (lookUpRefusal text at n m) 0 z)
 
-  gives : (g : Group) → lookUpRefusal text at n m ≡ 0 → groupAt text at ≡ Found g → rowsLength g ≤ length items → answer ≡ lookUpGives g items
+  gives : (g : Group) → lookUpRefusal text at n m ≡ 0 → groupAt text at ≡ Found g → recordsLength g ≤ length items → answer ≡ lookUpGives g items
   unfolding lookUpAnswers
-  gives g z e r = unrefused-answer z ∙ rw (e, le-ltb (length items) (rowsLength g) r)
+  gives g z e r = unrefused-answer z ∙ rw (e, le-ltb (length items) (recordsLength g) r)
 
-  short : (g : Group) → lookUpRefusal text at n m ≡ 0 → groupAt text at ≡ Found g → length items < rowsLength g → answer ≡ lookUpRefused 10 items
+  short : (g : Group) → lookUpRefusal text at n m ≡ 0 → groupAt text at ≡ Found g → length items < recordsLength g → answer ≡ lookUpRefused 10 items
   unfolding lookUpAnswers
-  short g z e r = unrefused-answer z ∙ rw (e, lt-ltb (length items) (rowsLength g) r)
+  short g z e r = unrefused-answer z ∙ rw (e, lt-ltb (length items) (recordsLength g) r)
 
   -- no group: 5
   lacks : lookUpRefusal text at n m ≡ 0 → ((g : Group) → Admits text at g → ⊥) → answer ≡ lookUpRefused 5 items
@@ -81,14 +81,14 @@ module _ (text : List ℕ) (at n m : ℕ) (items : List ℕ) where
       go : (b : Bool) → eqb (lookUpRefusal text at n m) 0 ≡ b → (a : GroupAnswer) → groupAt text at ≡ a
           → pick b (lookUpAnswers a items) (lookUpRefused (lookUpRefusal text at n m) items) .number ≡ 0
           → (g : Group) × Admits text at g × (pick b (lookUpAnswers a items) (lookUpRefused (lookUpRefusal text at n m) items) ≡ lookUpGives g items)
-      go true q (Found g) e h = room g (eqb-true _ 0 q) e (ltb (length items) (rowsLength g)) h
+      go true q (Found g) e h = room g (eqb-true _ 0 q) e (ltb (length items) (recordsLength g)) h
       go true q NoGroup e h = absurd (omega (arith, h))
       go false q a e h = absurd (true≢false (sym (eq-eqb (lookUpRefusal text at n m) 0 h) ∙ q))
 
   lacks-only : answer .number ≡ 5 → (g : Group) → Admits text at g → ⊥
   unfolding lookUpPlain lookedUp lookUpAnswers lookUpRefused lookUpGives
   lacks-only h g a =
-      go (eqb (lookUpRefusal text at n m) 0) (ltb (length items) (rowsLength g))
+      go (eqb (lookUpRefusal text at n m) 0) (ltb (length items) (recordsLength g))
       (subst (λ (x : GroupAnswer). lookedUp (lookUpRefusal text at n m) x items .number ≡ 5) (a .1) h)
     where
       go : (b c : Bool) → pick b (pick c (lookUpRefused 10 items) (lookUpGives g items)) (lookUpRefused (lookUpRefusal text at n m) items) .number ≡ 5 → ⊥

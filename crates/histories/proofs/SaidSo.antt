@@ -14,19 +14,19 @@ use Rattle.base.specs.Fold.{fold}
 use Rattle.base.specs.Spans.{span}
 use Rattle.item.specs.declared.Item.{Item}
 use Rattle.item.specs.Group.{Group}
-use Rattle.records.specs.Rows.{recordOf, rowOf, rowsIn, rowsOf}
+use Rattle.records.specs.ItemRecords.{itemRecord, unnumberedRecord, recordsIn, recordsOf}
 use Rattle.records.specs.Widths.{itemWidth, item-label, item-label-length}
 use Rattle.pool.specs.Layout.{hasPool}
 use Rattle.definition_line.specs.Lines.{keyOf}
 use Rattle.definition.specs.Defs.{defOf}
 use Rattle.label.specs.Labels.{labelText}
-use Rattle.standing.specs.Rows.{Placed, itemRows}
+use Rattle.standing.specs.GroupRecords.{Placed, itemRecords}
 use Rattle.standing.proofs.Swept.{groupsOf, placed-groups}
 use Rattle.records.specs.Fields.{itemField}
 use Rattle.uses.proofs.Fields.{item-field}
-use Rattle.sweep.proofs.Laws.{item-rows-length}
+use Rattle.sweep.proofs.Laws.{item-records-length}
 use Rattle.annotation.specs.Sources.{Source, numberOf, useOf, used}
-use Rattle.annotation.specs.Content.{Tally, tally, placedOf, labelFor, cited, numbered, unnumbered, addItem, addGroup, tallyOf, contentOf}
+use Rattle.annotation.specs.Content.{Tally, tally, placedOf, labelFor, citedItem, numbered, unnumbered, addItem, addGroup, tallyOf, contentOf}
 use Rattle.annotation.specs.Items.{eachItem, itemKeys}
 use Rattle.annotation.proofs.Numbers.{sources-in-order, numbers-stay}
 use Rattle.annotation.proofs.Each.{cell-front, count-more, by-place}
@@ -45,42 +45,42 @@ flatten-more (l ∷ ls) x = ap (λ (r : List ℕ). l ++ r) (flatten-more ls x) �
 
 -- the items so far: their records as they are when looked up, their labels, and their keys where they are numbered
 record So (t : Tally) (rows : List ℕ) (ls : List (List ℕ)) (is : List (Option (List ℕ))) : Type 0 where
-  count : length (t .rows) ≡ itemWidth * length ls
+  count : length (t .records) ≡ itemWidth * length ls
   alike : length rows ≡ itemWidth * length ls
   keyed : length is ≡ length ls
-  found : (k c : ℕ) → k < length ls → c < 12 → itemField (t .rows) k c ≡ itemField rows k c
-  offsets : (k : ℕ) → k < length ls → itemField (t .rows) k item-label ≡ labelAfter (take k ls) (getD is k none)
-  lengths : (k : ℕ) → k < length ls → itemField (t .rows) k item-label-length ≡ length (getD ls k [])
+  found : (k c : ℕ) → k < length ls → c < 12 → itemField (t .records) k c ≡ itemField rows k c
+  offsets : (k : ℕ) → k < length ls → itemField (t .records) k item-label ≡ labelAfter (take k ls) (getD is k none)
+  lengths : (k : ℕ) → k < length ls → itemField (t .records) k item-label-length ≡ length (getD ls k [])
   joins : t .labels ≡ flatten ls
 
 -- its record `row`, its record `flat` when looked up, its label and its key
 module _ (t : Tally) (rows : List ℕ) (ls : List (List ℕ)) (is : List (Option (List ℕ))) (u : So t rows ls is) (sources : List Source)
     (row flat label : List ℕ) (key : Option (List ℕ)) (wide : length row ≡ itemWidth) (as-wide : length flat ≡ itemWidth)
     (same : take 12 row ≡ take 12 flat) (at : getD row 14 0 ≡ labelAfter ls key) (long : getD row 15 0 ≡ length label) where
-  front : (k c : ℕ) → k < length ls → c < itemWidth → itemField (t .rows ++ row) k c ≡ itemField (t .rows) k c
-  front k c h g = cell-front (t .rows) row (length ls) k c (u .count) h g
+  front : (k c : ℕ) → k < length ls → c < itemWidth → itemField (t .records ++ row) k c ≡ itemField (t .records) k c
+  front k c h g = cell-front (t .records) row (length ls) k c (u .count) h g
 
-  back : (c : ℕ) → itemField (t .rows ++ row) (length ls) c ≡ getD row c 0
-  back c = item-field (t .rows) row (length ls) c (u .count)
+  back : (c : ℕ) → itemField (t .records ++ row) (length ls) c ≡ getD row c 0
+  back c = item-field (t .records) row (length ls) c (u .count)
 
-  more : So (tally sources (t .rows ++ row) (t .labels ++ label)) (rows ++ flat) (ls ++ (label ∷ [])) (is ++ (key ∷ []))
+  more : So (tally sources (t .records ++ row) (t .labels ++ label)) (rows ++ flat) (ls ++ (label ∷ [])) (is ++ (key ∷ []))
   more = record {
-    count = count-more (t .rows) row ls label (u .count) wide;
+    count = count-more (t .records) row ls label (u .count) wide;
     alike = count-more rows flat ls label (u .alike) as-wide;
     keyed = omega (arith, length-append is (key ∷ []), length-append ls (label ∷ []), u .keyed);
     found = λ k c h g.
-        by-place (λ k. itemField (t .rows ++ row) k c ≡ itemField (rows ++ flat) k c) ls label
+        by-place (λ k. itemField (t .records ++ row) k c ≡ itemField (rows ++ flat) k c) ls label
         (λ k l. front k c l (omega (arith, g)) ∙ u .found k c l g ∙ sym (cell-front rows flat (length ls) k c (u .alike) l (omega (arith, g))))
         (back c ∙ sym (getD-take 12 row c 0 g) ∙ ap (λ (r : List ℕ). getD r c 0) same ∙ getD-take 12 flat c 0 g
         ∙ sym (item-field rows flat (length ls) c (u .alike)))
         k h;
     offsets = by-place
-        (λ k. itemField (t .rows ++ row) k item-label ≡ labelAfter (take k (ls ++ (label ∷ []))) (getD (is ++ (key ∷ [])) k none))
+        (λ k. itemField (t .records ++ row) k item-label ≡ labelAfter (take k (ls ++ (label ∷ []))) (getD (is ++ (key ∷ [])) k none))
         ls label
         (λ k l. rw (take-append-le k ls (label ∷ []) (omega arith), List·getD-append is (key ∷ []) none k (omega (arith, u .keyed)))
         (front k 14 l (omega arith) ∙ u .offsets k l))
         (rw (take-at ls (label ∷ []) (length ls) refl, getD-at is key [] none (length ls) (u .keyed)) (back 14 ∙ at));
-    lengths = by-place (λ k. itemField (t .rows ++ row) k item-label-length ≡ length (getD (ls ++ (label ∷ [])) k [])) ls label
+    lengths = by-place (λ k. itemField (t .records ++ row) k item-label-length ≡ length (getD (ls ++ (label ∷ [])) k [])) ls label
         (λ k l. rw (List·getD-append ls (label ∷ []) [] k l) (front k 15 l (omega arith) ∙ u .lengths k l))
         (rw (getD-at ls label [] [] (length ls) refl) (back 15 ∙ long));
     joins = ap (λ (r : List ℕ). r ++ label) (u .joins) ∙ sym (flatten-more ls label);
@@ -98,8 +98,8 @@ module _ (text : List ℕ) (mode : ℕ) (all : List Group) (pool : List ℕ) whe
   key-of p i = pick (eqb (p .standing) 2) (some (keyOf text i)) none
 
   item-so : (p : Placed) (t : Tally) (i : Item) (rows : List ℕ) (ls : List (List ℕ)) (is : List (Option (List ℕ))) → So t rows ls is
-      → So (addItem text mode all pool p t i) (rows ++ rowOf (p .group .integral) i) (ls ++ (its p (t .sources) i ∷ [])) (is ++ (key-of p i ∷ []))
-  unfolding addItem numbered unnumbered cited rowOf recordOf labelAfter
+      → So (addItem text mode all pool p t i) (rows ++ unnumberedRecord (p .group .integral) i) (ls ++ (its p (t .sources) i ∷ [])) (is ++ (key-of p i ∷ []))
+  unfolding addItem numbered unnumbered citedItem unnumberedRecord itemRecord labelAfter
   item-so p t i rows ls is u = go (eqb (p .standing) 2)
     where
       label : List ℕ
@@ -109,17 +109,17 @@ module _ (text : List ℕ) (mode : ℕ) (all : List Group) (pool : List ℕ) whe
       key = keyOf text i
 
       flat : List ℕ
-      flat = rowOf (p .group .integral) i
+      flat = unnumberedRecord (p .group .integral) i
 
       go : (b : Bool)
           → So (pick b (numbered text mode all pool (p .group .integral) t i) (unnumbered (p .group .integral) t i)) (rows ++ flat)
           (ls ++ (pick b label [] ∷ [])) (is ++ (pick b (some key) none ∷ []))
       go true =
           more t rows ls is u (used key (t .sources))
-          (recordOf (p .group .integral) i (numberOf key (t .sources)) (useOf (hasPool pool) key (t .sources)) (span (length (t .labels)) (length label)))
+          (itemRecord (p .group .integral) i (numberOf key (t .sources)) (useOf (hasPool pool) key (t .sources)) (span (length (t .labels)) (length label)))
           flat label (some key) refl refl refl (ap length (u .joins)) refl
       go false =
-          subst (λ (l : List ℕ). So (tally (t .sources) (t .rows ++ flat) l) (rows ++ flat) (ls ++ ([] ∷ [])) (is ++ (none ∷ []))) (append-nil (t .labels))
+          subst (λ (l : List ℕ). So (tally (t .sources) (t .records ++ flat) l) (rows ++ flat) (ls ++ ([] ∷ [])) (is ++ (none ∷ []))) (append-nil (t .labels))
           (more t rows ls is u (t .sources) flat flat [] none refl refl refl refl refl)
 
   -- it is the same by the sources at the end, whatever items and groups come after
@@ -142,43 +142,43 @@ module _ (text : List ℕ) (mode : ℕ) (all : List Group) (pool : List ℕ) whe
   items-so : (p : Placed) (more : List Item) (t : Tally) (rows : List ℕ) (ls : List (List ℕ)) (is : List (Option (List ℕ))) (ps : List Placed)
       (last : List Source)
       → fold (addGroup text mode all pool) (fold (addItem text mode all pool p) t more) ps .sources ≡ last → So t rows ls is
-      → So (fold (addItem text mode all pool p) t more) (rows ++ rowsIn (p .group .integral) more) (ls ++ map (its p last) more)
+      → So (fold (addItem text mode all pool p) t more) (rows ++ recordsIn (p .group .integral) more) (ls ++ map (its p last) more)
       (is ++ map (key-of p) more)
   unfolding fold flatMap
   items-so p [] t rows ls is ps last e u = rw (append-nil rows, append-nil ls, append-nil is) u
   items-so p (i ∷ more) t rows ls is ps last e u =
       rw (
-        ← append-assoc rows (rowOf (p .group .integral) i) (rowsIn (p .group .integral) more),
+        ← append-assoc rows (unnumberedRecord (p .group .integral) i) (recordsIn (p .group .integral) more),
         ← append-assoc ls (its p last i ∷ []) (map (its p last) more),
         ← append-assoc is (key-of p i ∷ []) (map (key-of p) more),
         ← its-stays p t i more ps ∙ ap (λ (ss : List Source). its p ss i) e,
       )
-      (items-so p more (addItem text mode all pool p t i) (rows ++ rowOf (p .group .integral) i) (ls ++ (its p (t .sources) i ∷ []))
+      (items-so p more (addItem text mode all pool p t i) (rows ++ unnumberedRecord (p .group .integral) i) (ls ++ (its p (t .sources) i ∷ []))
       (is ++ (key-of p i ∷ [])) ps last e (item-so p t i rows ls is u))
 
   groups-so : (ps : List Placed) (t : Tally) (rows : List ℕ) (ls : List (List ℕ)) (is : List (Option (List ℕ))) (last : List Source)
       → fold (addGroup text mode all pool) t ps .sources ≡ last → So t rows ls is
-      → So (fold (addGroup text mode all pool) t ps) (rows ++ itemRows (groupsOf ps))
+      → So (fold (addGroup text mode all pool) t ps) (rows ++ itemRecords (groupsOf ps))
       (ls ++ itemLabels text mode all pool last ps) (is ++ itemKeys text ps)
-  unfolding fold addGroup flatMap eachItem rowsOf
+  unfolding fold addGroup flatMap eachItem recordsOf
   groups-so [] t rows ls is last e u = rw (append-nil rows, append-nil ls, append-nil is) u
   groups-so (p ∷ ps) t rows ls is last e u =
       let labels : ls ++ itemLabels text mode all pool last (p ∷ ps) ≡ (ls ++ map (its p last) (p .group .items)) ++ itemLabels text mode all pool last ps
       = sym (append-assoc ls (map (its p last) (p .group .items)) (itemLabels text mode all pool last ps)) in
       rw (
-        ← append-assoc rows (rowsIn (p .group .integral) (p .group .items)) (itemRows (groupsOf ps)),
+        ← append-assoc rows (recordsIn (p .group .integral) (p .group .items)) (itemRecords (groupsOf ps)),
         labels,
         ← append-assoc is (map (key-of p) (p .group .items)) (itemKeys text ps),
       )
-      (groups-so ps (fold (addItem text mode all pool p) t (p .group .items)) (rows ++ rowsIn (p .group .integral) (p .group .items))
+      (groups-so ps (fold (addItem text mode all pool p) t (p .group .items)) (rows ++ recordsIn (p .group .integral) (p .group .items))
       (ls ++ map (its p last) (p .group .items)) (is ++ map (key-of p) (p .group .items)) last e
       (items-so p (p .group .items) t rows ls is ps last e u))
 
-  all-so : So (tallyOf text mode all pool) (itemRows all) (itemLabels text mode all pool (tallyOf text mode all pool .sources) (placedOf text all pool))
+  all-so : So (tallyOf text mode all pool) (itemRecords all) (itemLabels text mode all pool (tallyOf text mode all pool .sources) (placedOf text all pool))
       (itemKeys text (placedOf text all pool))
   unfolding tallyOf placedOf flatten
   all-so =
-      subst (λ (gs : List Group). So (tallyOf text mode all pool) (itemRows gs) (itemLabels text mode all pool (tallyOf text mode all pool .sources) (placedOf text all pool)) (itemKeys text (placedOf text all pool)))
+      subst (λ (gs : List Group). So (tallyOf text mode all pool) (itemRecords gs) (itemLabels text mode all pool (tallyOf text mode all pool .sources) (placedOf text all pool)) (itemKeys text (placedOf text all pool)))
       (placed-groups _ text false 0 all)
       (groups-so (placedOf text all pool) (tally [] [] []) [] [] [] (tallyOf text mode all pool .sources) refl
       (record {
@@ -195,7 +195,7 @@ module _ (text : List ℕ) (mode : ℕ) (all : List Group) (pool : List ℕ) whe
   unfolding contentOf
   says =
       let u = all-so in
-      let n = item-rows-length all in
+      let n = item-records-length all in
       let c = records-numbered text mode all pool in
       record {
         groups = refl;

@@ -11,7 +11,7 @@ use Rattle.index.specs.declared.Bracket.{Bracket}
 use Rattle.index.specs.Entries.{opensAt}
 use Rattle.resolve.specs.Groups.{Found, groupAt}
 use Rattle.item.specs.Group.{Group}
-use Rattle.records.specs.Rows.{rowsLength}
+use Rattle.records.specs.ItemRecords.{recordsLength}
 use Rattle.lookup.specs.Refusals.{lookUpRefusal}
 use Rattle.lookup.specs.LookUps.{LookedUp, lookUpGives, lookUpRefused, lookUpRun}
 use Rattle.resolve.specs.Lefts.{Left}
@@ -31,8 +31,8 @@ Admits text p g = (opensAt text p ≡ true) × (groupAt text p ≡ Found g)
 -- rules admit there, with the records of its items, or 10 where these are longer than the area; 5 where they admit none. Nothing else:
 -- an accepted call gives a group that they admit, and 5 comes only where they admit none.
 pub record LookUpFinds (text : List ℕ) (at n m : ℕ) (items : List ℕ) (answer : LookedUp) : Type 0 where
-  pub found : lookUpRefusal text at n m ≡ 0 → (g : Group) → Admits text at g → rowsLength g ≤ length items → answer ≡ lookUpGives g items
-  pub no-room : lookUpRefusal text at n m ≡ 0 → (g : Group) → Admits text at g → length items < rowsLength g → answer ≡ lookUpRefused 10 items
+  pub found : lookUpRefusal text at n m ≡ 0 → (g : Group) → Admits text at g → recordsLength g ≤ length items → answer ≡ lookUpGives g items
+  pub no-room : lookUpRefusal text at n m ≡ 0 → (g : Group) → Admits text at g → length items < recordsLength g → answer ≡ lookUpRefused 10 items
   pub none : lookUpRefusal text at n m ≡ 0 → ((g : Group) → Admits text at g → ⊥) → answer ≡ lookUpRefused 5 items
   pub found-only : answer .number ≡ 0 → (g : Group) × Admits text at g × (answer ≡ lookUpGives g items)
   pub none-only : answer .number ≡ 5 → (g : Group) → Admits text at g → ⊥

@@ -8,7 +8,7 @@ use Rattle.base.specs.Pick.{pick}
 use Rattle.item.specs.Group.{Group}
 use Rattle.records.specs.Widths.{itemWidth, item-number, item-use, item-label, item-label-length}
 use Rattle.pool.specs.Layout.{hasPool}
-use Rattle.standing.specs.Rows.{Placed, itemCount, itemRows, groupRows}
+use Rattle.standing.specs.GroupRecords.{Placed, itemCount, itemRecords, groupRecords}
 use Rattle.records.specs.Fields.{itemField}
 use Rattle.annotation.specs.Sources.{Source}
 use Rattle.annotation.specs.Content.{Areas, placedOf, labelFor, tallyOf}
@@ -27,10 +27,10 @@ labelAfter before (some key) = length (flatten before)
 pub record SaysOf (text : List ℕ) (mode : ℕ) (pool : List ℕ) (all : List Group) (placed : List Placed) (sources : List Source) (content : Areas)
     : Type 0 where
   -- one record for each group: "pair, first item .., item count, standing"
-  pub groups : content .groups ≡ groupRows 0 placed
+  pub groups : content .groups ≡ groupRecords 0 placed
   -- one record for each item; its first 12 numbers, from prefix to marks, are those of its record when it is looked up
   pub count : length (content .items) ≡ itemWidth * itemCount all
-  pub items : (k c : ℕ) → k < itemCount all → c < 12 → itemField (content .items) k c ≡ itemField (itemRows all) k c
+  pub items : (k c : ℕ) → k < itemCount all → c < 12 → itemField (content .items) k c ≡ itemField (itemRecords all) k c
   -- "A source's number is the order of its first use in numbered groups, from 1."
   pub in-order : map (λ (s : Source). s .key) sources ≡ firstUses [] (numberedKeys text placed)
   pub numbers : (k : ℕ) → k < itemCount all → itemField (content .items) k item-number ≡ getD (itemNumbers text sources placed) k 0

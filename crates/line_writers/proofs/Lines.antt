@@ -11,7 +11,7 @@ use Rattle.decimal.specs.Decimal.{decimal}
 use Rattle.records.specs.Records.{groupField, keyIn}
 use Rattle.records.specs.Fields.{itemField}
 use Rattle.line_writers.specs.declared.Told.{Told}
-use Rattle.line_writers.specs.Lines.{groupPart, itemPart, itemLine, itemLines, linesOf, groupLines, countLine, refusedLine, listed}
+use Rattle.line_writers.specs.Lines.{groupPart, itemPart, itemLine, itemLines, linesOf, groupLines, countLine, refusedLine, answerLines}
 use Rattle.line_writers.specs.Writes.{Put, Room, answerBy}
 use Rattle.line_writers.proofs.Puts.{two-first, two-second, two-put, Along, along-start, along-end, along-room, along-next}
 use Rattle.records.specs.Widths.{item-code, item-number, group-place, group-length, group-standing, group-first, group-count, itemWidth, groupWidth}
@@ -299,23 +299,23 @@ pub ruleset counts-laws = (counts-first, counts-second, counts-third, counts-put
 
 -- the whole --------------------------------------------------------------------------------------------------------------------------
 
-module _ (text items groups out : List ℕ) (c : Told) (h : Room 0 (listed text (answerBy c items groups)) out) where
+module _ (text items groups out : List ℕ) (c : Told) (h : Room 0 (answerLines text (answerBy c items groups)) out) where
   -- a refusal
   module _ (n : c .number ≡ 0 → ⊥) where
-    refused-is : listed text (answerBy c items groups) ≡ refused-word ++ field (c .number) 10
-    unfolding listed refusedLine ascii
+    refused-is : answerLines text (answerBy c items groups) ≡ refused-word ++ field (c .number) 10
+    unfolding answerLines refusedLine ascii
     refused-is = rw (ne-eqb (c .number) 0 n) (simp append-assoc refl)
 
     pub refused-room : Room 0 (refused-word ++ field (c .number) 10) out
     refused-room = subst (λ (w : List ℕ). Room 0 w out) refused-is h
 
     pub refused-put : {r : ℕ} {out₁ : List ℕ} → Put 0 (refused-word ++ field (c .number) 10) out out₁ r
-        → Put 0 (listed text (answerBy c items groups)) out out₁ r
+        → Put 0 (answerLines text (answerBy c items groups)) out out₁ r
     refused-put {r} {out₁} p = subst (λ (w : List ℕ). Put 0 w out out₁ r) (sym refused-is) p
 
   module _ (n : c .number ≡ 0) where
-    listed-is : listed text (answerBy c items groups) ≡ countLine (answerBy c [] []) ++ groupLines (c .groups) text groups items
-    unfolding listed countLine
+    listed-is : answerLines text (answerBy c items groups) ≡ countLine (answerBy c [] []) ++ groupLines (c .groups) text groups items
+    unfolding answerLines countLine
     listed-is = rw (eq-eqb (c .number) 0 n) refl
 
     pub listed-first : Room 0 (countLine (answerBy c [] [])) out
@@ -326,7 +326,7 @@ module _ (text items groups out : List ℕ) (c : Told) (h : Room 0 (listed text 
       listed-second = two-second 0 _ out (countLine (answerBy c [] [])) (groupLines (c .groups) text groups items) listed-is h p
 
       pub listed-put : {r : ℕ} {out₂ : List ℕ} → Put a (groupLines (c .groups) text groups items) out₁ out₂ r
-          → Put 0 (listed text (answerBy c items groups)) out out₂ r
+          → Put 0 (answerLines text (answerBy c items groups)) out out₂ r
       listed-put q = two-put 0 _ out (countLine (answerBy c [] [])) (groupLines (c .groups) text groups items) listed-is h p q
 
 pub ruleset listed-laws = (refused-room, refused-put, listed-first, listed-second, listed-put)

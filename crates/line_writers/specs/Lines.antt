@@ -50,6 +50,6 @@ unfoldable pub refusedLine : ℕ → List ℕ
 refusedLine number = ascii "refused " ++ decimal number ++ ascii "\n"
 
 -- the lines of an answer, or only its refusal
-unfoldable pub listed : List ℕ → Annotated → List ℕ
-listed text a =
+unfoldable pub answerLines : List ℕ → Annotated → List ℕ
+answerLines text a =
     pick (eqb (a .number) 0) (countLine a ++ groupLines (a .groups) text (a .areas .groups) (a .areas .items)) (refusedLine (a .number))

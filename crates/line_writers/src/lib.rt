@@ -7,7 +7,7 @@ ghost use mathlib.Core.List.{[], _∷_, _++_};
 ghost use Prim.Native.Nat.{_*_, _≤_, _<_};
 ghost use lib.ListN.{drop};
 ghost use Rattle.decimal.specs.Decimal.{decimal};
-ghost use Rattle.line_writers.specs.Lines.{groupPart, itemPart, itemLine, linesOf, groupLines, countLine, listed};
+ghost use Rattle.line_writers.specs.Lines.{groupPart, itemPart, itemLine, linesOf, groupLines, countLine, answerLines};
 ghost use Rattle.line_writers.specs.Writes.{Put, Room, answerBy};
 ghost use Rattle.records.specs.Widths.{groupWidth, itemWidth};
 
@@ -148,8 +148,8 @@ fn put_counts(c: Told, out: &mut [u8]) -> usize
 
 // The listing of an answer and its records.
 pub fn put_listing(text: &[u8], c: Told, groups: &[u16], items: &[u16], out: &mut [u8]) -> usize
-    requires { ⌜ (c .groups ≤ 65535) × Room 0 (listed (now text) (answerBy c (now items) (now groups))) (now out) ⌝ }
-    ensures { λ r. ⌜ Put 0 (listed (now (text .entry)) (answerBy c (now (items .entry)) (now (groups .entry)))) (now (out .entry)) (now (out .exit)) r ⌝ }
+    requires { ⌜ (c .groups ≤ 65535) × Room 0 (answerLines (now text) (answerBy c (now items) (now groups))) (now out) ⌝ }
+    ensures { λ r. ⌜ Put 0 (answerLines (now (text .entry)) (answerBy c (now (items .entry)) (now (groups .entry)))) (now (out .entry)) (now (out .exit)) r ⌝ }
 {
     if c.number == 0 {
         let k = put_counts(c, out);

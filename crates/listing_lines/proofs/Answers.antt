@@ -14,7 +14,7 @@ use Rattle.base.proofs.Bools.{and-left, and-right}
 use Rattle.item.specs.Group.{Group}
 use Rattle.lookup.specs.Refusals.{tooFew}
 use Rattle.sweep.specs.Sweep.{sweepOf}
-use Rattle.sweep.proofs.Laws.{group-rows-length}
+use Rattle.sweep.proofs.Laws.{group-records-length}
 use Rattle.sweep.proofs.Areas.{written-front}
 use Rattle.annotation.specs.declared.answer.Annotation.{Annotation}
 use Rattle.annotation.specs.declared.answer.Annotation.the-variants.{Accepted, Refused}
@@ -24,7 +24,7 @@ use Rattle.annotation.specs.Call.{Annotated, AnnotateRan, annotateRefused, room
 use Rattle.annotation.specs.Refusal.{annotateRefusal}
 use Rattle.annotation.proofs.Truth.{annotate-true}
 use Rattle.line_writers.specs.declared.Told.{Told}
-use Rattle.line_writers.specs.Lines.{countLine, listed}
+use Rattle.line_writers.specs.Lines.{countLine, answerLines}
 use Rattle.standing.proofs.Swept.{placed-length}
 use Rattle.listing_lines.specs.Listing.{listingAreas, listingAnswer, listingOf}
 use Rattle.line_writers.specs.Writes.{Put, Room, answerBy}
@@ -75,7 +75,7 @@ module _ (text index items groups references labels out : List ℕ) (z : Ready t
 pub content-groups : (text : List ℕ) (mode : ℕ) (all : List Group) (pool : List ℕ) → length (contentOf text mode all pool .groups) ≡ groupWidth * length all
 unfolding contentOf placedOf
 content-groups text mode all pool =
-    group-rows-length 0 (placedFrom text all pool false 0 all) ∙ ap (λ (n : ℕ). groupWidth * n) (placed-length _ text false 0 all)
+    group-records-length 0 (placedFrom text all pool false 0 all) ∙ ap (λ (n : ℕ). groupWidth * n) (placed-length _ text false 0 all)
 
 room-groups : (content given : Areas) → roomFor content given ≡ true → length (content .groups) ≤ length (given .groups)
 unfolding roomFor
@@ -118,11 +118,11 @@ groups-few text = go (eqb (annotateRefusal text 0 [] (length text) (length text)
 -- the listing asks only for the number, the counts and two areas of an answer
 listed-same : (text : List ℕ) (c : Told) (items groups : List ℕ) (a : Annotated) → c .number ≡ a .number → c .groups ≡ a .groups
     → c .items ≡ a .items → c .sources ≡ a .sources → items ≡ a .areas .items → groups ≡ a .areas .groups
-    → listed text (answerBy c items groups) ≡ listed text a
-unfolding listed countLine
+    → answerLines text (answerBy c items groups) ≡ answerLines text a
+unfolding answerLines countLine
 listed-same text c items groups a e₀ e₁ e₂ e₃ e₄ e₅ = rw (e₀, e₁, e₂, e₃, e₄, e₅) refl
 
-listing-is : (text : List ℕ) → length text ≤ 4096 → listed text (listingAnswer text) ≡ listingOf text
+listing-is : (text : List ℕ) → length text ≤ 4096 → answerLines text (listingAnswer text) ≡ listingOf text
 unfolding listingOf
 listing-is text h = rw (le-ltb 4096 (length text) h) refl
 
@@ -140,11 +140,11 @@ module _ (text index items groups references labels out : List ℕ) (z : Ready t
   unfolding annotationNumbers
   numbers = counted ∙ ap (take 4) told
 
-  gives : listed text (answerBy c items′ groups′) ≡ listingOf text
+  gives : answerLines text (answerBy c items′ groups′) ≡ listingOf text
   gives =
       let n = numbers in
       listed-same text c items′ groups′ gave (cc) (cc) (cc) (cc) item-area group-area
-      ∙ ap (listed text) (answer-is text index items groups references labels out z)
+      ∙ ap (answerLines text) (answer-is text index items groups references labels out z)
       ∙ listing-is text (z .short)
 
   pub in-groups : c .groups ≤ 65535
@@ -155,10 +155,10 @@ module _ (text index items groups references labels out : List ℕ) (z : Ready t
       let l = groups-few text in
       omega (arith, z .short)
 
-  pub in-room : Room 0 (listed text (answerBy c items′ groups′)) out
+  pub in-room : Room 0 (answerLines text (answerBy c items′ groups′)) out
   in-room = rw gives (omega (arith, z .room))
 
-  pub in-listed : {out′ : List ℕ} {r : ℕ} → Put 0 (listed text (answerBy c items′ groups′)) out out′ r → Wrote (listingOf text) out out′ r
+  pub in-listed : {out′ : List ℕ} {r : ℕ} → Put 0 (answerLines text (answerBy c items′ groups′)) out out′ r → Wrote (listingOf text) out out′ r
   in-listed {out′} {r} p = record {
     count = let e = ap length gives in omega (arith, p .end);
     area = p .area ∙ rw gives (written-front (listingOf text) out);

@@ -14,11 +14,11 @@ use Rattle.base.specs.Lists.{part, written}
 use Rattle.base.specs.Ascii.{ascii}
 use Rattle.item.specs.declared.Item.{Item}
 use Rattle.item.specs.Group.{Group}
-use Rattle.records.specs.Rows.{recordOf, rowOf, rowsIn, rowsOf, rowsLength}
-use Rattle.records.proofs.RowLaws.{row-length, rows-length}
+use Rattle.records.specs.ItemRecords.{itemRecord, unnumberedRecord, recordsIn, recordsOf, recordsLength}
+use Rattle.records.proofs.RecordLaws.{record-length, records-length}
 use Rattle.decimal.proofs.Laws.{decimal-short}
 use Rattle.sweep.specs.Sweep.{lentOf, sweepOf, sweepRun}
-use Rattle.standing.specs.Rows.{Placed, groupRow, groupRows, itemCount, itemRows}
+use Rattle.standing.specs.GroupRecords.{Placed, groupRecord, groupRecords, itemCount, itemRecords}
 use Rattle.standing.proofs.ItemSizes.{weight}
 use Rattle.standing.proofs.Swept.{groupsOf, placed-groups, placed-length}
 use Rattle.sweep.proofs.Sizes.{weights}
@@ -26,12 +26,12 @@ use Rattle.sweep.proofs.Sweeps.{sweep-same}
 use Rattle.records.specs.Fields.{itemField}
 use Rattle.uses.proofs.Fields.{item-field, SameItems}
 use Rattle.annotation.specs.Content.{Areas, placedFrom, placedOf, tallyOf, contentOf}
-use Rattle.annotation.specs.Call.{Annotated, annotateRefused, roomFor, filled, zeroFilled, annotateGives, answerOf, annotatePlain}
+use Rattle.annotation.specs.Call.{Annotated, annotateRefused, roomFor, contentWritten, zeroFilled, annotateGives, answerOf, annotatePlain}
 use Rattle.annotation.specs.Refusal.{annotateRefusal}
 use Rattle.annotation.specs.Steps.{Fits}
 use Rattle.annotation.proofs.Found.{swept-fits}
 use Rattle.annotation.proofs.Passes.{tally-agrees}
-use Rattle.line_writers.specs.Lines.{groupPart, itemPart, itemLine, itemLines, linesOf, groupLines, countLine, refusedLine, listed}
+use Rattle.line_writers.specs.Lines.{groupPart, itemPart, itemLine, itemLines, linesOf, groupLines, countLine, refusedLine, answerLines}
 use Rattle.listing_lines.specs.Listing.{listingAreas, listingAnswer, listingOf}
 use Rattle.listing_lines.proofs.KeyBytes.{keyWeight, sweep-keys}
 use Rattle.records.specs.Widths.{item-key-length, itemWidth}
@@ -90,32 +90,32 @@ lines-short (suc k) text group items n =
     rw (length-append, drop-drop itemWidth (itemWidth * n) items, p) (omega arith)
 
 groups-short : (ps : List Placed) (text : List ℕ) (n : ℕ) (rest items : List ℕ)
-    → length (groupLines (length ps) text (groupRows n ps ++ rest) items) ≤ 106 * itemCount (groupsOf ps) + keySum items n (itemCount (groupsOf ps))
-unfolding groupLines linesOf groupRows groupRow itemCount
+    → length (groupLines (length ps) text (groupRecords n ps ++ rest) items) ≤ 106 * itemCount (groupsOf ps) + keySum items n (itemCount (groupsOf ps))
+unfolding groupLines linesOf groupRecords groupRecord itemCount
 groups-short [] text n rest items = omega arith
 groups-short (p ∷ ps) text n rest items =
     let k : ℕ = length (p .group .items) in
-    let a = lines-short k text ((groupRow n p ++ groupRows (n + k) ps) ++ rest) items n in
+    let a = lines-short k text ((groupRecord n p ++ groupRecords (n + k) ps) ++ rest) items n in
     let b = groups-short ps text (n + k) rest items in
     let s = sum-add items n k (itemCount (groupsOf ps)) in
     rw length-append (omega arith)
 
 -- keys -------------------------------------------------------------------------------------------------------------------------------
 
-key-there : (b : Bool) (it : Item) (more rest : List ℕ) → getD ((rowOf b it ++ more) ++ rest) 3 0 ≡ it .key .len
-unfolding rowOf recordOf
+key-there : (b : Bool) (it : Item) (more rest : List ℕ) → getD ((unnumberedRecord b it ++ more) ++ rest) 3 0 ≡ it .key .len
+unfolding unnumberedRecord itemRecord
 key-there b it more rest = refl
 
-row-sum : (is : List Item) (integral : Bool) (before rest : List ℕ) (n : ℕ) → length before ≡ itemWidth * n
-    → keySum (before ++ (rowsIn integral is ++ rest)) n (length is) + 2 * length is ≡ weight keyWeight is
+record-sum : (is : List Item) (integral : Bool) (before rest : List ℕ) (n : ℕ) → length before ≡ itemWidth * n
+    → keySum (before ++ (recordsIn integral is ++ rest)) n (length is) + 2 * length is ≡ weight keyWeight is
 unfolding keySum flatMap weight
-row-sum [] integral before rest n e = refl
-row-sum (i ∷ is) integral before rest n e =
-    let l : length (before ++ rowOf integral i) ≡ itemWidth * (n + 1) = let r = row-length integral i in rw length-append (omega arith) in
-    let h = row-sum is integral (before ++ rowOf integral i) rest (n + 1) l in
-    let q : (before ++ rowOf integral i) ++ (rowsIn integral is ++ rest) ≡ before ++ ((rowOf integral i ++ rowsIn integral is) ++ rest)
+record-sum [] integral before rest n e = refl
+record-sum (i ∷ is) integral before rest n e =
+    let l : length (before ++ unnumberedRecord integral i) ≡ itemWidth * (n + 1) = let r = record-length integral i in rw length-append (omega arith) in
+    let h = record-sum is integral (before ++ unnumberedRecord integral i) rest (n + 1) l in
+    let q : (before ++ unnumberedRecord integral i) ++ (recordsIn integral is ++ rest) ≡ before ++ ((unnumberedRecord integral i ++ recordsIn integral is) ++ rest)
     = simp append-assoc refl in
-    let f = item-field before ((rowOf integral i ++ rowsIn integral is) ++ rest) n 3 e ∙ key-there integral i (rowsIn integral is) rest in
+    let f = item-field before ((unnumberedRecord integral i ++ recordsIn integral is) ++ rest) n 3 e ∙ key-there integral i (recordsIn integral is) rest in
     let g = rw q at h in
     omega arith
 
@@ -123,20 +123,20 @@ zero-sum : (items : List ℕ) (n : ℕ) → keySum items n 0 + 2 * 0 ≡ 0
 unfolding keySum
 zero-sum items n = refl
 
-rows-sum : (gs : List Group) (before rest : List ℕ) (n : ℕ) → length before ≡ itemWidth * n
-    → keySum (before ++ (itemRows gs ++ rest)) n (itemCount gs) + 2 * itemCount gs ≡ weights keyWeight gs
-unfolding flatMap itemCount weights rowsOf rowsLength
-rows-sum [] before rest n e = zero-sum (before ++ rest) n
-rows-sum (g ∷ gs) before rest n e =
-    let l : length (before ++ rowsIn (g .integral) (g .items)) ≡ itemWidth * (n + length (g .items)) =
-    let r = rows-length g in rw length-append (omega arith) in
-    let h = rows-sum gs (before ++ rowsIn (g .integral) (g .items)) rest (n + length (g .items)) l in
-    let here = row-sum (g .items) (g .integral) before (itemRows gs ++ rest) n e in
-    let q : (before ++ rowsIn (g .integral) (g .items)) ++ (itemRows gs ++ rest)
-    ≡ before ++ ((rowsIn (g .integral) (g .items) ++ itemRows gs) ++ rest) = simp append-assoc refl in
-    let p : before ++ (rowsIn (g .integral) (g .items) ++ (itemRows gs ++ rest))
-    ≡ before ++ ((rowsIn (g .integral) (g .items) ++ itemRows gs) ++ rest) = simp append-assoc refl in
-    let s = sum-add (before ++ ((rowsIn (g .integral) (g .items) ++ itemRows gs) ++ rest)) n (length (g .items)) (itemCount gs) in
+records-sum : (gs : List Group) (before rest : List ℕ) (n : ℕ) → length before ≡ itemWidth * n
+    → keySum (before ++ (itemRecords gs ++ rest)) n (itemCount gs) + 2 * itemCount gs ≡ weights keyWeight gs
+unfolding flatMap itemCount weights recordsOf recordsLength
+records-sum [] before rest n e = zero-sum (before ++ rest) n
+records-sum (g ∷ gs) before rest n e =
+    let l : length (before ++ recordsIn (g .integral) (g .items)) ≡ itemWidth * (n + length (g .items)) =
+    let r = records-length g in rw length-append (omega arith) in
+    let h = records-sum gs (before ++ recordsIn (g .integral) (g .items)) rest (n + length (g .items)) l in
+    let here = record-sum (g .items) (g .integral) before (itemRecords gs ++ rest) n e in
+    let q : (before ++ recordsIn (g .integral) (g .items)) ++ (itemRecords gs ++ rest)
+    ≡ before ++ ((recordsIn (g .integral) (g .items) ++ itemRecords gs) ++ rest) = simp append-assoc refl in
+    let p : before ++ (recordsIn (g .integral) (g .items) ++ (itemRecords gs ++ rest))
+    ≡ before ++ ((recordsIn (g .integral) (g .items) ++ itemRecords gs) ++ rest) = simp append-assoc refl in
+    let s = sum-add (before ++ ((recordsIn (g .integral) (g .items) ++ itemRecords gs) ++ rest)) n (length (g .items)) (itemCount gs) in
     let h′ = rw q at h in
     let here′ = rw p at here in
     omega arith
@@ -152,24 +152,24 @@ swept-fits-plain text h =
 
 -- the item records of an annotation hold the keys of the sweep
 module _ (text rest : List ℕ) (h : length text ≤ 65535) where
-  keys-there : keySum (tallyOf text 0 (sweepOf text) [] .rows ++ rest) 0 (itemCount (sweepOf text)) + 2 * itemCount (sweepOf text) ≤ length text
+  keys-there : keySum (tallyOf text 0 (sweepOf text) [] .records ++ rest) 0 (itemCount (sweepOf text)) + 2 * itemCount (sweepOf text) ≤ length text
   keys-there =
       let a = tally-agrees text 0 (sweepOf text) [] rest [] (swept-fits-plain text h) in
-      let e = rows-sum (sweepOf text) [] rest 0 refl in
+      let e = records-sum (sweepOf text) [] rest 0 refl in
       let s = sum-same _ _ (a .same-items) 0 (itemCount (sweepOf text)) in
       let k = sweep-keys text in
       rw (← a .items) (omega arith)
 
   all-short : (more : List ℕ)
-      → length (groupLines (length (sweepOf text)) text (groupRows 0 (placedOf text (sweepOf text) []) ++ more) (tallyOf text 0 (sweepOf text) [] .rows ++ rest))
-      ≤ 106 * itemCount (sweepOf text) + keySum (tallyOf text 0 (sweepOf text) [] .rows ++ rest) 0 (itemCount (sweepOf text))
+      → length (groupLines (length (sweepOf text)) text (groupRecords 0 (placedOf text (sweepOf text) []) ++ more) (tallyOf text 0 (sweepOf text) [] .records ++ rest))
+      ≤ 106 * itemCount (sweepOf text) + keySum (tallyOf text 0 (sweepOf text) [] .records ++ rest) 0 (itemCount (sweepOf text))
   unfolding placedOf
   all-short more =
-      let g = groups-short (placedFrom text (sweepOf text) [] false 0 (sweepOf text)) text 0 more (tallyOf text 0 (sweepOf text) [] .rows ++ rest) in
+      let g = groups-short (placedFrom text (sweepOf text) [] false 0 (sweepOf text)) text 0 more (tallyOf text 0 (sweepOf text) [] .records ++ rest) in
       rw (placed-length _ text false 0 (sweepOf text), placed-groups _ text false 0 (sweepOf text)) at g
 
   lines-by : (more : List ℕ)
-      → length (groupLines (length (sweepOf text)) text (groupRows 0 (placedOf text (sweepOf text) []) ++ more) (tallyOf text 0 (sweepOf text) [] .rows ++ rest))
+      → length (groupLines (length (sweepOf text)) text (groupRecords 0 (placedOf text (sweepOf text) []) ++ more) (tallyOf text 0 (sweepOf text) [] .records ++ rest))
       ≤ 36 * length text
   lines-by more =
       let f = swept-fits-plain text h in
@@ -190,8 +190,8 @@ unfolding refusedLine ascii
 refused-short n = let x = decimal-short n in simp length-append (omega arith)
 
 -- an answer that is refused, or has nothing to list
-refused-any : (n : ℕ) (text : List ℕ) (given : Areas) → length (listed text (annotateRefused n given)) ≤ 84
-unfolding listed groupLines
+refused-any : (n : ℕ) (text : List ℕ) (given : Areas) → length (answerLines text (annotateRefused n given)) ≤ 84
+unfolding answerLines groupLines
 refused-any n text given = go (eqb n 0)
   where
     go : (t : Bool) → length (pick t (countLine (annotateRefused n given) ++ []) (refusedLine n)) ≤ 84
@@ -200,17 +200,17 @@ refused-any n text given = go (eqb n 0)
 
 -- where nothing refuses it
 given-short : (text : List ℕ) (given : Areas) → length text ≤ 4096
-    → length (listed text (answerOf (sweepOf text) (contentOf text 0 (sweepOf text) []) given)) ≤ 36 * 4096 + 84
-unfolding listed answerOf annotateGives filled contentOf written
+    → length (answerLines text (answerOf (sweepOf text) (contentOf text 0 (sweepOf text) []) given)) ≤ 36 * 4096 + 84
+unfolding answerLines answerOf annotateGives contentWritten contentOf written
 given-short text given h = go (roomFor (contentOf text 0 (sweepOf text) []) given)
   where
     go : (t : Bool)
-        → length (listed text (pick t (annotateGives (sweepOf text) (contentOf text 0 (sweepOf text) []) given) (annotateRefused 10 (zeroFilled given))))
+        → length (answerLines text (pick t (annotateGives (sweepOf text) (contentOf text 0 (sweepOf text) []) given) (annotateRefused 10 (zeroFilled given))))
         ≤ 36 * 4096 + 84
     go true =
         let c = count-short (annotateGives (sweepOf text) (contentOf text 0 (sweepOf text) []) given) in
-        let l = lines-by text (drop (length (tallyOf text 0 (sweepOf text) [] .rows)) (given .items)) (omega arith)
-        (drop (length (groupRows 0 (placedOf text (sweepOf text) []))) (given .groups)) in
+        let l = lines-by text (drop (length (tallyOf text 0 (sweepOf text) [] .records)) (given .items)) (omega arith)
+        (drop (length (groupRecords 0 (placedOf text (sweepOf text) []))) (given .groups)) in
         rw length-append (omega arith)
     go false = let r = refused-short 10 in omega arith
 
@@ -219,14 +219,14 @@ unfolding listingOf listingAnswer annotatePlain
 listing-short text = go (ltb 4096 (length text)) refl
   where
     plain : (t : Bool) → length text ≤ 4096
-        → length (listed text (pick t (answerOf (sweepOf text) (contentOf text 0 (sweepOf text) []) (listingAreas (length text)))
+        → length (answerLines text (pick t (answerOf (sweepOf text) (contentOf text 0 (sweepOf text) []) (listingAreas (length text)))
         (annotateRefused (annotateRefusal text 0 [] (length text) (length text)) (listingAreas (length text))))) ≤ 150000
     plain true h = let g = given-short text (listingAreas (length text)) h in omega arith
     plain false h =
         let r = refused-any (annotateRefusal text 0 [] (length text) (length text)) text (listingAreas (length text)) in omega arith
 
     go : (t : Bool) → ltb 4096 (length text) ≡ t
-        → length (pick t (refusedLine 1) (listed text (pick (eqb (annotateRefusal text 0 [] (length text) (length text)) 0)
+        → length (pick t (refusedLine 1) (answerLines text (pick (eqb (annotateRefusal text 0 [] (length text) (length text)) 0)
         (answerOf (sweepOf text) (contentOf text 0 (sweepOf text) []) (listingAreas (length text)))
         (annotateRefused (annotateRefusal text 0 [] (length text) (length text)) (listingAreas (length text)))))) ≤ 150000
     go true q = let r = refused-short 1 in omega arith

@@ -16,7 +16,7 @@ use Rattle.resolve.specs.declared.Matched.the-variants.{Group as MatchedGroup, 
 use Rattle.resolve.specs.Groups.{GroupAnswer, Found, NoGroup, barred, groupAccepted, judge}
 use Rattle.resolve.specs.Looks.{matched, Inside}
 use Rattle.resolve.proofs.Laws.{at-after, at-inside}
-use Rattle.records.specs.Rows.{rowsLength}
+use Rattle.records.specs.ItemRecords.{recordsLength}
 use Rattle.records.specs.Writing.{Writable}
 use Rattle.records.specs.Widths.{itemWidth}
 
@@ -68,7 +68,7 @@ module _ (s : List ℕ) (p : ℕ) (d : Close) where
       matched-good = and-right (not (barred s c)) (goodItems s p c) matched-accepted
 
       pub matched-writable : (items : List ℕ) → length s ≤ 65535 → Inside s p d → itemWidth * n ≤ length items → Writable s p c items
-      unfolding rowsLength groupOf
+      unfolding recordsLength groupOf
       matched-writable items h i r = record {
         short = h;
         after = at-after s p matched-at i;

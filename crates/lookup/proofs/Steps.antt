@@ -22,7 +22,7 @@ use Rattle.lookup.specs.declared.Prepared.{Prepared}
 use Rattle.lookup.specs.declared.Prepared.the-variants.{Refused as NotReady, Ready}
 use Rattle.resolve.specs.Groups.{GroupAnswer, Found, NoGroup, judge}
 use Rattle.item.specs.Group.{groupOf}
-use Rattle.records.specs.Rows.{rowsOf, rowsLength}
+use Rattle.records.specs.ItemRecords.{recordsOf, recordsLength}
 use Rattle.resolve.specs.Resolve.{lookOf, isBuild, closeAfter, closeAsRun, wantsBuild, groupAsRun, noteAfter, indexAfter, recordsAfter}
 use Rattle.resolve.specs.Looks.{matched, Inside}
 use Rattle.lookup.specs.Refusals.{lookUpRefusal}
@@ -77,13 +77,13 @@ module _ (s : List ℕ) (at note : ℕ) (d : Close) (items : List ℕ) {m : Matc
   items-none e = rw (matched-none s at d q e)
 
   module _ {c n : ℕ} (e : m ≡ MatchedGroup c n) where
-    width : rowsLength (groupOf s at c) ≡ itemWidth * n
-    unfolding rowsLength groupOf
+    width : recordsLength (groupOf s at c) ≡ itemWidth * n
+    unfolding recordsLength groupOf
     width = rw (matched-count s at d q e) refl
 
     module _ (h : length items / 16 < n) where
-      few : ltb (length items) (rowsLength (groupOf s at c)) ≡ true
-      few = lt-ltb (length items) (rowsLength (groupOf s at c)) (omega (arith, width))
+      few : ltb (length items) (recordsLength (groupOf s at c)) ≡ true
+      few = lt-ltb (length items) (recordsLength (groupOf s at c)) (omega (arith, width))
 
       pub answer-few : Refused 10 note ≡ answered (judge s at d) note items
       unfolding answered
@@ -97,14 +97,14 @@ module _ (s : List ℕ) (at note : ℕ) (d : Close) (items : List ℕ) {m : Matc
       pub items-room : itemWidth * n ≤ length items
       items-room = omega arith
 
-      enough : ltb (length items) (rowsLength (groupOf s at c)) ≡ false
-      enough = le-ltb (length items) (rowsLength (groupOf s at c)) (omega (arith, width, items-room))
+      enough : ltb (length items) (recordsLength (groupOf s at c)) ≡ false
+      enough = le-ltb (length items) (recordsLength (groupOf s at c)) (omega (arith, width, items-room))
 
       pub answer-found : Accepted c n note ≡ answered (judge s at d) note items
       unfolding answered groupOf
       answer-found = rw (matched-found s at d q e, enough, matched-count s at d q e)
 
-      pub items-found : {after : List ℕ} → after ≡ written (rowsOf (groupOf s at c)) items → after ≡ lookUpAnswers (judge s at d) items .items
+      pub items-found : {after : List ℕ} → after ≡ written (recordsOf (groupOf s at c)) items → after ≡ lookUpAnswers (judge s at d) items .items
       unfolding lookUpAnswers lookUpGives
       items-found o = o ∙ rw (matched-found s at d q e, enough)
 
@@ -174,7 +174,7 @@ module _ (s : List ℕ) (at note : ℕ) (index : List ℕ) (m : ℕ) where
 answered-values : (g : GroupAnswer) (note : ℕ) (items : List ℕ)
     → lookUpValues (answered g note items) ≡ lookUpAnswers g items .number ∷ lookUpAnswers g items .close ∷ lookUpAnswers g items .count ∷ note ∷ []
 unfolding answered lookUpValues lookUpAnswers lookUpRefused lookUpGives
-answered-values (Found g) note items = go (ltb (length items) (rowsLength g))
+answered-values (Found g) note items = go (ltb (length items) (recordsLength g))
   where
     go : (t : Bool) → lookUpValues (pick t (Refused 10 note) (Accepted (g .close) (length (g .items)) note))
         ≡ pick t (lookUpRefused 10 items) (lookUpGives g items) .number

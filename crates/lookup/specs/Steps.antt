@@ -10,7 +10,7 @@ use Rattle.lookup.specs.declared.LookUp.the-variants.{Accepted, Refused}
 use Rattle.lookup.specs.declared.Prepared.{Prepared}
 use Rattle.lookup.specs.declared.Prepared.the-variants.{Refused as NotReady, Ready}
 use Rattle.resolve.specs.Groups.{GroupAnswer, Found, NoGroup, judge}
-use Rattle.records.specs.Rows.{rowsLength}
+use Rattle.records.specs.ItemRecords.{recordsLength}
 use Rattle.resolve.specs.Resolve.{lookOf, isBuild, closeAfter, noteAfter}
 use Rattle.resolve.specs.Looks.{LookInside}
 use Rattle.lookup.specs.Refusals.{lookUpRefusal}
@@ -33,7 +33,7 @@ CanFinish s at (Ready l) = (length s ≤ 65535) × (at < length s) × LookInside
 
 -- the answer from what the bracket gives: "5 no group at this bracket", "10 answer longer than its area"
 unfoldable pub answered : GroupAnswer → ℕ → List ℕ → LookUp
-answered (Found g) note items = pick (ltb (length items) (rowsLength g)) (Refused 10 note) (Accepted (g .close) (length (g .items)) note)
+answered (Found g) note items = pick (ltb (length items) (recordsLength g)) (Refused 10 note) (Accepted (g .close) (length (g .items)) note)
 answered NoGroup note items = Refused 5 note
 
 -- after the build: the answer, the index being as it is then

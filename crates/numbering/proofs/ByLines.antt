@@ -14,11 +14,11 @@ use Rattle.base.specs.Lists.{same}
 use Rattle.base.specs.Sorted.{Each}
 use Rattle.item.specs.declared.Item.{Item}
 use Rattle.item.specs.Group.{Group}
-use Rattle.records.specs.Rows.{marksOf, recordOf, rowOf, rowsIn, rowsOf, rowsLength}
+use Rattle.records.specs.ItemRecords.{marksOf, itemRecord, unnumberedRecord, recordsIn, recordsOf, recordsLength}
 use Rattle.records.specs.Widths.{itemWidth, group-first, group-place, group-length, group-count, group-standing}
-use Rattle.records.proofs.RowLaws.{rows-length}
+use Rattle.records.proofs.RecordLaws.{records-length}
 use Rattle.pool.specs.Layout.{countOf, entryAt, entriesOf}
-use Rattle.standing.specs.Rows.{Placed, groupRow, groupRows, placedBy, itemRows}
+use Rattle.standing.specs.GroupRecords.{Placed, groupRecord, groupRecords, placedBy, itemRecords}
 use Rattle.standing.specs.Swept.{sweptFrom}
 use Rattle.records.specs.Widths.{groupWidth}
 use Rattle.definition_line.specs.Lines.{startsLine, colonAfter, bareItem, onlyKey, defines, inLine, groupEnd, nextOpen, keyOf, definedKey}
@@ -90,15 +90,15 @@ module _ (text groups otherGroups items otherItems : List ℕ) (h : SameGroups g
 
 -- the record of an item, after `k` others
 module _ (text before : List ℕ) (integral : Bool) (i : Item) (after : List ℕ) (k : ℕ) (h : length before ≡ itemWidth * k) where
-  pub key-at : keyIn text (before ++ (rowOf integral i ++ after)) k ≡ keyOf text i
-  unfolding keyIn rowOf recordOf
+  pub key-at : keyIn text (before ++ (unnumberedRecord integral i ++ after)) k ≡ keyOf text i
+  unfolding keyIn unnumberedRecord itemRecord
   key-at =
-      let here : List ℕ = rowOf integral i ++ after in
+      let here : List ℕ = unnumberedRecord integral i ++ after in
       rw (item-field before here k 2 h, item-field before here k 3 h)
 
-  pub suppressed-at : suppressedIn (before ++ (rowOf integral i ++ after)) k ≡ i .suppressed
-  unfolding suppressedIn rowOf recordOf marksOf
-  suppressed-at = rw (item-field before (rowOf integral i ++ after) k 11 h) (go (i .suppressed) integral)
+  pub suppressed-at : suppressedIn (before ++ (unnumberedRecord integral i ++ after)) k ≡ i .suppressed
+  unfolding suppressedIn unnumberedRecord itemRecord marksOf
+  suppressed-at = rw (item-field before (unnumberedRecord integral i ++ after) k 11 h) (go (i .suppressed) integral)
     where
       go : (s b : Bool) → eqb ((pick s 1 0 + pick b 2 0) % 2) 1 ≡ s
       go true true = refl
@@ -106,10 +106,10 @@ module _ (text before : List ℕ) (integral : Bool) (i : Item) (after : List ℕ
       go false true = refl
       go false false = refl
 
-  bare-at : bareIn (before ++ (rowOf integral i ++ after)) k ≡ bareItem i
-  unfolding bareIn bareItem rowOf recordOf marksOf
+  bare-at : bareIn (before ++ (unnumberedRecord integral i ++ after)) k ≡ bareItem i
+  unfolding bareIn bareItem unnumberedRecord itemRecord marksOf
   bare-at =
-      let here : List ℕ = rowOf integral i ++ after in
+      let here : List ℕ = unnumberedRecord integral i ++ after in
       rw (item-field before here k 1 h, item-field before here k 5 h, item-field before here k 11 h)
       (ap (λ (b : Bool). eqb (i .prefix .len) 0 && eqb (i .whole .len) 0 && b) (go (i .suppressed) integral))
     where
@@ -121,14 +121,14 @@ module _ (text before : List ℕ) (integral : Bool) (i : Item) (after : List ℕ
 
 -- "a group of one item, no prefix, no locator, not suppressed", and its key
 one-key : (text key before : List ℕ) (integral : Bool) (is : List Item) (after : List ℕ) (k : ℕ) (s c : Bool) → length before ≡ itemWidth * k
-    → (s && eqb (length is) 1 && bareIn (before ++ (rowsIn integral is ++ after)) k && c)
-    && same (keyIn text (before ++ (rowsIn integral is ++ after)) k) key
+    → (s && eqb (length is) 1 && bareIn (before ++ (recordsIn integral is ++ after)) k && c)
+    && same (keyIn text (before ++ (recordsIn integral is ++ after)) k) key
     ≡ (s && onlyKey is && c) && same (definedKey text is) key
 unfolding onlyKey definedKey flatMap
 one-key text key before integral [] after k true c h = refl
 one-key text key before integral [] after k false c h = refl
 one-key text key before integral (i ∷ []) after k s c h =
-    rw (append-assoc (rowOf integral i) [] after, key-at text before integral i ([] ++ after) k h, bare-at text before integral i ([] ++ after) k h)
+    rw (append-assoc (unnumberedRecord integral i) [] after, key-at text before integral i ([] ++ after) k h, bare-at text before integral i ([] ++ after) k h)
     (go s)
   where
     go : (t : Bool) → (t && true && bareItem i && c) && same (keyOf text i) key ≡ (t && bareItem i && c) && same (keyOf text i) key
@@ -137,8 +137,8 @@ one-key text key before integral (i ∷ []) after k s c h =
 one-key text key before integral (i ∷ j ∷ more) after k s c h = rw (ne-eqb (suc (suc (length more))) 1 (λ e. omega arith)) (go s)
   where
     go : (t : Bool)
-        → (t && false && bareIn (before ++ (rowsIn integral (i ∷ j ∷ more) ++ after)) k && c)
-        && same (keyIn text (before ++ (rowsIn integral (i ∷ j ∷ more) ++ after)) k) key
+        → (t && false && bareIn (before ++ (recordsIn integral (i ∷ j ∷ more) ++ after)) k && c)
+        && same (keyIn text (before ++ (recordsIn integral (i ∷ j ∷ more) ++ after)) k) key
         ≡ (t && false && c) && same (keyOf text i) key
     go true = refl
     go false = refl
@@ -156,50 +156,50 @@ Closes g = g .at < g .close
 pub record LieAt (groups items : List ℕ) (g k : ℕ) (ps : List Placed) (beforeGroups afterGroups beforeItems afterItems : List ℕ) : Type 0 where
   pub gcount : length beforeGroups ≡ groupWidth * g
   pub icount : length beforeItems ≡ itemWidth * k
-  pub gis : groups ≡ beforeGroups ++ (groupRows k ps ++ afterGroups)
-  pub iis : items ≡ beforeItems ++ (itemRows (groupsOf ps) ++ afterItems)
+  pub gis : groups ≡ beforeGroups ++ (groupRecords k ps ++ afterGroups)
+  pub iis : items ≡ beforeItems ++ (itemRecords (groupsOf ps) ++ afterItems)
 
 module _ (groups items : List ℕ) (g k : ℕ) (p : Placed) (ps : List Placed) (gb ga ib ia : List ℕ) (l : LieAt groups items g k (p ∷ ps) gb ga ib ia) where
   -- the group after the first
-  pub lie-next : LieAt groups items (g + 1) (k + length (p .group .items)) ps (gb ++ groupRow k p) ga (ib ++ rowsOf (p .group)) ia
-  unfolding groupRows groupRow flatMap rowsOf rowsLength
+  pub lie-next : LieAt groups items (g + 1) (k + length (p .group .items)) ps (gb ++ groupRecord k p) ga (ib ++ recordsOf (p .group)) ia
+  unfolding groupRecords groupRecord flatMap recordsOf recordsLength
   lie-next = record {
-    gcount = omega (arith, length-append gb (groupRow k p), l .gcount);
-    icount = omega (arith, length-append ib (rowsOf (p .group)), rows-length (p .group), l .icount);
-    gis = l .gis ∙ regroup gb (groupRow k p) (groupRows (k + length (p .group .items)) ps) ga;
-    iis = l .iis ∙ regroup ib (rowsOf (p .group)) (itemRows (groupsOf ps)) ia;
+    gcount = omega (arith, length-append gb (groupRecord k p), l .gcount);
+    icount = omega (arith, length-append ib (recordsOf (p .group)), records-length (p .group), l .icount);
+    gis = l .gis ∙ regroup gb (groupRecord k p) (groupRecords (k + length (p .group .items)) ps) ga;
+    iis = l .iis ∙ regroup ib (recordsOf (p .group)) (itemRecords (groupsOf ps)) ia;
   }
 
   -- the first
   group-at : groupField groups g group-place ≡ p .group .at
-  unfolding groupRows groupRow
-  group-at = rw (l .gis) (group-field gb (groupRows k (p ∷ ps) ++ ga) g 0 (l .gcount))
+  unfolding groupRecords groupRecord
+  group-at = rw (l .gis) (group-field gb (groupRecords k (p ∷ ps) ++ ga) g 0 (l .gcount))
 
   group-len : groupField groups g group-length ≡ groupEnd (p .group) - p .group .at
-  unfolding groupRows groupRow
-  group-len = rw (l .gis) (group-field gb (groupRows k (p ∷ ps) ++ ga) g 1 (l .gcount))
+  unfolding groupRecords groupRecord
+  group-len = rw (l .gis) (group-field gb (groupRecords k (p ∷ ps) ++ ga) g 1 (l .gcount))
 
   pub first-item-lies : groupField groups g group-first ≡ k
-  unfolding groupRows groupRow
-  first-item-lies = rw (l .gis) (group-field gb (groupRows k (p ∷ ps) ++ ga) g 2 (l .gcount))
+  unfolding groupRecords groupRecord
+  first-item-lies = rw (l .gis) (group-field gb (groupRecords k (p ∷ ps) ++ ga) g 2 (l .gcount))
 
   pub item-count-lies : groupField groups g group-count ≡ length (p .group .items)
-  unfolding groupRows groupRow
-  item-count-lies = rw (l .gis) (group-field gb (groupRows k (p ∷ ps) ++ ga) g 3 (l .gcount))
+  unfolding groupRecords groupRecord
+  item-count-lies = rw (l .gis) (group-field gb (groupRecords k (p ∷ ps) ++ ga) g 3 (l .gcount))
 
   pub standing-lies : groupField groups g group-standing ≡ p .standing
-  unfolding groupRows groupRow
-  standing-lies = rw (l .gis) (group-field gb (groupRows k (p ∷ ps) ++ ga) g 4 (l .gcount))
+  unfolding groupRecords groupRecord
+  standing-lies = rw (l .gis) (group-field gb (groupRecords k (p ∷ ps) ++ ga) g 4 (l .gcount))
 
   group-close : Closes (p .group) → closeOfRecord groups g ≡ p .group .close
   unfolding closeOfRecord
   group-close h = rw (group-at, group-len) (omega arith)
 
   group-defines : (text key : List ℕ) → Closes (p .group) → definesKeyIn text groups items key g ≡ definesKey text key (p .group)
-  unfolding definesKeyIn definesIn definesKey defines flatMap rowsOf
+  unfolding definesKeyIn definesIn definesKey defines flatMap recordsOf
   group-defines text key h =
-      rw (group-at, item-count-lies, first-item-lies, group-close h, l .iis, append-assoc (rowsOf (p .group)) (itemRows (groupsOf ps)) ia)
-      (one-key text key ib (p .group .integral) (p .group .items) (itemRows (groupsOf ps) ++ ia) k
+      rw (group-at, item-count-lies, first-item-lies, group-close h, l .iis, append-assoc (recordsOf (p .group)) (itemRecords (groupsOf ps)) ia)
+      (one-key text key ib (p .group .integral) (p .group .items) (itemRecords (groupsOf ps) ++ ia) k
       (startsLine text (p .group .at)) (colonAfter text (p .group .close)) (l .icount))
 
 -- where the next group begins
@@ -223,7 +223,7 @@ module _ (text groups items : List ℕ) (n : ℕ) (key : List ℕ) where
       ap (λ (d : Option Def). lastLine text key (g + 1) d (groupsOf ps)) (go (definesKey text key (p .group)) _ (group-defines groups items g k p ps gb ga ib ia l text key (c .0)))
       ∙ lines-agree ps (g + 1) (k + length (p .group .items)) _ _ ga _ ia next (omega arith) (c .1)
     where
-      next : LieAt groups items (g + 1) (k + length (p .group .items)) ps (gb ++ groupRow k p) ga (ib ++ rowsOf (p .group)) ia
+      next : LieAt groups items (g + 1) (k + length (p .group .items)) ps (gb ++ groupRecord k p) ga (ib ++ recordsOf (p .group)) ia
       next = lie-next groups items g k p ps gb ga ib ia l
 
       line : lineDefIn text groups n g ≡ lineDef text g (p .group .close) (nextOpen text (groupsOf ps))
@@ -287,18 +287,18 @@ swept-each P text before from [] h = tt
 swept-each P text before from (g ∷ gs) h = (h .0, swept-each P text (inLine text before from g) (groupEnd g) gs (h .1))
 
 pub lie-swept : (text : List ℕ) (all : List Group) (restG restI : List ℕ)
-    → LieAt (groupRows 0 (sweptFrom text false 0 all) ++ restG) (itemRows all ++ restI) 0 0 (sweptFrom text false 0 all) [] restG [] restI
+    → LieAt (groupRecords 0 (sweptFrom text false 0 all) ++ restG) (itemRecords all ++ restI) 0 0 (sweptFrom text false 0 all) [] restG [] restI
 lie-swept text all restG restI = record {
   gcount = refl;
   icount = refl;
   gis = refl;
-  iis = ap (λ (gs : List Group). itemRows gs ++ restI) (sym (placed-groups _ text false 0 all));
+  iis = ap (λ (gs : List Group). itemRecords gs ++ restI) (sym (placed-groups _ text false 0 all));
 }
 
 pub definition-swept : (text : List ℕ) (all : List Group) (restG restI pool key : List ℕ) → Each Closes all
-    → definitionIn text (groupRows 0 (sweptFrom text false 0 all) ++ restG) (itemRows all ++ restI) (length all) pool key ≡ defOf text all pool key
+    → definitionIn text (groupRecords 0 (sweptFrom text false 0 all) ++ restG) (itemRecords all ++ restI) (length all) pool key ≡ defOf text all pool key
 definition-swept text all restG restI pool key h =
-    ap (λ (n : ℕ). definitionIn text (groupRows 0 (sweptFrom text false 0 all) ++ restG) (itemRows all ++ restI) n pool key)
+    ap (λ (n : ℕ). definitionIn text (groupRecords 0 (sweptFrom text false 0 all) ++ restG) (itemRecords all ++ restI) n pool key)
     (sym (placed-length _ text false 0 all))
     ∙ definition-placed text _ _ (sweptFrom text false 0 all) restG restI pool key (lie-swept text all restG restI) (swept-each Closes text false 0 all h)
     ∙ ap (λ (gs : List Group). defOf text gs pool key) (placed-groups _ text false 0 all)

@@ -13,9 +13,9 @@ use Rattle.label.proofs.AreaLaws.{fitted-at-length, fitted-at-next}
 use Rattle.numbering.specs.declared.Numbering.{Numbering}
 use Rattle.uses.specs.declared.Count.{Count}
 use Rattle.definition.specs.Definitions.{LinesBelow}
-use Rattle.numbering.specs.Numbers.{Numbered, labelOf, labelIn, citeAs, citeIn}
+use Rattle.numbering.specs.Numbers.{Numbered, recordLabel, labelIn, citeAs, citeIn}
 use Rattle.uses.specs.Uses.{setLast, Counts}
-use Rattle.numbering.specs.Progress.{roomOf, state, Agrees, Holds, Advances}
+use Rattle.numbering.specs.Progress.{roomOf, numberingOf, Agrees, Holds, Advances}
 use Rattle.uses.proofs.Fields.{set-last-same, set-standing-same}
 use Rattle.numbering.proofs.ByLines.{lines-same}
 use Rattle.records.specs.Widths.{groupWidth, group-standing}
@@ -88,10 +88,10 @@ module _ (text : List ℕ) (mode : ℕ) (pool : List ℕ) (n k : ℕ) where
 
     module _ {c : Count} {len : ℕ} {labels′ : List ℕ} (o : not (s .fits) ≡ false) (h : s .«label_bytes» ≤ roomOf labels)
         (q : Counts text items (hasPool pool) (s .sources) k c)
-        (e : len ≡ length (labelOf text mode pool groups items n k (c .number)))
-        (w : labels′ ≡ fittedAt (labelOf text mode pool groups items n k (c .number)) (s .«label_bytes») labels) where
-      -- it is the label that the state asks for
-      label-is : (t : Numbered) (before : List ℕ) → Agrees t before s items groups labels → labelOf text mode pool groups items n k (c .number) ≡ labelIn text mode pool n t k
+        (e : len ≡ length (recordLabel text mode pool groups items n k (c .number)))
+        (w : labels′ ≡ fittedAt (recordLabel text mode pool groups items n k (c .number)) (s .«label_bytes») labels) where
+      -- it is the label that the numberingOf asks for
+      label-is : (t : Numbered) (before : List ℕ) → Agrees t before s items groups labels → recordLabel text mode pool groups items n k (c .number) ≡ labelIn text mode pool n t k
       unfolding labelIn
       label-is t before a = rw (q .number, a .item-area, a .group-area, a .sources) refl
 
@@ -101,10 +101,10 @@ module _ (text : List ℕ) (mode : ℕ) (pool : List ℕ) (n k : ℕ) where
       longer t before a = rw (length-append, ← label-is t before a, ← a .label-bytes, ← e) refl
 
       same-long : length labels′ ≡ length labels
-      same-long = rw w (fitted-at-length (labelOf text mode pool groups items n k (c .number)) labels (s .«label_bytes»))
+      same-long = rw w (fitted-at-length (recordLabel text mode pool groups items n k (c .number)) labels (s .«label_bytes»))
 
       over : roomOf labels - s .«label_bytes» < len
-          → Advances 1 (λ t. citeIn text mode pool n t k) s (state false (s .sources) (s .«label_bytes»))
+          → Advances 1 (λ t. citeIn text mode pool n t k) s (numberingOf false (s .sources) (s .«label_bytes»))
           items groups labels items groups labels′
       over l = record {
         holds = λ t before x.
@@ -133,7 +133,7 @@ module _ (text : List ℕ) (mode : ℕ) (pool : List ℕ) (n k : ℕ) where
 
       -- there is room for it
       fits-there : len ≤ roomOf labels - s .«label_bytes»
-          → s .«label_bytes» + length (labelOf text mode pool groups items n k (c .number)) ≤ length labels
+          → s .«label_bytes» + length (recordLabel text mode pool groups items n k (c .number)) ≤ length labels
       fits-there l = omega arith
 
       written-done : len ≤ roomOf labels - s .«label_bytes» → (t : Numbered) (before : List ℕ) → Agrees t before s items groups labels
@@ -141,12 +141,12 @@ module _ (text : List ℕ) (mode : ℕ) (pool : List ℕ) (n k : ℕ) where
       unfolding citeIn citeAs
       written-done l t before a =
           rw (w, ← label-is t before a)
-          (fitted-at-next (labelOf text mode pool groups items n k (c .number)) labels (s .«label_bytes») (fits-there l) before (t .labels)
+          (fitted-at-next (recordLabel text mode pool groups items n k (c .number)) labels (s .«label_bytes») (fits-there l) before (t .labels)
           (a .label-area) (a .label-bytes))
 
       done : {items′ : List ℕ} → len ≤ roomOf labels - s .«label_bytes»
           → items′ ≡ setLast items k (c .number) (c .use_index) (s .«label_bytes») len
-          → Advances 1 (λ t. citeIn text mode pool n t k) s (state true (c .sources) (s .«label_bytes» + len))
+          → Advances 1 (λ t. citeIn text mode pool n t k) s (numberingOf true (c .sources) (s .«label_bytes» + len))
           items groups labels items′ groups labels′
       done l i = record {
         holds = λ t before x.
@@ -168,11 +168,11 @@ module _ (text : List ℕ) (mode : ℕ) (pool : List ℕ) (n k : ℕ) where
         long = same-long;
       }
 
-      pub cite-over : {r : Numbering} → r ≡ state false (s .sources) (s .«label_bytes») → roomOf labels - s .«label_bytes» < len
+      pub cite-over : {r : Numbering} → r ≡ numberingOf false (s .sources) (s .«label_bytes») → roomOf labels - s .«label_bytes» < len
           → Advances 1 (λ t. citeIn text mode pool n t k) s r items groups labels items groups labels′
       cite-over v l = rw v (over l)
 
-      pub cite-done : {r : Numbering} {items′ : List ℕ} → r ≡ state true (c .sources) (s .«label_bytes» + len)
+      pub cite-done : {r : Numbering} {items′ : List ℕ} → r ≡ numberingOf true (c .sources) (s .«label_bytes» + len)
           → len ≤ roomOf labels - s .«label_bytes» → items′ ≡ setLast items k (c .number) (c .use_index) (s .«label_bytes») len
           → Advances 1 (λ t. citeIn text mode pool n t k) s r items groups labels items′ groups labels′
       cite-done v l i = rw v (done l i)

@@ -26,13 +26,13 @@ use Rattle.records.specs.Fields.{itemField}
 use Rattle.definition.specs.Defined.{definedAs}
 use Rattle.uses.specs.Uses.{sameLabel, lastAlike}
 use Rattle.numbering.specs.declared.Numbering.{Numbering}
-use Rattle.numbering.specs.Numbers.{labelOf}
+use Rattle.numbering.specs.Numbers.{recordLabel}
 use Rattle.numbering.specs.Progress.{Alike, LabelStands, Labelled}
 use Rattle.records.specs.Widths.{item-number, item-marks, item-label, item-label-length}
 
 module _ (text pool groups items : List ℕ) (mode n k number : ℕ) where
   abbrev L : List ℕ
-  L = labelOf text mode pool groups items n k number
+  L = recordLabel text mode pool groups items n k number
 
   -- mode 0: by number alone
   plain : mode ≡ 0 → labelBy 0 false number (authorGiven text pool Missing) (yearBytes text pool NoYear) ≡ L
@@ -100,7 +100,7 @@ module _ (text : List ℕ) (mode : ℕ) (pool : List ℕ) (n m k number j : ℕ)
   alike : Alike text items k number j
   alike = a (ltb-true j k (and-left (ltb j k) (ltb j m) t))
 
-  stands : LabelStands (labelOf text mode pool groups items n k number) at len (s .«label_bytes») labels
+  stands : LabelStands (recordLabel text mode pool groups items n k number) at len (s .«label_bytes») labels
   stands =
       let z : 0 < itemField items j item-number = rw (alike .numbered) (alike .some) in
       let x = l .stands f j (ltb-true j m (and-right (ltb j k) (ltb j m) t)) z in
@@ -109,14 +109,14 @@ module _ (text : List ℕ) (mode : ℕ) (pool : List ℕ) (n m k number j : ℕ)
   pub copy-inside : at + len ≤ s .«label_bytes»
   copy-inside = stands .inside
 
-  pub copy-length : len ≡ length (labelOf text mode pool groups items n k number)
+  pub copy-length : len ≡ length (recordLabel text mode pool groups items n k number)
   copy-length =
       let i = copy-inside in
       let e : length (take len (drop at labels)) ≡ len = simp (length-take, length-drop) (omega arith) in
       sym e ∙ ap length (stands .is)
 
   pub copy-area : {labels′ : List ℕ} → labels′ ≡ fittedAt (take len (drop at labels)) (s .«label_bytes») labels
-      → labels′ ≡ fittedAt (labelOf text mode pool groups items n k number) (s .«label_bytes») labels
+      → labels′ ≡ fittedAt (recordLabel text mode pool groups items n k number) (s .«label_bytes») labels
   copy-area w = w ∙ ap (λ (o : List ℕ). fittedAt o (s .«label_bytes») labels) (stands .is)
 
 pub ruleset copy-laws = (before-low, copy-length, copy-area, fitted-back)

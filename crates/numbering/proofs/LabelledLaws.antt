@@ -9,9 +9,9 @@ use lib.Dec.{eqb, ltb}
 use borrow.Author.Tests.{ltb-true, ltb-false, eqb-true, eqb-false, not-false}
 use Rattle.item.specs.declared.Item.{Item}
 use Rattle.item.specs.Group.{Group}
-use Rattle.records.specs.Rows.{recordOf, rowOf, rowsIn, rowsOf, rowsLength}
+use Rattle.records.specs.ItemRecords.{itemRecord, unnumberedRecord, recordsIn, recordsOf, recordsLength}
 use Rattle.records.specs.Widths.{itemWidth, item-number, item-label, item-label-length, groupWidth, group-standing}
-use Rattle.standing.specs.Rows.{itemCount, itemRows}
+use Rattle.standing.specs.GroupRecords.{itemCount, itemRecords}
 use Rattle.records.specs.Records.{suppressedIn}
 use Rattle.records.specs.Fields.{itemField}
 use Rattle.label.specs.Areas.{fittedAt}
@@ -19,47 +19,47 @@ use Rattle.label.proofs.AreaLaws.{fitted-at-kept, fitted-at-there}
 use Rattle.uses.specs.Uses.{setLast}
 use Rattle.uses.proofs.Fields.{item-skip, SameItems, SameGroups, set-last-same, set-last-other, set-last-number, set-last-at, set-last-len, set-standing-same}
 use Rattle.numbering.specs.declared.Numbering.{Numbering}
-use Rattle.numbering.specs.Numbers.{labelOf}
-use Rattle.numbering.specs.Progress.{roomOf, state, LabelStands, Labelled, Unnumbered}
-use Rattle.records.proofs.RowLaws.{rows-length}
+use Rattle.numbering.specs.Numbers.{recordLabel}
+use Rattle.numbering.specs.Progress.{roomOf, numberingOf, LabelStands, Labelled, Unnumbered}
+use Rattle.records.proofs.RecordLaws.{records-length}
 use Rattle.numbering.proofs.ByLines.{key-same, definition-same}
 
 -- the records that a sweep leaves: none of them has a number ---------------------------------------------------------------------------
 
-rows-unnumbered : (integral : Bool) (is : List Item) (after : List ℕ) (j : ℕ) → j < length is → itemField (rowsIn integral is ++ after) j item-number ≡ 0
-unfolding flatMap rowOf recordOf itemField
-rows-unnumbered integral [] after j l = absurd (omega arith)
-rows-unnumbered integral (i ∷ is) after zero l = refl
-rows-unnumbered integral (i ∷ is) after (suc j) l =
+records-unnumbered : (integral : Bool) (is : List Item) (after : List ℕ) (j : ℕ) → j < length is → itemField (recordsIn integral is ++ after) j item-number ≡ 0
+unfolding flatMap unnumberedRecord itemRecord itemField
+records-unnumbered integral [] after j l = absurd (omega arith)
+records-unnumbered integral (i ∷ is) after zero l = refl
+records-unnumbered integral (i ∷ is) after (suc j) l =
     let e : suc j ≡ 1 + j = omega arith in
-    rw (e, append-assoc (rowOf integral i) (rowsIn integral is) after)
-    (item-skip (rowOf integral i) (rowsIn integral is ++ after) 1 j 12 refl ∙ rows-unnumbered integral is after j (omega arith))
+    rw (e, append-assoc (unnumberedRecord integral i) (recordsIn integral is) after)
+    (item-skip (unnumberedRecord integral i) (recordsIn integral is ++ after) 1 j 12 refl ∙ records-unnumbered integral is after j (omega arith))
 
-swept-numbers : (gs : List Group) (after : List ℕ) (j : ℕ) → j < itemCount gs → itemField (itemRows gs ++ after) j item-number ≡ 0
-unfolding flatMap itemCount rowsOf rowsLength
+swept-numbers : (gs : List Group) (after : List ℕ) (j : ℕ) → j < itemCount gs → itemField (itemRecords gs ++ after) j item-number ≡ 0
+unfolding flatMap itemCount recordsOf recordsLength
 swept-numbers [] after j l = absurd (omega arith)
 swept-numbers (g ∷ gs) after j l =
-    rw (append-assoc (rowsOf g) (itemRows gs) after) (go (ltb j n) refl (swept-numbers gs after (j - n)))
+    rw (append-assoc (recordsOf g) (itemRecords gs) after) (go (ltb j n) refl (swept-numbers gs after (j - n)))
   where
     n : ℕ
     n = length (g .items)
 
-    go : (t : Bool) → ltb j n ≡ t → (j - n < itemCount gs → itemField (itemRows gs ++ after) (j - n) item-number ≡ 0)
-        → itemField (rowsOf g ++ (itemRows gs ++ after)) j item-number ≡ 0
-    go true p rec = rows-unnumbered (g .integral) (g .items) (itemRows gs ++ after) j (ltb-true j n p)
+    go : (t : Bool) → ltb j n ≡ t → (j - n < itemCount gs → itemField (itemRecords gs ++ after) (j - n) item-number ≡ 0)
+        → itemField (recordsOf g ++ (itemRecords gs ++ after)) j item-number ≡ 0
+    go true p rec = records-unnumbered (g .integral) (g .items) (itemRecords gs ++ after) j (ltb-true j n p)
     go false p rec =
         let q = ltb-false j n p in
         let e : n + (j - n) ≡ j = omega arith in
-        rw e at (item-skip (rowsOf g) (itemRows gs ++ after) n (j - n) 12 (rows-length g) ∙ rec (omega arith))
+        rw e at (item-skip (recordsOf g) (itemRecords gs ++ after) n (j - n) 12 (records-length g) ∙ rec (omega arith))
 
-swept-room : (gs : List Group) (after : List ℕ) → itemWidth * itemCount gs ≤ length (itemRows gs ++ after)
-unfolding flatMap itemCount rowsOf rowsLength
+swept-room : (gs : List Group) (after : List ℕ) → itemWidth * itemCount gs ≤ length (itemRecords gs ++ after)
+unfolding flatMap itemCount recordsOf recordsLength
 swept-room [] after = omega arith
 swept-room (g ∷ gs) after =
-    rw (append-assoc (rowsOf g) (itemRows gs) after, length-append)
-    (omega (arith, rows-length g, swept-room gs after))
+    rw (append-assoc (recordsOf g) (itemRecords gs) after, length-append)
+    (omega (arith, records-length g, swept-room gs after))
 
-pub swept-unnumbered : (gs : List Group) (after : List ℕ) → Unnumbered (itemCount gs) (itemRows gs ++ after)
+pub swept-unnumbered : (gs : List Group) (after : List ℕ) → Unnumbered (itemCount gs) (itemRecords gs ++ after)
 swept-unnumbered gs after = record { room = swept-room gs after; none = swept-numbers gs after }
 
 -- the labels so far --------------------------------------------------------------------------------------------------------------------
@@ -67,7 +67,7 @@ swept-unnumbered gs after = record { room = swept-room gs after; none = swept-nu
 module _ (text : List ℕ) (mode : ℕ) (pool : List ℕ) (n m : ℕ) where
   -- a label depends on no other number, use, label or standing
   label-same : (groups others items otherItems : List ℕ) (j number : ℕ) → SameGroups groups others → SameItems items otherItems
-      → labelOf text mode pool groups items n j number ≡ labelOf text mode pool others otherItems n j number
+      → recordLabel text mode pool groups items n j number ≡ recordLabel text mode pool others otherItems n j number
   unfolding suppressedIn
   label-same groups others items otherItems j number h i =
       rw (i j 11 (omega arith), key-same text items otherItems j i, definition-same text groups others items otherItems h i n pool _) refl
@@ -91,22 +91,22 @@ module _ (text : List ℕ) (mode : ℕ) (pool : List ℕ) (n m : ℕ) where
     }
 
     -- the labels do not fit any more
-    pub labelled-over : {r : Numbering} {labels′ : List ℕ} {sources bytes : ℕ} → r ≡ state false sources bytes
+    pub labelled-over : {r : Numbering} {labels′ : List ℕ} {sources bytes : ℕ} → r ≡ numberingOf false sources bytes
         → Labelled text mode pool n m r items groups labels′
     labelled-over e = record { room = b .room; stands = λ f. absurd (true≢false (sym f ∙ rw e refl)) }
 
     -- the label of record `k` is one more
     module _ (k number use-index sources : ℕ) {len : ℕ} {items′ labels′ : List ℕ} (o : not (s .fits) ≡ false)
         (h : s .«label_bytes» ≤ roomOf labels) (q : len ≤ roomOf labels - s .«label_bytes»)
-        (e : len ≡ length (labelOf text mode pool groups items n k number))
-        (w : labels′ ≡ fittedAt (labelOf text mode pool groups items n k number) (s .«label_bytes») labels)
+        (e : len ≡ length (recordLabel text mode pool groups items n k number))
+        (w : labels′ ≡ fittedAt (recordLabel text mode pool groups items n k number) (s .«label_bytes») labels)
         (i : items′ ≡ setLast items k number use-index (s .«label_bytes») len) where
       abbrev Stands : ℕ → Type 0
       Stands j =
-          LabelStands (labelOf text mode pool groups items′ n j (itemField items′ j item-number)) (itemField items′ j item-label) (itemField items′ j item-label-length)
+          LabelStands (recordLabel text mode pool groups items′ n j (itemField items′ j item-number)) (itemField items′ j item-label) (itemField items′ j item-label-length)
           (s .«label_bytes» + len) labels′
 
-      same-label : (j x : ℕ) → labelOf text mode pool groups items′ n j x ≡ labelOf text mode pool groups items n j x
+      same-label : (j x : ℕ) → recordLabel text mode pool groups items′ n j x ≡ recordLabel text mode pool groups items n j x
       same-label j x =
           rw i (label-same groups groups _ items j x (λ g c l. refl) (set-last-same items k number use-index (s .«label_bytes») len))
 
@@ -119,7 +119,7 @@ module _ (text : List ℕ) (mode : ℕ) (pool : List ℕ) (n m : ℕ) where
           rw (y, u, v) (record {
             inside = omega arith;
             is =
-                rw (w, e) (fitted-at-there (labelOf text mode pool groups items n k number) labels (s .«label_bytes») (omega arith))
+                rw (w, e) (fitted-at-there (recordLabel text mode pool groups items n k number) labels (s .«label_bytes») (omega arith))
                 ∙ sym (same-label k number);
           })
 
@@ -141,7 +141,7 @@ module _ (text : List ℕ) (mode : ℕ) (pool : List ℕ) (n m : ℕ) where
                 ∙ sym (same-label j (itemField items j item-number));
           })
 
-      pub labelled-done : {r : Numbering} → r ≡ state true sources (s .«label_bytes» + len) → Labelled text mode pool n m r items′ groups labels′
+      pub labelled-done : {r : Numbering} → r ≡ numberingOf true sources (s .«label_bytes» + len) → Labelled text mode pool n m r items′ groups labels′
       unfolding setLast
       labelled-done x = rw x (record {
         room = rw i (simp length-set (b .room));

@@ -11,7 +11,7 @@ use Rattle.base.proofs.Areas.{written-none}
 use Rattle.numbering.specs.declared.Numbering.{Numbering}
 use Rattle.records.specs.Records.{groupField}
 use Rattle.numbering.specs.Numbers.{Numbered, start, citeIn, citeFrom, standsNumbered, isNumbered, numberGroup, numberFrom, numberAll, keysDefined}
-use Rattle.numbering.specs.Progress.{roomOf, state, Holds, Advances}
+use Rattle.numbering.specs.Progress.{roomOf, numberingOf, Holds, Advances}
 use Rattle.numbering.proofs.CiteLaws.{full-more, none-yet, then, as-step, cite-grows}
 use Rattle.records.specs.Widths.{group-count, group-first, group-standing, groupWidth}
 
@@ -175,7 +175,7 @@ module _ (text : List ℕ) (mode : ℕ) (pool : List ℕ) (n : ℕ) where
         as-step (then x y) (omega arith) (λ t. let z : 0 + i ≡ i = omega arith in rw z at (groups-next i t 0))
 
   pub groups-end : (i : ℕ) {r : Numbering} {items groups labels i1 g1 l1 : List ℕ} → i ≤ n → n ≤ i
-      → Advances (65535 * i) (λ t. numberFrom text mode pool n i t 0) (state true 0 0) r items groups labels i1 g1 l1
+      → Advances (65535 * i) (λ t. numberFrom text mode pool n i t 0) (numberingOf true 0 0) r items groups labels i1 g1 l1
       → Holds (numberAll text mode pool n items groups) (roomOf labels) labels r i1 g1 l1
   unfolding numberAll
   groups-end i {r} {items} {groups} {labels} a b x =

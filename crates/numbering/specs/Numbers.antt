@@ -36,15 +36,15 @@ keysDefined text pool groups items n (suc m) k =
     keyDefined text pool groups items n k && keysDefined text pool groups items n m (k + 1)
 
 -- the label of item record `k` with this number
-abbrev pub labelOf : List ℕ → ℕ → List ℕ → List ℕ → List ℕ → ℕ → ℕ → ℕ → List ℕ
-labelOf text mode pool groups items n k number =
+abbrev pub recordLabel : List ℕ → ℕ → List ℕ → List ℕ → List ℕ → ℕ → ℕ → ℕ → List ℕ
+recordLabel text mode pool groups items n k number =
     labelText mode (suppressedIn items k) number (definitionIn text groups items n pool (keyIn text items k))
 
 -- What does not change on the way: text, mode, pool, and the count of groups
 module _ (text : List ℕ) (mode : ℕ) (pool : List ℕ) (n : ℕ) where
   -- the label of item record `k`, with the number that it gets
   unfoldable pub labelIn : Numbered → ℕ → List ℕ
-  labelIn t k = labelOf text mode pool (t .groups) (t .items) n k (numberIn text (t .items) (t .sources) k)
+  labelIn t k = recordLabel text mode pool (t .groups) (t .items) n k (numberIn text (t .items) (t .sources) k)
 
   -- one more item of a numbered group: record `k`, with this label
   unfoldable pub citeAs : Numbered → ℕ → List ℕ → Numbered

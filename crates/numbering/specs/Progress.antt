@@ -10,7 +10,7 @@ use Rattle.numbering.specs.declared.Numbering.{Numbering}
 use Rattle.records.specs.Widths.{itemWidth, item-number, item-label, item-label-length}
 use Rattle.records.specs.Records.{keyIn, suppressedIn}
 use Rattle.records.specs.Fields.{itemField}
-use Rattle.numbering.specs.Numbers.{Numbered, labelOf}
+use Rattle.numbering.specs.Numbers.{Numbered, recordLabel}
 
 -- item record `j` has this number, which is not 0, and the mark of suppression and the key of record `k`
 pub record Alike (text items : List ℕ) (k number j : ℕ) : Type 0 where
@@ -24,8 +24,8 @@ abbrev pub roomOf : List ℕ → ℕ
 roomOf labels = min 65535 (length labels)
 
 -- whether the labels fit so far, and the counts of sources and of label bytes
-abbrev pub state : Bool → ℕ → ℕ → Numbering
-state fits sources label-bytes = record { fits = fits; sources = sources; «label_bytes» = label-bytes }
+abbrev pub numberingOf : Bool → ℕ → ℕ → Numbering
+numberingOf fits sources label-bytes = record { fits = fits; sources = sources; «label_bytes» = label-bytes }
 
 -- The areas have what `t` says, its labels at the front of an area that held `before`.
 pub record Agrees (t : Numbered) (before : List ℕ) (s : Numbering) (items groups labels : List ℕ) : Type 0 where
@@ -41,7 +41,7 @@ pub record Holds (t : Numbered) (room : ℕ) (before : List ℕ) (s : Numbering)
   pub fits : s .fits ≡ leb (length (t .labels)) room
   pub agrees : s .fits ≡ true → Agrees t before s items groups labels
 
--- Whatever the areas hold, they hold the next state after a step, which gives `more` sources at most.
+-- Whatever the areas hold, they hold the next numberingOf after a step, which gives `more` sources at most.
 pub record Advances (more : ℕ) (step : Numbered → Numbered) (s r : Numbering) (items groups labels items′ groups′ labels′ : List ℕ) : Type 0 where
   pub holds : (t : Numbered) (before : List ℕ) → Holds t (roomOf labels) before s items groups labels
       → Holds (step t) (roomOf labels) before r items′ groups′ labels′
@@ -59,7 +59,7 @@ pub record LabelStands (label : List ℕ) (at len bytes : ℕ) (labels : List �
 pub record Labelled (text : List ℕ) (mode : ℕ) (pool : List ℕ) (n m : ℕ) (s : Numbering) (items groups labels : List ℕ) : Type 0 where
   pub room : itemWidth * m ≤ length items
   pub stands : s .fits ≡ true → (j : ℕ) → j < m → 0 < itemField items j item-number
-      → LabelStands (labelOf text mode pool groups items n j (itemField items j item-number)) (itemField items j item-label) (itemField items j item-label-length)
+      → LabelStands (recordLabel text mode pool groups items n j (itemField items j item-number)) (itemField items j item-label) (itemField items j item-label-length)
       (s .«label_bytes») labels
 
 -- none of the first `m` item records, for which there is room, has a number

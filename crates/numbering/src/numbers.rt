@@ -13,8 +13,8 @@ ghost use lib.ListN.{length};
 ghost use Rattle.pool.specs.Layout.{wellFormed};
 ghost use Rattle.label.specs.Areas.{fitted, fittedAt};
 ghost use Rattle.definition.specs.Definitions.{LinesBelow};
-ghost use Rattle.numbering.specs.Numbers.{keyDefined, keysDefined, labelOf, citeIn, citeFrom, numberGroup};
-ghost use Rattle.numbering.specs.Progress.{roomOf, state, Advances, Alike, Labelled};
+ghost use Rattle.numbering.specs.Numbers.{keyDefined, keysDefined, recordLabel, citeIn, citeFrom, numberGroup};
+ghost use Rattle.numbering.specs.Progress.{roomOf, numberingOf, Advances, Alike, Labelled};
 
 // Whether the key of item record `k` is defined.
 fn is_defined(
@@ -77,7 +77,7 @@ fn label_in<'a>(
     out: &mut [u8],
 ) -> usize
     requires { ⌜ (n < 4294967296) × (wellFormed (now pool) ≡ true) × (k < 4294967296) × LinesBelow (now text) (now groups) (now items) n end ⌝ }
-    ensures { λ r. ⌜ (r ≡ length (labelOf (now (text .entry)) mode (now (pool .entry)) (now (groups .entry)) (now (items .entry)) n k number)) × (now (out .exit) ≡ fitted (labelOf (now (text .entry)) mode (now (pool .entry)) (now (groups .entry)) (now (items .entry)) n k number) (now (out .entry))) ⌝ }
+    ensures { λ r. ⌜ (r ≡ length (recordLabel (now (text .entry)) mode (now (pool .entry)) (now (groups .entry)) (now (items .entry)) n k number)) × (now (out .exit) ≡ fitted (recordLabel (now (text .entry)) mode (now (pool .entry)) (now (groups .entry)) (now (items .entry)) n k number) (now (out .entry))) ⌝ }
 {
     if mode == 0 {
         return label::write_label(
@@ -120,7 +120,7 @@ fn labelled_before(
 
 // The label of item record `k` with the number `number`, after the label bytes so far, where it fits: that of an earlier record, copied, or
 // one that is written anew. Its length.
-fn label_at<'a>(
+fn write_label_of<'a>(
     text: &'a [u8],
     mode: u8,
     pool: &'a [u8],
@@ -135,7 +135,7 @@ fn label_at<'a>(
     labels: &mut [u8],
 ) -> usize
     requires { ⌜ (n < 4294967296) × (wellFormed (now pool) ≡ true) × (k < 4294967296) × LinesBelow (now text) (now groups) (now items) n end × (s .fits ≡ true) × (s .«label_bytes» ≤ length (now labels)) × Labelled (now text) mode (now pool) n m s (now items) (now groups) (now labels) ⌝ }
-    ensures { λ r. ⌜ (r ≡ length (labelOf (now (text .entry)) mode (now (pool .entry)) (now (groups .entry)) (now (items .entry)) n k (c .number))) × (now (labels .exit) ≡ fittedAt (labelOf (now (text .entry)) mode (now (pool .entry)) (now (groups .entry)) (now (items .entry)) n k (c .number)) (s .«label_bytes») (now (labels .entry))) ⌝ }
+    ensures { λ r. ⌜ (r ≡ length (recordLabel (now (text .entry)) mode (now (pool .entry)) (now (groups .entry)) (now (items .entry)) n k (c .number))) × (now (labels .exit) ≡ fittedAt (recordLabel (now (text .entry)) mode (now (pool .entry)) (now (groups .entry)) (now (items .entry)) n k (c .number)) (s .«label_bytes») (now (labels .entry))) ⌝ }
 {
     let number = c.number;
     let at = s.label_bytes;
@@ -150,9 +150,9 @@ fn label_at<'a>(
     label_in(text, mode, pool, n, end, k, number, items, groups, out)
 }
 
-// A state of the numbering.
+// A numberingOf of the numbering.
 fn reached(fits: bool, sources: usize, bytes: usize) -> Numbering
-    ensures { λ r. ⌜ r ≡ state fits sources bytes ⌝ }
+    ensures { λ r. ⌜ r ≡ numberingOf fits sources bytes ⌝ }
 {
     Numbering {
         fits,
@@ -188,7 +188,7 @@ fn cite<'a>(
     let left = least(65535, labels.len()) - at;
     let c = uses::count_in(text, items, 0 < pool.len(), s.sources, k);
     let number = c.number;
-    let len = label_at(text, mode, pool, n, end, m, k, c, s, items, groups, labels);
+    let len = write_label_of(text, mode, pool, n, end, m, k, c, s, items, groups, labels);
     if left < len {
         return reached(false, s.sources, at);
     }
@@ -267,7 +267,11 @@ pub fn number_group<'a>(
     let k = records::group_field(groups, g, records::GROUP_FIRST);
     let c = records::group_field(groups, g, records::GROUP_COUNT);
     if all_defined(text, pool, groups, items, n, end, k, c) {
-        records::put(groups, records::GROUP_WIDTH * g + records::GROUP_STANDING, 2);
+        records::put(
+            groups,
+            records::GROUP_WIDTH * g + records::GROUP_STANDING,
+            2,
+        );
         cite_from(text, mode, pool, n, end, m, k, c, s, items, groups, labels)
     } else {
         s

@@ -54,7 +54,11 @@ fn key_by<'a>(
 {
     match d {
         Defined::Line { group } => {
-            records::key_in(text, items, records::group_field(groups, group, records::GROUP_FIRST))
+            records::key_in(
+                text,
+                items,
+                records::group_field(groups, group, records::GROUP_FIRST),
+            )
         }
         Defined::Entry { number } => definition::entries::entry_id(pool, number),
         Defined::Nothing => base::bytes::part_of(text, 0, 0),

@@ -1,5 +1,5 @@
 pub mod Widths
 pub mod Records
-pub mod Rows
+pub mod ItemRecords
 pub mod Fields
 pub mod Writing

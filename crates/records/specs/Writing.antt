@@ -11,12 +11,12 @@ use Rattle.item.specs.declared.Item.{Item}
 use Rattle.item.specs.declared.Parsed.{Parsed}
 use Rattle.item.specs.declared.Parsed.the-variants.{Good, Bad}
 use Rattle.item.specs.Group.{goodItems, groupOf}
-use Rattle.records.specs.Rows.{rowOf, rowsLength}
+use Rattle.records.specs.ItemRecords.{unnumberedRecord, recordsLength}
 
 -- For the code that writes them. The record of what a piece of a group was parsed to.
-unfoldable pub pieceRow : Bool → Parsed → List ℕ
-pieceRow integral (Good it) = rowOf integral it
-pieceRow integral Bad = []
+unfoldable pub pieceRecord : Bool → Parsed → List ℕ
+pieceRecord integral (Good it) = unnumberedRecord integral it
+pieceRecord integral Bad = []
 
 -- a row after some numbers were put at `k` and the places after it
 unfoldable pub putAt : ℕ → List ℕ → List ℕ → List ℕ
@@ -49,4 +49,4 @@ pub record Writable (s : List ℕ) (p c : ℕ) (items : List ℕ) : Type 0 where
   pub after : p < c
   pub inside : c < length s
   pub good : goodItems s p c ≡ true
-  pub room : rowsLength (groupOf s p c) ≤ length items
+  pub room : recordsLength (groupOf s p c) ≤ length items

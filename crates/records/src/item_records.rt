@@ -21,8 +21,8 @@ ghost use Rattle.base.specs.Pick.{pick};
 ghost use Rattle.locator.specs.Answers.{codeOf, valueOf, suffixOf};
 ghost use Rattle.item.specs.Items.{itemOf};
 ghost use Rattle.item.specs.Group.{groupOf};
-ghost use Rattle.records.specs.Rows.{rowOf, rowsOf};
-ghost use Rattle.records.specs.Writing.{pieceRow, Put, Narrow, NarrowLocator, NarrowItem, Writable};
+ghost use Rattle.records.specs.ItemRecords.{unnumberedRecord, recordsOf};
+ghost use Rattle.records.specs.Writing.{pieceRecord, Put, Narrow, NarrowLocator, NarrowItem, Writable};
 ghost use Rattle.records.specs.Widths.{itemWidth, item-prefix, item-value, item-marks};
 
 // A pair at `k`.
@@ -85,9 +85,9 @@ fn write_marks(row: &mut [u16], marks: u16)
 }
 
 // The record of an item, at the front of `row`.
-fn write_row(item: Item, integral: bool, row: &mut [u16])
+fn write_record(item: Item, integral: bool, row: &mut [u16])
     requires { ⌜ (itemWidth ≤ length (now row)) × NarrowItem item ⌝ }
-    ensures { λ _. ⌜ now (row .exit) ≡ written (rowOf integral item) (now (row .entry)) ⌝ }
+    ensures { λ _. ⌜ now (row .exit) ≡ written (unnumberedRecord integral item) (now (row .entry)) ⌝ }
 {
     let l = item.locator;
     write_parts(row, item);
@@ -98,19 +98,19 @@ fn write_row(item: Item, integral: bool, row: &mut [u16])
 // The record of the item from `from` to `to`, at the front of `row`; nothing where it is bad.
 fn write_piece(text: &[u8], from: usize, to: usize, integral: bool, row: &mut [u16])
     requires { ⌜ (to ≤ length (now text)) × (length (now text) ≤ 65535) × (itemWidth ≤ length (now row)) ⌝ }
-    ensures { λ _. ⌜ now (row .exit) ≡ written (pieceRow integral (itemOf (now (text .entry)) from to)) (now (row .entry)) ⌝ }
+    ensures { λ _. ⌜ now (row .exit) ≡ written (pieceRecord integral (itemOf (now (text .entry)) from to)) (now (row .entry)) ⌝ }
 {
     let parsed = parse_item(text, from, to);
     match parsed {
-        Parsed::Good(it) => write_row(it, integral, row),
+        Parsed::Good(it) => write_record(it, integral, row),
         Parsed::Bad => {}
     }
 }
 
 // The records of the items of the group at `p` with its close at `c`, at the front of `items`.
-pub fn write_rows(text: &[u8], p: usize, c: usize, items: &mut [u16])
+pub fn write_records(text: &[u8], p: usize, c: usize, items: &mut [u16])
     requires { ⌜ Writable (now text) p c (now items) ⌝ }
-    ensures { λ _. ⌜ now (items .exit) ≡ written (rowsOf (groupOf (now (text .entry)) p c)) (now (items .entry)) ⌝ }
+    ensures { λ _. ⌜ now (items .exit) ≡ written (recordsOf (groupOf (now (text .entry)) p c)) (now (items .entry)) ⌝ }
 {
     let integral = is_integral(text, p);
     let mut from = items_start(text, p);

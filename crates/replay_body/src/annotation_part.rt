@@ -104,7 +104,12 @@ fn holds(area: &[u16], n: usize, rows: &[u8], value: u16) -> bool {
 // Whether the areas of groups, items and references are the stored ones.
 pub fn has_records(part: &[u8], items: &[u16], groups: &[u16], references: &[u16]) -> bool {
     let rest = behind(number(part, 4));
-    holds(groups, records::GROUP_WIDTH * number(part, 6), after(part, 16), rest)
+    holds(
+        groups,
+        records::GROUP_WIDTH * number(part, 6),
+        after(part, 16),
+        rest,
+    )
         & holds(
             items,
             records::ITEM_WIDTH * number(part, 8),

@@ -20,8 +20,8 @@ use Rattle.pool.specs.Places.{bytesAt, Reads, EntryIn}
 use Rattle.pool.proofs.PoolLaws.{year-eight, year-is}
 use Rattle.decimal.specs.Decimal.{decimal}
 use Rattle.decimal.proofs.Laws.{decimal-short}
-use Rattle.source.specs.declared.Year.{Year}
-use Rattle.source.specs.declared.Year.the-variants.{Number, At as YearAt, Missing as NoYear}
+use Rattle.source.specs.declared.EntryYear.{EntryYear}
+use Rattle.source.specs.declared.EntryYear.the-variants.{Number, At as YearAt, Missing as NoYear}
 use Rattle.source.specs.Decimal.{signedDecimal}
 use Rattle.source.specs.Entry.{yearBy, yearOf}
 use Rattle.source.specs.Years.{ReadsYear}
@@ -51,7 +51,7 @@ module _ (s : List ℕ) (at e : ℕ) (f : Found) where
       let t = there r q in
       record { bytes = rw (year-is s t (year-eight s at e h t), g) refl; inside = tt }
 
-  pub year-date : {y : Year} → Reads s f (fieldWith 6 (fieldsOf s at e)) → f ≡ Missing → ReadsYear s y (fieldWith 7 (fieldsOf s at e))
+  pub year-date : {y : EntryYear} → Reads s f (fieldWith 6 (fieldsOf s at e)) → f ≡ Missing → ReadsYear s y (fieldWith 7 (fieldsOf s at e))
       → ReadsYear s y (yearOf (entryFrom s at e))
   unfolding yearOf entryOf yearBy yearIn
   year-date {y} r q d = record { bytes = rw (← r .bytes, q) (d .bytes); inside = d .inside }

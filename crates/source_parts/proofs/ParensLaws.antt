@@ -13,8 +13,8 @@ use Rattle.base.proofs.Parts.{part-length}
 use Rattle.base.proofs.Areas.{written-after, written-none, written-length, rest-room}
 use Rattle.pool.specs.Numbers.{signed}
 use Rattle.decimal.proofs.Laws.{decimal-short}
-use Rattle.source.specs.declared.Year.{Year}
-use Rattle.source.specs.declared.Year.the-variants.{Number, At as YearAt, Missing as NoYear}
+use Rattle.source.specs.declared.EntryYear.{EntryYear}
+use Rattle.source.specs.declared.EntryYear.the-variants.{Number, At as YearAt, Missing as NoYear}
 use Rattle.source.specs.Decimal.{signedDecimal}
 use Rattle.source.specs.Years.{writtenYear, YearInside}
 use Rattle.source_parts.specs.Parens.{inParens}
@@ -26,7 +26,7 @@ signed-short true m = omega (arith, decimal-short m)
 signed-short false m = omega (arith, decimal-short m)
 
 -- the length in parentheses
-module _ (y : Year) where
+module _ (y : EntryYear) where
   pub parens-number : {n : Bool} {m k : ℕ} → y ≡ Number n m → k ≡ length (signedDecimal (signed n m)) → 2 + k ≡ parensLen y
   unfolding parensLen
   parens-number e h = rw (e, h) refl
@@ -45,7 +45,7 @@ module _ (y : Year) where
 pub ruleset parens-laws = (parens-number, parens-part, parens-fits, parens-none)
 
 -- the bytes of a year
-module _ (s : List ℕ) (y : Year) where
+module _ (s : List ℕ) (y : EntryYear) where
   pub number-fits : {n : Bool} {m k : ℕ} → length (yearText s y) ≤ k → y ≡ Number n m → length (signedDecimal (signed n m)) ≤ k
   number-fits h e = rw e at h
 
@@ -72,30 +72,30 @@ module _ (s : List ℕ) (y : Year) where
 pub ruleset write-year-laws = (number-fits, number-written, literal-inside, literal-fits, literal-written, no-year-written)
 
 -- in parentheses
-pub opening-written : (s area one : List ℕ) (y : Year) {rest : List ℕ} → 1 + length (yearText s y) ≤ length area → one ≡ written (40 ∷ []) area
+pub opening-written : (s area one : List ℕ) (y : EntryYear) {rest : List ℕ} → 1 + length (yearText s y) ≤ length area → one ≡ written (40 ∷ []) area
     → rest ≡ written (yearText s y) (take (length one - 1) (drop 1 one))
     → take 1 one ++ (rest ++ drop (length one - 1) (drop 1 one)) ≡ written (40 ∷ yearText s y) area
 opening-written s area one y {rest} h e g = written-after area one (40 ∷ []) (yearText s y) rest 1 e refl (omega arith) g
 
-enclosed-length : (s : List ℕ) (y : Year) → YearInside s y → (parensLen y ≡ 0 → ⊥) → parensLen y ≡ 2 + length (yearText s y)
+enclosed-length : (s : List ℕ) (y : EntryYear) → YearInside s y → (parensLen y ≡ 0 → ⊥) → parensLen y ≡ 2 + length (yearText s y)
 unfolding parensLen
 enclosed-length s (Number n m) i z = refl
 enclosed-length s (YearAt p) i z = let l = part-length s (p .at) (p .at + p .len) (omega arith) i in omega arith
 enclosed-length s NoYear i z = absurd (z refl)
 
-enclosed-is : (s : List ℕ) (y : Year) → (parensLen y ≡ 0 → ⊥) → inParens (writtenYear s y) ≡ (40 ∷ yearText s y) ++ (41 ∷ [])
+enclosed-is : (s : List ℕ) (y : EntryYear) → (parensLen y ≡ 0 → ⊥) → inParens (writtenYear s y) ≡ (40 ∷ yearText s y) ++ (41 ∷ [])
 unfolding parensLen inParens
 enclosed-is s (Number n m) z = refl
 enclosed-is s (YearAt p) z = refl
 enclosed-is s NoYear z = absurd (z refl)
 
-missing-is : (s : List ℕ) (y : Year) → parensLen y ≡ 0 → inParens (writtenYear s y) ≡ []
+missing-is : (s : List ℕ) (y : EntryYear) → parensLen y ≡ 0 → inParens (writtenYear s y) ≡ []
 unfolding parensLen inParens
 missing-is s (Number n m) z = absurd (omega arith)
 missing-is s (YearAt p) z = absurd (omega arith)
 missing-is s NoYear z = refl
 
-pub parens-length : (s : List ℕ) (y : Year) → YearInside s y → parensLen y ≡ length (inParens (writtenYear s y))
+pub parens-length : (s : List ℕ) (y : EntryYear) → YearInside s y → parensLen y ≡ length (inParens (writtenYear s y))
 unfolding parensLen inParens
 parens-length s (Number n m) i = rw length-append (omega arith)
 parens-length s (YearAt p) i =
@@ -103,13 +103,13 @@ parens-length s (YearAt p) i =
     rw length-append (omega arith)
 parens-length s NoYear i = refl
 
-pub parens-at-most : (s : List ℕ) (y : Year) → length s ≤ 32768 → YearInside s y → parensLen y ≤ 32770
+pub parens-at-most : (s : List ℕ) (y : EntryYear) → length s ≤ 32768 → YearInside s y → parensLen y ≤ 32770
 unfolding parensLen
 parens-at-most s (Number n m) h i = let l = signed-short n m in omega arith
 parens-at-most s (YearAt p) h i = omega arith
 parens-at-most s NoYear h i = omega arith
 
-module _ (s : List ℕ) (y : Year) (n : ℕ) where
+module _ (s : List ℕ) (y : EntryYear) (n : ℕ) where
   pub parens-missing : (area : List ℕ) → n ≡ parensLen y → n ≡ 0 → area ≡ written (inParens (writtenYear s y)) area
   parens-missing area e z = rw (missing-is s y (sym e ∙ z)) (written-none area)
 

@@ -7,8 +7,8 @@ use mathlib.Core.List.{List, []}
 use mathlib.Core.Option.{Option·getD}
 use lib.ListN.{length}
 use Rattle.pool.specs.Numbers.{signed}
-use Rattle.source.specs.declared.Year.{Year}
-use Rattle.source.specs.declared.Year.the-variants.{Number, At, Missing}
+use Rattle.source.specs.declared.EntryYear.{EntryYear}
+use Rattle.source.specs.declared.EntryYear.the-variants.{Number, At, Missing}
 use Rattle.source.specs.Decimal.{signedDecimal}
 use Rattle.source.specs.Years.{writtenYear}
 
@@ -37,17 +37,17 @@ unfoldable pub nameLen : NameParts → ℕ
 nameLen n = nameLenBy (n .literal) (n .family) (n .given)
 
 -- the bytes of a year; none where it is missing
-abbrev pub yearText : List ℕ → Year → List ℕ
+abbrev pub yearText : List ℕ → EntryYear → List ℕ
 yearText s y = Option·getD (writtenYear s y) []
 
 -- how many bytes of the pool it has
-abbrev pub yearLen : Year → ℕ
+abbrev pub yearLen : EntryYear → ℕ
 yearLen (Number negative magnitude) = 0
 yearLen (At p) = p .len
 yearLen Missing = 0
 
 -- the length of the year in parentheses
-unfoldable pub parensLen : Year → ℕ
+unfoldable pub parensLen : EntryYear → ℕ
 parensLen (Number negative magnitude) = 2 + length (signedDecimal (signed negative magnitude))
 parensLen (At p) = 2 + p .len
 parensLen Missing = 0

@@ -2,7 +2,7 @@
 use base::Span;
 use pool::Found;
 use pool::NameParts;
-use source::Year;
+use source::EntryYear;
 ghost use mathlib.Core.Path.{_≡_};
 ghost use mathlib.Core.List.{[], _∷_, _++_};
 ghost use mathlib.Core.Option.{Option·getD};
@@ -150,37 +150,37 @@ pub fn write_name(pool: &[u8], name: NameParts, out: &mut [u8])
 }
 
 // How many bytes a year in parentheses is; none where it is missing.
-pub fn parens_len(year: Year) -> usize
+pub fn parens_len(year: EntryYear) -> usize
     requires { ⌜ yearLen year ≤ 32768 ⌝ }
     ensures { λ r. ⌜ r ≡ parensLen year ⌝ }
 {
     match year {
-        Year::Number {
+        EntryYear::Number {
             negative,
             magnitude,
         } => 2 + source::signed_len(negative, magnitude),
-        Year::At { part } => 2 + part.len,
-        Year::Missing => 0,
+        EntryYear::At { part } => 2 + part.len,
+        EntryYear::Missing => 0,
     }
 }
 
 // A year at the front of `out`; nothing where it is missing.
-fn write_year(pool: &[u8], year: Year, out: &mut [u8])
+fn write_year(pool: &[u8], year: EntryYear, out: &mut [u8])
     requires { ⌜ YearInside (now pool) year × (length (yearText (now pool) year) ≤ length (now out)) ⌝ }
     ensures { λ _. ⌜ now (out .exit) ≡ written (yearText (now (pool .entry)) year) (now (out .entry)) ⌝ }
 {
     match year {
-        Year::Number {
+        EntryYear::Number {
             negative,
             magnitude,
         } => source::write_signed(negative, magnitude, out),
-        Year::At { part } => write_part(pool, part, out),
-        Year::Missing => {}
+        EntryYear::At { part } => write_part(pool, part, out),
+        EntryYear::Missing => {}
     }
 }
 
 // `(` and a year at the front of `out`.
-fn write_opening(pool: &[u8], year: Year, out: &mut [u8])
+fn write_opening(pool: &[u8], year: EntryYear, out: &mut [u8])
     requires { ⌜ YearInside (now pool) year × (1 + length (yearText (now pool) year) ≤ length (now out)) ⌝ }
     ensures { λ _. ⌜ now (out .exit) ≡ written (40 ∷ yearText (now (pool .entry)) year) (now (out .entry)) ⌝ }
 {
@@ -189,7 +189,7 @@ fn write_opening(pool: &[u8], year: Year, out: &mut [u8])
 }
 
 // A year in parentheses, `n` bytes, at the front of `out`; nothing where it is missing.
-pub fn write_parens(pool: &[u8], year: Year, n: usize, out: &mut [u8])
+pub fn write_parens(pool: &[u8], year: EntryYear, n: usize, out: &mut [u8])
     requires { ⌜ YearInside (now pool) year × (n ≡ parensLen year) × (n ≤ length (now out)) ⌝ }
     ensures { λ _. ⌜ now (out .exit) ≡ written (inParens (writtenYear (now (pool .entry)) year)) (now (out .entry)) ⌝ }
 {

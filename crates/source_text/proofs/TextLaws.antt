@@ -14,8 +14,8 @@ use Rattle.pool.specs.declared.Found.{Found}
 use Rattle.pool.specs.Fields.{fieldsOf}
 use Rattle.pool.specs.Entries.{fieldWith, entryOf, entryFrom}
 use Rattle.pool.specs.Places.{bytesAt, Inside, Reads, EntryIn}
-use Rattle.source.specs.declared.Year.{Year}
-use Rattle.source.specs.declared.Year.the-variants.{Number, At as YearAt, Missing as NoYear}
+use Rattle.source.specs.declared.EntryYear.{EntryYear}
+use Rattle.source.specs.declared.EntryYear.the-variants.{Number, At as YearAt, Missing as NoYear}
 use Rattle.source_text.specs.Text.{beside, namesOf, headOf, ended, bodyOf, sourceTextOf}
 use Rattle.source.specs.Entry.{yearOf}
 use Rattle.source_parts.specs.Parens.{inParens}
@@ -29,11 +29,11 @@ use Rattle.source_text.proofs.NamesLaws.{beside-at-most, inside-small}
 use Rattle.source_text.proofs.WriteLaws.{beside-length, first-room, second-fits, second-count, second-written}
 
 -- the year of an entry
-module _ (s : List ℕ) (y : Year) (o : Option (List ℕ)) where
+module _ (s : List ℕ) (y : EntryYear) (o : Option (List ℕ)) where
   pub year-small : length s ≤ 32768 → ReadsYear s y o → yearLen y ≤ 32768
   year-small h r = go y (r .inside)
     where
-      go : (y : Year) → YearInside s y → yearLen y ≤ 32768
+      go : (y : EntryYear) → YearInside s y → yearLen y ≤ 32768
       go (Number n m) i = omega arith
       go (YearAt p) i = omega arith
       go NoYear i = omega arith
@@ -182,7 +182,7 @@ module _ (s : List ℕ) (at e : ℕ) (area : List ℕ) where
 pub ruleset text-laws = (text-body, text-front, text-room, text-written)
 
 -- how many bytes names and year are
-module _ (s : List ℕ) (at e : ℕ) (y : Year) where
+module _ (s : List ℕ) (at e : ℕ) (y : EntryYear) where
   year-bound : (m : ℕ) → EntryIn s at e → ReadsYear s y (yearOf (entryFrom s at e)) → m ≡ parensLen y → m ≤ 32770
   year-bound m h r q = rw q (parens-at-most s y (h .small) (r .inside))
 

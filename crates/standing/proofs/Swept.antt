@@ -6,7 +6,7 @@ use mathlib.Core.Bool.{Bool}
 use lib.ListN.{length, length-map}
 use Rattle.item.specs.Group.{Group}
 use Rattle.definition_line.specs.Lines.{inLine, groupEnd}
-use Rattle.standing.specs.Rows.{Placed, placedBy}
+use Rattle.standing.specs.GroupRecords.{Placed, placedBy}
 
 -- the groups alone
 abbrev pub groupsOf : List Placed → List Group

@@ -1,3 +1,3 @@
-pub mod Rows
+pub mod GroupRecords
 pub mod Stands
 pub mod Swept

@@ -5,7 +5,7 @@ use mathlib.Core.Bool.{Bool}
 use Rattle.base.specs.Pick.{pick}
 use Rattle.item.specs.Group.{Group}
 use Rattle.definition_line.specs.Lines.{inLine, groupEnd}
-use Rattle.standing.specs.Rows.{Placed, placedBy}
+use Rattle.standing.specs.GroupRecords.{Placed, placedBy}
 
 -- What is known of a group's standing in the sweep: 0 in a definition line, and 1 elsewhere until its keys are known to be defined.
 abbrev pub sweptFrom : List ℕ → Bool → ℕ → List Group → List Placed

@@ -11,13 +11,13 @@ use Rattle.base.specs.Pick.{pick}
 use Rattle.base.specs.Lists.{written}
 use Rattle.base.proofs.Bools.{and-left, and-right}
 use Rattle.item.specs.Group.{Group}
-use Rattle.records.specs.Rows.{rowsOf, rowsLength}
-use Rattle.records.proofs.RowLaws.{rows-length}
+use Rattle.records.specs.ItemRecords.{recordsOf, recordsLength}
+use Rattle.records.proofs.RecordLaws.{records-length}
 use Rattle.definition_line.specs.Lines.{inLine, groupEnd}
 use Rattle.sweep.specs.declared.group_records.SweepState.{SweepState}
 use Rattle.standing.proofs.Swept.{placed-length}
 use Rattle.sweep.specs.Sweep.{Lent, Swept, lentAfter, sweepRun}
-use Rattle.standing.specs.Rows.{Placed, placed, groupRow, groupRows, itemCount, itemRows, placedBy}
+use Rattle.standing.specs.GroupRecords.{Placed, placed, groupRecord, groupRecords, itemCount, itemRecords, placedBy}
 use Rattle.standing.specs.Swept.{sweptFrom, insideAfter, endAfter}
 use Rattle.sweep.specs.Stops.{stopFrom, startState, SweptTo}
 use Rattle.sweep.specs.Areas.{writtenAt}
@@ -30,25 +30,25 @@ use Rattle.records.specs.Widths.{itemWidth, groupWidth}
 
 -- item records ---------------------------------------------------------------------------------------------------------------------
 
-pub item-rows-length : (gs : List Group) → length (itemRows gs) ≡ itemWidth * itemCount gs
-unfolding flatMap itemCount rowsLength
-item-rows-length [] = refl
-item-rows-length (g ∷ gs) =
-    let h = item-rows-length gs in
-    let r = rows-length g in
+pub item-records-length : (gs : List Group) → length (itemRecords gs) ≡ itemWidth * itemCount gs
+unfolding flatMap itemCount recordsLength
+item-records-length [] = refl
+item-records-length (g ∷ gs) =
+    let h = item-records-length gs in
+    let r = records-length g in
     rw length-append (omega arith)
 
-pub item-rows-append : (gs hs : List Group) → itemRows (gs ++ hs) ≡ itemRows gs ++ itemRows hs
+pub item-records-append : (gs hs : List Group) → itemRecords (gs ++ hs) ≡ itemRecords gs ++ itemRecords hs
 unfolding flatMap
-item-rows-append [] hs = refl
-item-rows-append (g ∷ gs) hs = rw (item-rows-append gs hs) (sym (append-assoc (rowsOf g) (itemRows gs) (itemRows hs)))
+item-records-append [] hs = refl
+item-records-append (g ∷ gs) hs = rw (item-records-append gs hs) (sym (append-assoc (recordsOf g) (itemRecords gs) (itemRecords hs)))
 
 -- group records --------------------------------------------------------------------------------------------------------------------
 
-pub group-rows-length : (n : ℕ) (ps : List Placed) → length (groupRows n ps) ≡ groupWidth * length ps
-unfolding groupRows groupRow
-group-rows-length n [] = refl
-group-rows-length n (p ∷ ps) = let h = group-rows-length (n + length (p .group .items)) ps in omega arith
+pub group-records-length : (n : ℕ) (ps : List Placed) → length (groupRecords n ps) ≡ groupWidth * length ps
+unfolding groupRecords groupRecord
+group-records-length n [] = refl
+group-records-length n (p ∷ ps) = let h = group-records-length (n + length (p .group .items)) ps in omega arith
 
 module _ (text : List ℕ) where
   -- the groups `hs` after the groups `gs`
@@ -58,16 +58,16 @@ module _ (text : List ℕ) where
   inside-append before from [] hs = refl
   inside-append before from (g ∷ gs) hs = inside-append (inLine text before from g) (groupEnd g) gs hs
 
-  pub group-rows-append : (n : ℕ) (before : Bool) (from : ℕ) (gs hs : List Group)
-      → groupRows n (sweptFrom text before from (gs ++ hs))
-      ≡ groupRows n (sweptFrom text before from gs)
-      ++ groupRows (n + itemCount gs) (sweptFrom text (insideAfter text before from gs) (endAfter from gs) hs)
-  unfolding placedBy insideAfter endAfter groupRows itemCount
-  group-rows-append n before from [] hs = let z : n + 0 ≡ n = omega arith in rw z
-  group-rows-append n before from (g ∷ gs) hs =
+  pub group-records-append : (n : ℕ) (before : Bool) (from : ℕ) (gs hs : List Group)
+      → groupRecords n (sweptFrom text before from (gs ++ hs))
+      ≡ groupRecords n (sweptFrom text before from gs)
+      ++ groupRecords (n + itemCount gs) (sweptFrom text (insideAfter text before from gs) (endAfter from gs) hs)
+  unfolding placedBy insideAfter endAfter groupRecords itemCount
+  group-records-append n before from [] hs = let z : n + 0 ≡ n = omega arith in rw z
+  group-records-append n before from (g ∷ gs) hs =
       let z : n + length (g .items) + itemCount gs ≡ n + (length (g .items) + itemCount gs) = omega arith in
-      let row : List ℕ = groupRow n (placed g (pick (inLine text before from g) 0 1)) in
-      rw (group-rows-append (n + length (g .items)) (inLine text before from g) (groupEnd g) gs hs, z)
+      let row : List ℕ = groupRecord n (placed g (pick (inLine text before from g) 0 1)) in
+      rw (group-records-append (n + length (g .items)) (inLine text before from g) (groupEnd g) gs hs, z)
       (sym (append-assoc row _ _))
 
 pub end-append : (from : ℕ) (gs hs : List Group) → endAfter from (gs ++ hs) ≡ endAfter (endAfter from gs) hs
@@ -104,7 +104,7 @@ module _ (n g m k items groups : ℕ) (h : n ≤ m) (i : g ≤ k) where
 pub recorded-none : (text : List ℕ) (s : SweepState) (items groups : List ℕ)
     → (s .fits ≡ true → recordsFit (s .items) (s .groups) (length items) (length groups) ≡ true)
     → Recorded text [] s items groups s items groups
-unfolding itemCount insideAfter endAfter flatMap placedBy groupRows
+unfolding itemCount insideAfter endAfter flatMap placedBy groupRecords
 recorded-none text s items groups room = record {
   group-count = omega arith;
   item-count = omega arith;
@@ -113,8 +113,8 @@ recorded-none text s items groups room = record {
   fitted = go (s .fits) room;
   item-area = refl;
   group-area = refl;
-  item-rows = λ h. written-none (itemWidth * s .items) items;
-  group-rows = λ h. written-none (groupWidth * s .groups) groups;
+  item-records = λ h. written-none (itemWidth * s .items) items;
+  group-records = λ h. written-none (groupWidth * s .groups) groups;
 }
   where
     go : (t : Bool) → (t ≡ true → recordsFit (s .items) (s .groups) (length items) (length groups) ≡ true)
@@ -149,38 +149,38 @@ module _ (text : List ℕ) (gs hs : List Group) (s r t : SweepState) (items grou
   room : t .fits ≡ true → recordsFit (r .items) (r .groups) (length items) (length groups) ≡ true
   room h = and-right (s .fits) _ (sym (a .fitted) ∙ fit-before h)
 
-  item-room : t .fits ≡ true → itemWidth * s .items + length (itemRows gs) ≤ length items
+  item-room : t .fits ≡ true → itemWidth * s .items + length (itemRecords gs) ≤ length items
   item-room h =
       let x = leb-true (itemWidth * r .items) (length items) (and-left _ _ (room h)) in
-      let y = item-rows-length gs in
+      let y = item-records-length gs in
       let z = a .item-count in
       omega arith
 
-  group-room : t .fits ≡ true → groupWidth * s .groups + length (groupRows (s .items) (sweptFrom text (s .inside) (s .from) gs)) ≤ length groups
+  group-room : t .fits ≡ true → groupWidth * s .groups + length (groupRecords (s .items) (sweptFrom text (s .inside) (s .from) gs)) ≤ length groups
   group-room h =
       let x = leb-true (groupWidth * r .groups) (length groups) (and-right (leb (itemWidth * r .items) (length items)) _ (room h)) in
-      let y = group-rows-length (s .items) (sweptFrom text (s .inside) (s .from) gs) in
+      let y = group-records-length (s .items) (sweptFrom text (s .inside) (s .from) gs) in
       let w : length (sweptFrom text (s .inside) (s .from) gs) ≡ length gs = placed-length _ text (s .inside) (s .from) gs in
       let z = a .group-count in
       omega arith
 
-  all-items : t .fits ≡ true → items'' ≡ writtenAt (itemWidth * s .items) (itemRows (gs ++ hs)) items
+  all-items : t .fits ≡ true → items'' ≡ writtenAt (itemWidth * s .items) (itemRecords (gs ++ hs)) items
   all-items h =
-      let y = item-rows-length gs in
+      let y = item-records-length gs in
       let z = a .item-count in
       b .item-rows h
-      ∙ rw (a .item-rows (fit-before h), item-rows-append gs hs)
-      (written-more (itemWidth * s .items) items (itemRows gs) (item-room h) (itemRows hs) (itemWidth * r .items) (omega arith))
+      ∙ rw (a .item-rows (fit-before h), item-records-append gs hs)
+      (written-more (itemWidth * s .items) items (itemRecords gs) (item-room h) (itemRecords hs) (itemWidth * r .items) (omega arith))
 
   all-groups : t .fits ≡ true
-      → groups'' ≡ writtenAt (groupWidth * s .groups) (groupRows (s .items) (sweptFrom text (s .inside) (s .from) (gs ++ hs))) groups
+      → groups'' ≡ writtenAt (groupWidth * s .groups) (groupRecords (s .items) (sweptFrom text (s .inside) (s .from) (gs ++ hs))) groups
   all-groups h =
-      let y = group-rows-length (s .items) (sweptFrom text (s .inside) (s .from) gs) in
+      let y = group-records-length (s .items) (sweptFrom text (s .inside) (s .from) gs) in
       let w : length (sweptFrom text (s .inside) (s .from) gs) ≡ length gs = placed-length _ text (s .inside) (s .from) gs in
       let z = a .group-count in
       b .group-rows h
-      ∙ rw (a .group-rows (fit-before h), a .item-count, a .line, a .end, group-rows-append text (s .items) (s .inside) (s .from) gs hs)
-      (written-more (groupWidth * s .groups) groups (groupRows (s .items) (sweptFrom text (s .inside) (s .from) gs)) (group-room h) _ (groupWidth * r .groups) (omega arith))
+      ∙ rw (a .group-rows (fit-before h), a .item-count, a .line, a .end, group-records-append text (s .items) (s .inside) (s .from) gs hs)
+      (written-more (groupWidth * s .groups) groups (groupRecords (s .items) (sweptFrom text (s .inside) (s .from) gs)) (group-room h) _ (groupWidth * r .groups) (omega arith))
 
   pub recorded-both : Recorded text (gs ++ hs) s items groups t items'' groups''
   recorded-both = record {
@@ -191,8 +191,8 @@ module _ (text : List ℕ) (gs hs : List Group) (s r t : SweepState) (items grou
     fitted = fits-then ∙ fit-first;
     item-area = b .item-area ∙ a .item-area;
     group-area = b .group-area ∙ a .group-area;
-    item-rows = all-items;
-    group-rows = all-groups;
+    item-records = all-items;
+    group-records = all-groups;
   }
 
 -- from the first state on ------------------------------------------------------------------------------------------------------------
@@ -214,11 +214,11 @@ module _ {text : List ℕ} {gs : List Group} {items groups : List ℕ} {r : Swee
   pub all-fitted : r .fits ≡ recordsFit (itemCount gs) (length gs) (length items) (length groups)
   all-fitted = a .fitted ∙ rw (all-items-count, all-groups-count)
 
-  pub all-item-rows : r .fits ≡ true → items' ≡ written (itemRows gs) items
-  all-item-rows h = a .item-rows h ∙ written-front (itemRows gs) items
+  pub all-item-records : r .fits ≡ true → items' ≡ written (itemRecords gs) items
+  all-item-records h = a .item-rows h ∙ written-front (itemRecords gs) items
 
-  pub all-group-rows : r .fits ≡ true → groups' ≡ written (groupRows 0 (sweptFrom text false 0 gs)) groups
-  all-group-rows h = a .group-rows h ∙ written-front (groupRows 0 (sweptFrom text false 0 gs)) groups
+  pub all-group-records : r .fits ≡ true → groups' ≡ written (groupRecords 0 (sweptFrom text false 0 gs)) groups
+  all-group-records h = a .group-rows h ∙ written-front (groupRecords 0 (sweptFrom text false 0 gs)) groups
 
 -- Two sweeps: the first with the index and the note as they were lent, the second, from where it stopped, with those after the build, if
 -- one was wanted. They record the groups of the sweep as run.

@@ -15,11 +15,11 @@ use Rattle.base.proofs.Bools.{and-left, and-right}
 use Rattle.item.specs.Pieces.{itemsOf}
 use Rattle.item.specs.Group.{goodItems, groupOf}
 use Rattle.resolve.specs.Groups.{barred, groupAccepted}
-use Rattle.records.specs.Rows.{rowsOf, rowsLength}
-use Rattle.records.proofs.RowLaws.{rows-length}
+use Rattle.records.specs.ItemRecords.{recordsOf, recordsLength}
+use Rattle.records.proofs.RecordLaws.{records-length}
 use Rattle.definition_line.specs.Lines.{inLine}
 use Rattle.sweep.specs.declared.group_records.SweepState.{SweepState}
-use Rattle.standing.specs.Rows.{groupRow, groupRows, itemCount, itemRows, placedBy}
+use Rattle.standing.specs.GroupRecords.{groupRecord, groupRecords, itemCount, itemRecords, placedBy}
 use Rattle.standing.specs.Swept.{sweptFrom, insideAfter, endAfter}
 use Rattle.sweep.specs.Areas.{writtenAt}
 use Rattle.sweep.specs.Recording.{recordsFit, Counted, ItemsRoom, Recordable, afterGroup, RecordedOne}
@@ -37,22 +37,22 @@ module _ (text : List ℕ) (at close n : ℕ) (items : List ℕ) (h : ItemsRoom 
   unfolding groupAccepted
   items-good = and-right (not (barred text close)) _ (h .stands .good)
 
-  pub items-rest : rowsLength (groupOf text at close) ≤ length (take (length items - itemWidth * n) (drop (itemWidth * n) items))
-  unfolding rowsLength groupOf
+  pub items-rest : recordsLength (groupOf text at close) ≤ length (take (length items - itemWidth * n) (drop (itemWidth * n) items))
+  unfolding recordsLength groupOf
   items-rest = let r = h .room in simp (length-take, length-drop) (omega arith)
 
-  pub items-back : {back : List ℕ} → back ≡ written (rowsOf (groupOf text at close)) (take (length items - itemWidth * n) (drop (itemWidth * n) items))
+  pub items-back : {back : List ℕ} → back ≡ written (recordsOf (groupOf text at close)) (take (length items - itemWidth * n) (drop (itemWidth * n) items))
       → take (itemWidth * n) items ++ (back ++ drop (length items - itemWidth * n) (drop (itemWidth * n) items))
-      ≡ writtenAt (itemWidth * n) (rowsOf (groupOf text at close)) items
-  items-back {back} e = written-part (itemWidth * n) items (rowsOf (groupOf text at close)) back items-by e
+      ≡ writtenAt (itemWidth * n) (recordsOf (groupOf text at close)) items
+  items-back {back} e = written-part (itemWidth * n) items (recordsOf (groupOf text at close)) back items-by e
 
-  room-for : itemWidth * n + length (rowsOf (groupOf text at close)) ≤ length items
-  unfolding rowsLength groupOf
-  room-for = let r = h .room in let l = rows-length (groupOf text at close) in omega arith
+  room-for : itemWidth * n + length (recordsOf (groupOf text at close)) ≤ length items
+  unfolding recordsLength groupOf
+  room-for = let r = h .room in let l = records-length (groupOf text at close) in omega arith
 
-  pub items-same : {back : List ℕ} → back ≡ written (rowsOf (groupOf text at close)) (take (length items - itemWidth * n) (drop (itemWidth * n) items))
+  pub items-same : {back : List ℕ} → back ≡ written (recordsOf (groupOf text at close)) (take (length items - itemWidth * n) (drop (itemWidth * n) items))
       → length (take (itemWidth * n) items ++ (back ++ drop (length items - itemWidth * n) (drop (itemWidth * n) items))) ≡ length items
-  items-same e = rw (items-back e) (written-length (itemWidth * n) items (rowsOf (groupOf text at close)) room-for)
+  items-same e = rw (items-back e) (written-length (itemWidth * n) items (recordsOf (groupOf text at close)) room-for)
 
 pub ruleset item-laws = (items-by, items-good, items-rest, items-back, items-same)
 
@@ -99,11 +99,11 @@ pub ruleset room-laws = (items-few, items-word, first-few, count-few, items-room
 -- the state and the areas then -----------------------------------------------------------------------------------------------------
 
 -- the record of a group alone
-row-alone : (text : List ℕ) (n at close count : ℕ) (before : Bool) (from : ℕ) → count ≡ length (itemsOf text at close)
-    → groupRows n (sweptFrom text before from (groupOf text at close ∷ []))
+record-alone : (text : List ℕ) (n at close count : ℕ) (before : Bool) (from : ℕ) → count ≡ length (itemsOf text at close)
+    → groupRecords n (sweptFrom text before from (groupOf text at close ∷ []))
     ≡ at ∷ (close + 1 - at) ∷ n ∷ count ∷ pick (inLine text before from (groupOf text at close)) 0 1 ∷ []
-unfolding groupRows placedBy groupRow groupOf
-row-alone text n at close count before from e = rw (← e)
+unfolding groupRecords placedBy groupRecord groupOf
+record-alone text n at close count before from e = rw (← e)
 
 module _ (text : List ℕ) (at close count : ℕ) (s : SweepState) (items groups : List ℕ)
     (h : Recordable text at close count s (length items) (length groups)) {inside b : Bool}
@@ -134,13 +134,13 @@ module _ (text : List ℕ) (at close count : ℕ) (s : SweepState) (items groups
   unfolding endAfter groupOf
   after-end = refl
 
-  items-alone : itemRows (groupOf text at close ∷ []) ≡ rowsOf (groupOf text at close)
+  items-alone : itemRecords (groupOf text at close ∷ []) ≡ recordsOf (groupOf text at close)
   unfolding flatMap
-  items-alone = append-nil (rowsOf (groupOf text at close))
+  items-alone = append-nil (recordsOf (groupOf text at close))
 
-  rows-count : length (rowsOf (groupOf text at close)) ≡ itemWidth * length (itemsOf text at close)
-  unfolding rowsLength groupOf
-  rows-count = rows-length (groupOf text at close)
+  records-count : length (recordsOf (groupOf text at close)) ≡ itemWidth * length (itemsOf text at close)
+  unfolding recordsLength groupOf
+  records-count = records-length (groupOf text at close)
 
   pub recorded-not : {r : SweepState} → (s .fits && b) ≡ false → r ≡ afterGroup s close count inside false
       → RecordedOne text at close s items groups r items groups
@@ -156,21 +156,21 @@ module _ (text : List ℕ) (at close count : ℕ) (s : SweepState) (items groups
           fitted = rw (← q) (sym f);
           item-area = refl;
           group-area = refl;
-          item-rows = λ z. absurd (true≢false (sym z));
-          group-rows = λ z. absurd (true≢false (sym z));
+          item-records = λ z. absurd (true≢false (sym z));
+          group-records = λ z. absurd (true≢false (sym z));
         };
         counted = after-counted false f;
       }
 
   pub recorded-fits : {r : SweepState} {standing : ℕ} {items' groups' : List ℕ} → (s .fits && b) ≡ true → standing ≡ pick inside 0 1
-      → items' ≡ writtenAt (itemWidth * s .items) (rowsOf (groupOf text at close)) items
+      → items' ≡ writtenAt (itemWidth * s .items) (recordsOf (groupOf text at close)) items
       → groups' ≡ writtenAt (groupWidth * s .groups) (at ∷ (close + 1 - at) ∷ s .items ∷ count ∷ standing ∷ []) groups
       → r ≡ afterGroup s close count inside true
       → RecordedOne text at close s items groups r items' groups'
   recorded-fits {r} {standing} {items'} {groups'} t d i g e =
       let n = items-room text at close count s (length items) (length groups) h q t in
       let k = groups-room text at close count s (length items) (length groups) h q t in
-      let c = rows-count in
+      let c = records-count in
       rw e
       record {
         next = refl;
@@ -181,10 +181,10 @@ module _ (text : List ℕ) (at close count : ℕ) (s : SweepState) (items groups
           line = after-line;
           end = after-end;
           fitted = rw (← q) (sym t);
-          item-area = ap length i ∙ written-length (itemWidth * s .items) items (rowsOf (groupOf text at close)) (omega arith);
+          item-area = ap length i ∙ written-length (itemWidth * s .items) items (recordsOf (groupOf text at close)) (omega arith);
           group-area = ap length g ∙ written-length (groupWidth * s .groups) groups (at ∷ (close + 1 - at) ∷ s .items ∷ count ∷ standing ∷ []) k;
-          item-rows = λ z. i ∙ rw items-alone refl;
-          group-rows = λ z. g ∙ rw (row-alone text (s .items) at close count (s .inside) (s .from) (h .stands .counts), d, l) refl;
+          item-records = λ z. i ∙ rw items-alone refl;
+          group-records = λ z. g ∙ rw (record-alone text (s .items) at close count (s .inside) (s .from) (h .stands .counts), d, l) refl;
         };
         counted = after-counted true t;
       }

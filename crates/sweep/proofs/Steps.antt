@@ -23,7 +23,7 @@ use Rattle.resolve.proofs.Laws.{look-inside}
 use Rattle.resolve.proofs.Runs.{look-wants, look-close}
 use Rattle.sweep.specs.Sweep.{foundWith, wantsAt}
 use Rattle.sweep.specs.declared.Step.the-variants.{Next, Group as StepGroup, Build}
-use Rattle.sweep.specs.Steps.{stepOf, stepAt}
+use Rattle.sweep.specs.Steps.{sweepStep, stepAt}
 
 -- what a look says -----------------------------------------------------------------------------------------------------------------
 
@@ -69,14 +69,14 @@ module _ (s : List ℕ) (note : ℕ) (index : List ℕ) (p : ℕ) where
 
     module _ {l : Look} (f : b ≡ false) (k : l ≡ lookOf s p note index) where
       at-bracket : (w : Bool) → isBuild l ≡ w
-          → stepAt s note index p ≡ pick w Build (stepOf (judge s p (closeAsRun s p note index)))
+          → stepAt s note index p ≡ pick w Build (sweepStep (judge s p (closeAsRun s p note index)))
       unfolding stepAt wantsAt foundWith groupAsRun
       at-bracket w z =
           let o : opensAt s p ≡ true = opens h e q ∙ ap not f in
           let x : wantsBuild s p note ≡ w = sym (look-wants s p note index) ∙ ap isBuild (sym k) ∙ z in
           rw (o, x)
 
-      judged : (isBuild l ≡ false) → stepAt s note index p ≡ stepOf (judge s p (closeAfter s p index l))
+      judged : (isBuild l ≡ false) → stepAt s note index p ≡ sweepStep (judge s p (closeAfter s p index l))
       unfolding indexAfter
       judged z =
           let n : isBuild (lookOf s p note index) ≡ false = ap isBuild (sym k) ∙ z in
@@ -91,15 +91,15 @@ module _ (s : List ℕ) (note : ℕ) (index : List ℕ) (p : ℕ) where
       step-none z = sym (judged (ap isBuild z) ∙ rw z)
 
       module _ {c : ℕ} {m : Matched} (z : l ≡ LookAt c) (j : m ≡ matched (judge s p (At c))) where
-        by-match : stepAt s note index p ≡ stepOf (judge s p (At c))
+        by-match : stepAt s note index p ≡ sweepStep (judge s p (At c))
         unfolding closeAfter
-        by-match = judged (ap isBuild z) ∙ ap (λ (x : Look). stepOf (judge s p (closeAfter s p index x))) z
+        by-match = judged (ap isBuild z) ∙ ap (λ (x : Look). sweepStep (judge s p (closeAfter s p index x))) z
 
         pub step-group : {close count : ℕ} → m ≡ MatchedGroup close count → StepGroup close count ≡ stepAt s note index p
         unfolding matched
         step-group {close} {count} g = sym (by-match ∙ go (judge s p (At c)) (sym j ∙ g))
           where
-            go : (a : GroupAnswer) → matched a ≡ MatchedGroup close count → stepOf a ≡ StepGroup close count
+            go : (a : GroupAnswer) → matched a ≡ MatchedGroup close count → sweepStep a ≡ StepGroup close count
             go (Found x) t = cc
             go NoGroup t = let y : _≡_ {A = ℕ} 0 1 = cc in absurd (omega (arith, y))
 
@@ -107,7 +107,7 @@ module _ (s : List ℕ) (note : ℕ) (index : List ℕ) (p : ℕ) where
         unfolding matched
         step-bad g = sym (by-match ∙ go (judge s p (At c)) (sym j ∙ g))
           where
-            go : (a : GroupAnswer) → matched a ≡ NotMatched → stepOf a ≡ Next
+            go : (a : GroupAnswer) → matched a ≡ NotMatched → sweepStep a ≡ Next
             go (Found x) t = let y : _≡_ {A = ℕ} 0 1 = cc in absurd (omega (arith, y))
             go NoGroup t = refl
 

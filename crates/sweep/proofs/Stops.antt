@@ -17,7 +17,7 @@ use Rattle.resolve.specs.declared.Look.the-variants.{At as LookAt, Nothing as L
 use Rattle.resolve.specs.Groups.{GroupAnswer, Found, NoGroup, groupAccepted, judge}
 use Rattle.item.specs.Group.{Group, groupOf}
 use Rattle.resolve.specs.Resolve.{storedClose, shortLook, settled, shortened, lookOf, isBuild, closeAfter, closeAsRun, groupAsRun, wantsBuild, noteAfter, indexAfter, recordsAfter}
-use Rattle.sweep.specs.Sweep.{Lent, swept, listed, nextAt, lentAfter, foundRun, buildsAt, sweepRunIn, sweepRun, foundWith, wantsAt}
+use Rattle.sweep.specs.Sweep.{Lent, swept, foundGroups, nextAt, lentAfter, foundRun, buildsAt, sweepRunIn, sweepRun, foundWith, wantsAt}
 use Rattle.sweep.specs.Stops.{Stop, stop, after, stopIn, stopFrom}
 use Rattle.sweep.specs.Facts.{goneOn, SweepInTwo}
 use Rattle.resolve.specs.Looks.{Inside}
@@ -63,12 +63,12 @@ module _ (text : List ℕ) where
       go : (t : Bool) → ltb at (length text) ≡ t
           → (length text - nextAt at f ≤ n → length text - nextAt at f ≤ m
           → stopIn n text note index (nextAt at f) ≡ stopIn m text note index (nextAt at f))
-          → pick t (pick (wantsAt text note at) (stop [] at true) (after (listed f) (stopIn n text note index (nextAt at f)))) (stop [] at false)
-          ≡ pick t (pick (wantsAt text note at) (stop [] at true) (after (listed f) (stopIn m text note index (nextAt at f)))) (stop [] at false)
+          → pick t (pick (wantsAt text note at) (stop [] at true) (after (foundGroups f) (stopIn n text note index (nextAt at f)))) (stop [] at false)
+          ≡ pick t (pick (wantsAt text note at) (stop [] at true) (after (foundGroups f) (stopIn m text note index (nextAt at f)))) (stop [] at false)
       go true q ih =
           let b = ltb-true at (length text) q in
           let g = next-more note index at in
-          ap (λ (s : Stop). pick (wantsAt text note at) (stop [] at true) (after (listed f) s)) (ih (omega arith) (omega arith))
+          ap (λ (s : Stop). pick (wantsAt text note at) (stop [] at true) (after (foundGroups f) s)) (ih (omega arith) (omega arith))
       go false q ih = refl
 
   -- where the index is built no bracket wants a build
@@ -90,7 +90,7 @@ module _ (text : List ℕ) where
   built-run zero at so-far l e = ap (λ (gs : List Group). swept gs l) (sym (append-nil so-far))
   built-run (suc n) at so-far l e =
       go (ltb at (length text)) (buildsAt text at l) (built-builds-none at l e)
-      (built-run n (nextAt at (foundRun text at l)) (so-far ++ listed (foundRun text at l)) l e)
+      (built-run n (nextAt at (foundRun text at l)) (so-far ++ foundGroups (foundRun text at l)) l e)
     where
       f : GroupAnswer
       f = foundRun text at l
@@ -99,20 +99,20 @@ module _ (text : List ℕ) where
       wants = rw e (built-wants-none at)
 
       go : (t b : Bool) → b ≡ false
-          → sweepRunIn n text (nextAt at f) (so-far ++ listed f) l
-          ≡ swept ((so-far ++ listed f) ++ stopIn n text (l .note) (l .index) (nextAt at f) .groups) l
-          → pick t (sweepRunIn n text (nextAt at f) (so-far ++ listed f) (lentAfter b text l)) (swept so-far l)
+          → sweepRunIn n text (nextAt at f) (so-far ++ foundGroups f) l
+          ≡ swept ((so-far ++ foundGroups f) ++ stopIn n text (l .note) (l .index) (nextAt at f) .groups) l
+          → pick t (sweepRunIn n text (nextAt at f) (so-far ++ foundGroups f) (lentAfter b text l)) (swept so-far l)
           ≡ swept
           (so-far
           ++ pick t
-          (pick (wantsAt text (l .note) at) (stop [] at true) (after (listed f) (stopIn n text (l .note) (l .index) (nextAt at f))))
+          (pick (wantsAt text (l .note) at) (stop [] at true) (after (foundGroups f) (stopIn n text (l .note) (l .index) (nextAt at f))))
           (stop [] at false) .groups)
           l
       go true true z ih = absurd (let w : _≡_ {A = ℕ} 0 1 = cc in omega arith)
       go true false z ih =
           rw wants
           (ih
-          ∙ ap (λ (gs : List Group). swept gs l) (append-assoc so-far (listed f) (stopIn n text (l .note) (l .index) (nextAt at f) .groups)))
+          ∙ ap (λ (gs : List Group). swept gs l) (append-assoc so-far (foundGroups f) (stopIn n text (l .note) (l .index) (nextAt at f) .groups)))
       go false b z ih = ap (λ (gs : List Group). swept gs l) (sym (append-nil so-far))
 
   -- a bracket that wants a build gives, as run, what it gives once the index is built
@@ -140,15 +140,15 @@ module _ (text : List ℕ) where
 
   -- after the build
   on-built : (n at : ℕ) (so-far : List Group) (l : Lent) → length text - at ≤ suc n → ltb at (length text) ≡ true → buildsAt text at l ≡ true
-      → sweepRunIn n text (nextAt at (foundRun text at l)) (so-far ++ listed (foundRun text at l)) (lentAfter true text l)
+      → sweepRunIn n text (nextAt at (foundRun text at l)) (so-far ++ foundGroups (foundRun text at l)) (lentAfter true text l)
       ≡ goneOn text so-far l (stop [] at true)
   unfolding goneOn stopFrom stopIn lentAfter noteAfter indexAfter recordsAfter
   on-built n at so-far l h q r =
-      built-run n (nextAt at f) (so-far ++ listed f) later refl
+      built-run n (nextAt at f) (so-far ++ foundGroups f) later refl
       ∙ ap (λ (gs : List Group). swept gs later)
-      (append-assoc so-far (listed f) (stopIn n text 1 built (nextAt at f) .groups)
+      (append-assoc so-far (foundGroups f) (stopIn n text 1 built (nextAt at f) .groups)
       ∙ ap (λ (gs : List Group). so-far ++ gs)
-      (ap (λ (g : GroupAnswer). listed g ++ stopIn n text 1 built (nextAt at g) .groups) (build-same at l r)
+      (ap (λ (g : GroupAnswer). foundGroups g ++ stopIn n text 1 built (nextAt at g) .groups) (build-same at l r)
       ∙ ap (λ (s : Stop). s .groups) (sym (turn ∙ refl) ∙ stop-enough (suc n) (length text) 1 built at h (omega arith))))
     where
       f : GroupAnswer
@@ -160,7 +160,7 @@ module _ (text : List ℕ) where
       later : Lent
       later = lentAfter true text l
 
-      turn : stopIn (suc n) text 1 built at ≡ after (listed (foundWith text 1 built at)) (stopIn n text 1 built (nextAt at (foundWith text 1 built at)))
+      turn : stopIn (suc n) text 1 built at ≡ after (foundGroups (foundWith text 1 built at)) (stopIn n text 1 built (nextAt at (foundWith text 1 built at)))
       turn = rw (q, built-wants-none at)
 
   -- groups before a stop
@@ -177,24 +177,24 @@ module _ (text : List ℕ) where
   run-in-two zero at so-far l h = at-end so-far at l (omega arith)
   run-in-two (suc n) at so-far l h =
       go (ltb at (length text)) refl (wantsAt text (l .note) at) refl
-      (λ k. run-in-two n (nextAt at (foundRun text at l)) (so-far ++ listed (foundRun text at l)) l k)
+      (λ k. run-in-two n (nextAt at (foundRun text at l)) (so-far ++ foundGroups (foundRun text at l)) l k)
     where
       f : GroupAnswer
       f = foundRun text at l
 
       go : (t : Bool) → ltb at (length text) ≡ t → (w : Bool) → wantsAt text (l .note) at ≡ w
           → (length text - nextAt at f ≤ n
-          → sweepRunIn n text (nextAt at f) (so-far ++ listed f) l
-          ≡ goneOn text (so-far ++ listed f) l (stopIn n text (l .note) (l .index) (nextAt at f)))
-          → pick t (sweepRunIn n text (nextAt at f) (so-far ++ listed f) (lentAfter w text l)) (swept so-far l)
+          → sweepRunIn n text (nextAt at f) (so-far ++ foundGroups f) l
+          ≡ goneOn text (so-far ++ foundGroups f) l (stopIn n text (l .note) (l .index) (nextAt at f)))
+          → pick t (sweepRunIn n text (nextAt at f) (so-far ++ foundGroups f) (lentAfter w text l)) (swept so-far l)
           ≡ goneOn text so-far l
-          (pick t (pick w (stop [] at true) (after (listed f) (stopIn n text (l .note) (l .index) (nextAt at f)))) (stop [] at false))
+          (pick t (pick w (stop [] at true) (after (foundGroups f) (stopIn n text (l .note) (l .index) (nextAt at f)))) (stop [] at false))
       go false q w r ih = at-end so-far at l (ltb-false at (length text) q)
       go true q true r ih = on-built n at so-far l h q r
       go true q false r ih =
           let b = ltb-true at (length text) q in
           let m = next-more (l .note) (l .index) at in
-          ih (omega arith) ∙ joined so-far (listed f) l (stopIn n text (l .note) (l .index) (nextAt at f))
+          ih (omega arith) ∙ joined so-far (foundGroups f) l (stopIn n text (l .note) (l .index) (nextAt at f))
 
 pub sweep-in-two : SweepInTwo
 unfolding sweepRun stopFrom

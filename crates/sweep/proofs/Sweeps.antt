@@ -14,7 +14,7 @@ use Rattle.item.specs.Group.{Group}
 use Rattle.resolve.specs.Resolve.{groupAsRun, noteAfter, indexAfter}
 use Rattle.resolve.specs.Lefts.{Left}
 use Rattle.resolve.proofs.AtBracket.{bracket-true}
-use Rattle.sweep.specs.Sweep.{Lent, Swept, swept, listed, nextAt, lentAfter, foundAt, foundRun, buildsAt, sweepIn, sweepRunIn, foundWith}
+use Rattle.sweep.specs.Sweep.{Lent, Swept, swept, foundGroups, nextAt, lentAfter, foundAt, foundRun, buildsAt, sweepIn, sweepRunIn, foundWith}
 
 -- what a look-up leaves is again such an index, as long as it was
 left-after : (b : Bool) (text : List ℕ) (l : Lent) → Left text (l .index) (l .note)
@@ -43,17 +43,17 @@ module _ (text : List ℕ) where
   sweep-same zero at so-far l h g = sym (append-nil so-far)
   sweep-same (suc n) at so-far l h g =
       go (ltb at (length text)) (foundRun text at l) (found-same at l h g)
-      (sweep-same n (nextAt at (foundRun text at l)) (so-far ++ listed (foundRun text at l)) (lentAfter (buildsAt text at l) text l)
+      (sweep-same n (nextAt at (foundRun text at l)) (so-far ++ foundGroups (foundRun text at l)) (lentAfter (buildsAt text at l) text l)
       (left-after (buildsAt text at l) text l h) (length-after (buildsAt text at l) text l g))
     where
       go : (b : Bool) (f : GroupAnswer) → f ≡ foundAt text at
-          → sweepRunIn n text (nextAt at f) (so-far ++ listed f) (lentAfter (buildsAt text at l) text l) .groups
-          ≡ so-far ++ listed f ++ sweepIn n text (nextAt at f)
-          → pick b (sweepRunIn n text (nextAt at f) (so-far ++ listed f) (lentAfter (buildsAt text at l) text l)) (swept so-far l) .groups
-          ≡ so-far ++ pick b (listed (foundAt text at) ++ sweepIn n text (nextAt at (foundAt text at))) []
+          → sweepRunIn n text (nextAt at f) (so-far ++ foundGroups f) (lentAfter (buildsAt text at l) text l) .groups
+          ≡ so-far ++ foundGroups f ++ sweepIn n text (nextAt at f)
+          → pick b (sweepRunIn n text (nextAt at f) (so-far ++ foundGroups f) (lentAfter (buildsAt text at l) text l)) (swept so-far l) .groups
+          ≡ so-far ++ pick b (foundGroups (foundAt text at) ++ sweepIn n text (nextAt at (foundAt text at))) []
       go true f e ih =
-          ih ∙ append-assoc so-far (listed f) (sweepIn n text (nextAt at f))
-          ∙ ap (λ (k : GroupAnswer). so-far ++ (listed k ++ sweepIn n text (nextAt at k))) e
+          ih ∙ append-assoc so-far (foundGroups f) (sweepIn n text (nextAt at f))
+          ∙ ap (λ (k : GroupAnswer). so-far ++ (foundGroups k ++ sweepIn n text (nextAt at k))) e
       go false f e ih = sym (append-nil so-far)
 
 -- what the sweep leaves is again such an index
@@ -63,7 +63,7 @@ unfolding sweepRunIn
 sweep-left zero text at so-far l h = h
 sweep-left (suc n) text at so-far l h =
     go (ltb at (length text)) _
-    (sweep-left n text (nextAt at (foundRun text at l)) (so-far ++ listed (foundRun text at l)) (lentAfter (buildsAt text at l) text l)
+    (sweep-left n text (nextAt at (foundRun text at l)) (so-far ++ foundGroups (foundRun text at l)) (lentAfter (buildsAt text at l) text l)
     (left-after (buildsAt text at l) text l h))
   where
     go : (b : Bool) (s : Swept) → Left text (s .lent .index) (s .lent .note)
@@ -84,7 +84,7 @@ sweep-length zero text at so-far l h = refl
 sweep-length (suc n) text at so-far l h =
     go (ltb at (length text)) _
     (let e = after-length (buildsAt text at l) text l h in
-    sweep-length n text (nextAt at (foundRun text at l)) (so-far ++ listed (foundRun text at l)) (lentAfter (buildsAt text at l) text l) (omega (arith, e)) ∙ e)
+    sweep-length n text (nextAt at (foundRun text at l)) (so-far ++ foundGroups (foundRun text at l)) (lentAfter (buildsAt text at l) text l) (omega (arith, e)) ∙ e)
   where
     go : (b : Bool) (s : Swept) → length (s .lent .index) ≡ length (l .index) → length (pick b s (swept so-far l) .lent .index) ≡ length (l .index)
     go true s e = e

@@ -23,10 +23,10 @@ use Rattle.resolve.proofs.Runs.{run-inside}
 use Rattle.sweep.specs.declared.group_records.SweepState.{SweepState}
 use Rattle.sweep.specs.declared.Step.{Step}
 use Rattle.sweep.specs.declared.Step.the-variants.{Next, Group as StepGroup, Build}
-use Rattle.sweep.specs.Sweep.{listed, nextAt, foundWith, wantsAt}
+use Rattle.sweep.specs.Sweep.{foundGroups, nextAt, foundWith, wantsAt}
 use Rattle.sweep.specs.Stops.{stop, after, stopIn, stopFrom, SweptTo}
 use Rattle.sweep.specs.Recording.{Counted, Recorded, Recordable, RecordedOne}
-use Rattle.sweep.specs.Steps.{stepOf, stepAt, movedTo, Onward, Turned}
+use Rattle.sweep.specs.Steps.{sweepStep, stepAt, movedTo, Onward, Turned}
 use Rattle.standing.specs.Stands.{GroupFrom}
 use Rattle.sweep.proofs.Stops.{stop-end, stop-enough}
 use Rattle.sweep.proofs.Laws.{recorded-none, recorded-both}
@@ -42,7 +42,7 @@ module _ (text : List ℕ) (note : ℕ) (index : List ℕ) where
   turns-once : (at : ℕ) → at < length text
       → stopFrom text note index at
       ≡ pick (wantsAt text note at) (stop [] at true)
-      (after (listed (foundWith text note index at)) (stopFrom text note index (nextAt at (foundWith text note index at))))
+      (after (foundGroups (foundWith text note index at)) (stopFrom text note index (nextAt at (foundWith text note index at))))
   unfolding stopFrom stopIn
   turns-once at h =
       stop-enough text (length text) (suc (length text)) note index at (omega arith) (omega arith)
@@ -50,7 +50,7 @@ module _ (text : List ℕ) (note : ℕ) (index : List ℕ) where
 
   stop-on : (at : ℕ) → at < length text → wantsAt text note at ≡ false
       → stopFrom text note index at
-      ≡ after (listed (foundWith text note index at)) (stopFrom text note index (nextAt at (foundWith text note index at)))
+      ≡ after (foundGroups (foundWith text note index at)) (stopFrom text note index (nextAt at (foundWith text note index at)))
   stop-on at h w = turns-once at h ∙ rw w
 
   stop-build : (at : ℕ) → at < length text → wantsAt text note at ≡ true → stopFrom text note index at ≡ stop [] at true
@@ -89,7 +89,7 @@ module _ (text : List ℕ) (note : ℕ) (index : List ℕ) (at : ℕ) where
   unfolding stepAt
   step-wants = go (wantsAt text note at) (foundWith text note index at)
     where
-      go : (w : Bool) (f : GroupAnswer) → pick w Build (stepOf f) ≡ Build → w ≡ true
+      go : (w : Bool) (f : GroupAnswer) → pick w Build (sweepStep f) ≡ Build → w ≡ true
       go true f e = refl
       go false (Found g) e = let z : _≡_ {A = ℕ} 0 1 = cc in absurd (omega (arith, z))
       go false NoGroup e = let z : _≡_ {A = ℕ} 0 1 = cc in absurd (omega (arith, z))
@@ -98,7 +98,7 @@ module _ (text : List ℕ) (note : ℕ) (index : List ℕ) (at : ℕ) where
   unfolding stepAt
   next-wants = go (wantsAt text note at) (foundWith text note index at)
     where
-      go : (w : Bool) (f : GroupAnswer) → pick w Build (stepOf f) ≡ Next → w ≡ false
+      go : (w : Bool) (f : GroupAnswer) → pick w Build (sweepStep f) ≡ Next → w ≡ false
       go true f e = let z : _≡_ {A = ℕ} 0 1 = cc in absurd (omega (arith, z))
       go false f e = refl
 
@@ -106,7 +106,7 @@ module _ (text : List ℕ) (note : ℕ) (index : List ℕ) (at : ℕ) where
   unfolding stepAt
   next-none = go (wantsAt text note at) (foundWith text note index at)
     where
-      go : (w : Bool) (f : GroupAnswer) → pick w Build (stepOf f) ≡ Next → f ≡ NoGroup
+      go : (w : Bool) (f : GroupAnswer) → pick w Build (sweepStep f) ≡ Next → f ≡ NoGroup
       go true f e = let z : _≡_ {A = ℕ} 0 1 = cc in absurd (omega (arith, z))
       go false (Found g) e = let z : _≡_ {A = ℕ} 0 1 = cc in absurd (omega (arith, z))
       go false NoGroup e = refl
@@ -117,7 +117,7 @@ module _ (text : List ℕ) (note : ℕ) (index : List ℕ) (at : ℕ) where
     where
       good : (c : ℕ) → Inside text at (At c) → (t : Bool) → groupAccepted text at c ≡ t
           → wantsAt text note at ≡ false → foundWith text note index at ≡ pick t (Found (groupOf text at c)) NoGroup
-          → stepOf (pick t (Found (groupOf text at c)) NoGroup) ≡ StepGroup close count → StepFound text note index at close count
+          → sweepStep (pick t (Found (groupOf text at c)) NoGroup) ≡ StepGroup close count → StepFound text note index at close count
       good c i true a w f e =
           let x : c ≡ close = cc in
           let y : length (itemsOf text at c) ≡ count = cc in
@@ -135,19 +135,19 @@ module _ (text : List ℕ) (note : ℕ) (index : List ℕ) (at : ℕ) where
 
       closed : (c : Close) → closeAsRun text at note index ≡ c → Inside text at c
           → wantsAt text note at ≡ false → foundWith text note index at ≡ judge text at c
-          → stepOf (judge text at c) ≡ StepGroup close count → StepFound text note index at close count
+          → sweepStep (judge text at c) ≡ StepGroup close count → StepFound text note index at close count
       closed (At c) q i w f e = good c i (groupAccepted text at c) refl w f e
       closed Nothing q i w f e = let z : _≡_ {A = ℕ} 0 1 = cc in absurd (omega (arith, z))
 
       opened : (o : Bool) → opensAt text at ≡ o → wantsAt text note at ≡ false
           → foundWith text note index at ≡ pick o (judge text at (closeAsRun text at note index)) NoGroup
-          → stepOf (pick o (judge text at (closeAsRun text at note index)) NoGroup) ≡ StepGroup close count
+          → sweepStep (pick o (judge text at (closeAsRun text at note index)) NoGroup) ≡ StepGroup close count
           → StepFound text note index at close count
       opened true q w f e = closed (closeAsRun text at note index) refl (run-inside text at note index) w f e
       opened false q w f e = let z : _≡_ {A = ℕ} 0 1 = cc in absurd (omega (arith, z))
 
       go : (w : Bool) → wantsAt text note at ≡ w
-          → pick w Build (stepOf (foundWith text note index at)) ≡ StepGroup close count → StepFound text note index at close count
+          → pick w Build (sweepStep (foundWith text note index at)) ≡ StepGroup close count → StepFound text note index at close count
       go true q e = let z : _≡_ {A = ℕ} 0 1 = cc in absurd (omega (arith, z))
       go false q e = opened (opensAt text at) refl q refl e
 
@@ -166,8 +166,8 @@ moved-recorded text s items groups at wants h =
       fitted = r .fitted;
       item-area = refl;
       group-area = refl;
-      item-rows = r .item-rows;
-      group-rows = r .group-rows;
+      item-records = r .item-rows;
+      group-records = r .group-rows;
     }
 
 moved-counted : (text : List ℕ) (s : SweepState) (items groups at : ℕ) (wants : Bool) → Counted text s items groups → s .at ≤ at → at ≤ length text
@@ -321,8 +321,8 @@ module _ {text : List ℕ} {note : ℕ} {index : List ℕ} {s r₀ : SweepState}
               fitted = x .fitted;
               item-area = x .item-area;
               group-area = x .group-area;
-              item-rows = x .item-rows;
-              group-rows = x .group-rows;
+              item-records = x .item-rows;
+              group-records = x .group-rows;
             };
         counted = b .counted;
       }

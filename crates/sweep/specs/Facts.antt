@@ -5,7 +5,7 @@ use mathlib.Core.Path.{_≡_}
 use lib.ListN.{length}
 use Rattle.item.specs.Group.{Group}
 use Rattle.sweep.specs.Sweep.{Lent, Swept, swept, lentAfter, sweepOf, sweepRun}
-use Rattle.standing.specs.Rows.{itemCount}
+use Rattle.standing.specs.GroupRecords.{itemCount}
 use Rattle.sweep.specs.Stops.{Stop, stopFrom}
 
 -- "the size call, which gives floor(bytes / 3); no annotation with an index as left needs more item records"

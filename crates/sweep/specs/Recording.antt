@@ -8,7 +8,7 @@ use lib.Dec.{leb}
 use Rattle.item.specs.Pieces.{itemsOf}
 use Rattle.item.specs.Group.{Group, groupOf}
 use Rattle.records.specs.Widths.{itemWidth}
-use Rattle.standing.specs.Rows.{groupRows, itemCount, itemRows}
+use Rattle.standing.specs.GroupRecords.{groupRecords, itemCount, itemRecords}
 use Rattle.standing.specs.Swept.{sweptFrom, insideAfter, endAfter}
 use Rattle.records.specs.Widths.{groupWidth}
 use Rattle.standing.specs.Stands.{GroupFrom}
@@ -38,9 +38,9 @@ pub record Recorded (text : List ℕ) (gs : List Group) (s : SweepState) (items 
   pub fitted : r .fits ≡ (s .fits && recordsFit (r .items) (r .groups) (length items) (length groups))
   pub item-area : length items' ≡ length items
   pub group-area : length groups' ≡ length groups
-  pub item-rows : r .fits ≡ true → items' ≡ writtenAt (itemWidth * s .items) (itemRows gs) items
-  pub group-rows : r .fits ≡ true
-      → groups' ≡ writtenAt (groupWidth * s .groups) (groupRows (s .items) (sweptFrom text (s .inside) (s .from) gs)) groups
+  pub item-records : r .fits ≡ true → items' ≡ writtenAt (itemWidth * s .items) (itemRecords gs) items
+  pub group-records : r .fits ≡ true
+      → groups' ≡ writtenAt (groupWidth * s .groups) (groupRecords (s .items) (sweptFrom text (s .inside) (s .from) gs)) groups
 
 -- the item records of the group from `at` to `close` can be written from item record `n` on
 pub record ItemsRoom (text : List ℕ) (at close n : ℕ) (items : List ℕ) : Type 0 where

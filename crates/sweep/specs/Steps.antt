@@ -15,13 +15,13 @@ use Rattle.sweep.specs.Stops.{stop, after, stopFrom}
 use Rattle.sweep.specs.Recording.{Counted, Recorded}
 
 -- a group by its close and the count of its items
-abbrev pub stepOf : GroupAnswer → Step
-stepOf (Found g) = StepGroup (g .close) (length (g .items))
-stepOf NoGroup = Next
+abbrev pub sweepStep : GroupAnswer → Step
+sweepStep (Found g) = StepGroup (g .close) (length (g .items))
+sweepStep NoGroup = Next
 
 -- what the place `at` gives
 unfoldable pub stepAt : List ℕ → ℕ → List ℕ → ℕ → Step
-stepAt text note index at = pick (wantsAt text note at) Build (stepOf (foundWith text note index at))
+stepAt text note index at = pick (wantsAt text note at) Build (sweepStep (foundWith text note index at))
 
 -- the same state at another place
 abbrev pub movedTo : SweepState → ℕ → Bool → SweepState

@@ -10,7 +10,7 @@ use Rattle.base.specs.Pick.{pick}
 use Rattle.item.specs.Group.{Group}
 use Rattle.sweep.specs.declared.group_records.SweepState.{SweepState}
 use Rattle.sweep.specs.Recording.{Counted, Recorded}
-use Rattle.sweep.specs.Sweep.{listed, nextAt, foundWith, wantsAt}
+use Rattle.sweep.specs.Sweep.{foundGroups, nextAt, foundWith, wantsAt}
 
 -- the groups found, where the sweep stands, and whether the bracket there wants a build
 pub record Stop : Type 0 where
@@ -32,7 +32,7 @@ stopIn zero text note index at = stop [] at false
 stopIn (suc n) text note index at =
     pick (ltb at (length text))
     (pick (wantsAt text note at) (stop [] at true)
-    (after (listed (foundWith text note index at)) (stopIn n text note index (nextAt at (foundWith text note index at)))))
+    (after (foundGroups (foundWith text note index at)) (stopIn n text note index (nextAt at (foundWith text note index at)))))
     (stop [] at false)
 
 -- as many turns as the text has bytes are enough

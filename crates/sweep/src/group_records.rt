@@ -1,6 +1,6 @@
 // The records of one group of the sweep: written where they fit,
 // and the state of the sweep after it.
-use records::item_records::write_rows;
+use records::item_records::write_records;
 use standing::is_in_line;
 use standing::standing_of;
 ghost use mathlib.Core.Path.{_≡_};
@@ -8,7 +8,7 @@ ghost use Prim.Native.Nat.{_+_, _*_, _≤_, _<_};
 ghost use lib.ListN.{length};
 ghost use mathlib.Core.List.{[], _∷_};
 ghost use Rattle.item.specs.Group.{groupOf};
-ghost use Rattle.records.specs.Rows.{rowsOf};
+ghost use Rattle.records.specs.ItemRecords.{recordsOf};
 ghost use Rattle.sweep.specs.Areas.{writtenAt};
 ghost use Rattle.sweep.specs.Recording.{recordsFit, ItemsRoom, Recordable, RecordedOne, afterGroup};
 ghost use Rattle.records.specs.Widths.{itemWidth, groupWidth};
@@ -36,10 +36,10 @@ fn has_room(n: usize, g: usize, items: usize, groups: usize) -> bool
 // Writes the item records of the group from `at` to `close`, from item record `n` on.
 fn write_items(text: &[u8], at: usize, close: usize, n: usize, items: &mut [u16])
     requires { ⌜ ItemsRoom (now text) at close n (now items) ⌝ }
-    ensures { λ _. ⌜ now (items .exit) ≡ writtenAt (itemWidth * n) (rowsOf (groupOf (now (text .entry)) at close)) (now (items .entry)) ⌝ }
+    ensures { λ _. ⌜ now (items .exit) ≡ writtenAt (itemWidth * n) (recordsOf (groupOf (now (text .entry)) at close)) (now (items .entry)) ⌝ }
 {
     let k = records::ITEM_WIDTH * n;
-    write_rows(text, at, close, &mut items[k..]);
+    write_records(text, at, close, &mut items[k..]);
 }
 
 // Writes group record `g`: the group's place and length, its first item, the count of its items, its standing.

@@ -9,9 +9,9 @@ use lib.Seq.{getD-append-add, getD-set-same, getD-set-other}
 use Rattle.base.specs.declared.Span.{Span}
 use Rattle.base.specs.Spans.{span}
 use Rattle.item.specs.declared.Item.{Item}
-use Rattle.records.specs.Rows.{recordOf}
+use Rattle.records.specs.ItemRecords.{itemRecord}
 use Rattle.records.specs.Widths.{itemWidth, item-number, item-label, item-label-length, item-use, group-standing}
-use Rattle.standing.specs.Rows.{Placed, placed, groupRow}
+use Rattle.standing.specs.GroupRecords.{Placed, placed, groupRecord}
 use Rattle.records.specs.Widths.{groupWidth}
 use Rattle.records.specs.Records.{groupField}
 use Rattle.records.specs.Fields.{itemField}
@@ -42,15 +42,15 @@ group-field before here g c h = rw (← h) (getD-append-add before here c 0)
 -- the last four numbers of an item record
 pub set-last : (before : List ℕ) (integral : Bool) (i : Item) (n₀ u₀ : ℕ) (l₀ : Span) (after : List ℕ) (k n u at len : ℕ)
     → length before ≡ itemWidth * k
-    → setLast (before ++ (recordOf integral i n₀ u₀ l₀ ++ after)) k n u at len ≡ before ++ (recordOf integral i n u (span at len) ++ after)
-unfolding setLast recordOf
+    → setLast (before ++ (itemRecord integral i n₀ u₀ l₀ ++ after)) k n u at len ≡ before ++ (itemRecord integral i n u (span at len) ++ after)
+unfolding setLast itemRecord
 set-last before integral i n₀ u₀ l₀ after k n u at len h =
     rw (← h) (rw (set-append-add, set-append-add, set-append-add, set-append-add))
 
 -- the standing of a group record
 pub set-standing : (before : List ℕ) (p : Placed) (after : List ℕ) (g k s : ℕ) → length before ≡ groupWidth * g
-    → set (before ++ (groupRow k p ++ after)) (groupWidth * g + group-standing) s ≡ before ++ (groupRow k (placed (p .group) s) ++ after)
-unfolding groupRow
+    → set (before ++ (groupRecord k p ++ after)) (groupWidth * g + group-standing) s ≡ before ++ (groupRecord k (placed (p .group) s) ++ after)
+unfolding groupRecord
 set-standing before p after g k s h = rw (← h) (set-append-add before _ 4 s)
 
 -- areas whose records agree, but for the last four numbers of items, and the standings of groups

@@ -110,8 +110,20 @@ pub fn set_last(items: &mut [u16], k: usize, number: u16, use_index: u16, at: u1
     requires { ⌜ k < 4294967296 ⌝ }
     ensures { λ _. ⌜ now (items .exit) ≡ setLast (now (items .entry)) k number use_index at len ⌝ }
 {
-    records::put(items, records::ITEM_WIDTH * k + records::ITEM_NUMBER, number);
-    records::put(items, records::ITEM_WIDTH * k + records::ITEM_USE, use_index);
+    records::put(
+        items,
+        records::ITEM_WIDTH * k + records::ITEM_NUMBER,
+        number,
+    );
+    records::put(
+        items,
+        records::ITEM_WIDTH * k + records::ITEM_USE,
+        use_index,
+    );
     records::put(items, records::ITEM_WIDTH * k + records::ITEM_LABEL, at);
-    records::put(items, records::ITEM_WIDTH * k + records::ITEM_LABEL_LENGTH, len);
+    records::put(
+        items,
+        records::ITEM_WIDTH * k + records::ITEM_LABEL_LENGTH,
+        len,
+    );
 }

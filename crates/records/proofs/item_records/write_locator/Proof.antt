@@ -1,7 +1,7 @@
 -- `records::item_records::write_locator` meets its contract. Assumes nothing.
 use native.Mathlib.Omega.{arith}
 use lib.ListN.{length-set}
-use Rattle.records.proofs.RowLaws.{locator-is, narrow-by}
+use Rattle.records.proofs.RecordLaws.{locator-is, narrow-by}
 use borrow.Author.Needs.{needs}
 use Rattle.records.proofs.item_records.write_locator.Statement.{statement}
 use Rattle.records.proofs.item_records.write_locator.Tie as tie

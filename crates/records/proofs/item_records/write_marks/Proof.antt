@@ -1,7 +1,7 @@
 -- `records::item_records::write_marks` meets its contract. Assumes nothing.
 use native.Mathlib.Omega.{arith}
 use lib.ListN.{length-set}
-use Rattle.records.proofs.RowLaws.{marks-put}
+use Rattle.records.proofs.RecordLaws.{marks-put}
 use borrow.Author.Needs.{needs}
 use Rattle.records.proofs.item_records.write_marks.Statement.{statement}
 use Rattle.records.proofs.item_records.write_marks.Tie as tie

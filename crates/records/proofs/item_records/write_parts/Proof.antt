@@ -1,6 +1,6 @@
 -- `records::item_records::write_parts` meets its contract. Assumes nothing.
 use native.Mathlib.Omega.{arith}
-use Rattle.records.proofs.RowLaws.{parts-are}
+use Rattle.records.proofs.RecordLaws.{parts-are}
 use borrow.Author.Needs.{needs}
 use Rattle.records.proofs.item_records.write_parts.Statement.{statement}
 use Rattle.records.proofs.item_records.write_parts.Tie as tie

@@ -1,6 +1,6 @@
 -- `records::item_records::write_piece` meets its contract. Assumes nothing.
 use borrow.Author.Needs.{needs}
-use Rattle.records.proofs.RowLaws.{piece-row-laws}
+use Rattle.records.proofs.RecordLaws.{piece-record-laws}
 use Rattle.records.proofs.item_records.write_piece.Statement.{statement}
 use Rattle.records.proofs.item_records.write_piece.Tie as tie
 
@@ -8,10 +8,10 @@ pub write-piece-spec : {M : Type 1} → statement M
 write-piece-spec =
     tie.close
     (tie.spec
-    (λ c κs. search (piece-row-laws, needs))
-    (λ c. search (piece-row-laws, needs))
-    (λ c κs. search (piece-row-laws, needs))
-    (λ c. search (piece-row-laws, needs))
-    (λ c. search (piece-row-laws, needs))
-    (λ c. search (piece-row-laws, needs))
-    (λ c. search (piece-row-laws, needs)))
+    (λ c κs. search (piece-record-laws, needs))
+    (λ c. search (piece-record-laws, needs))
+    (λ c κs. search (piece-record-laws, needs))
+    (λ c. search (piece-record-laws, needs))
+    (λ c. search (piece-record-laws, needs))
+    (λ c. search (piece-record-laws, needs))
+    (λ c. search (piece-record-laws, needs)))

@@ -1,8 +1,8 @@
--- `numbering::numbers::label_at` meets its contract. Assumes nothing.
+-- `numbering::numbers::write_label_of` meets its contract. Assumes nothing.
 use borrow.Author.Needs.{needs}
 use Rattle.numbering.proofs.LabelLaws.{copy-inside, copy-laws}
-use Rattle.numbering.proofs.numbers.label_at.Statement.{statement}
-use Rattle.numbering.proofs.numbers.label_at.Tie as tie
+use Rattle.numbering.proofs.numbers.write_label_of.Statement.{statement}
+use Rattle.numbering.proofs.numbers.write_label_of.Tie as tie
 
 copy-label-requires : tie.Need-copy-label-requires
 copy-label-requires c κs =
@@ -13,8 +13,8 @@ copy-label-requires c κs =
       search needs,
     )
 
-pub label-at-spec : {M : Type 1} → statement M
-label-at-spec =
+pub write-label-of-spec : {M : Type 1} → statement M
+write-label-of-spec =
     tie.close
     (tie.spec
     (λ c. search needs)

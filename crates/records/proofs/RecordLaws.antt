@@ -22,25 +22,25 @@ use Rattle.item.specs.Facts.{partsOf}
 use Rattle.item.proofs.Bounds.{item-within}
 use Rattle.item.proofs.Pieces.{items-more, items-last, first-good, rest-good}
 use Rattle.item.specs.Group.{goodItems, Group, groupOf}
-use Rattle.records.specs.Rows.{marksOf, recordOf, rowOf, rowsIn, rowsOf, rowsLength}
-use Rattle.records.specs.Writing.{pieceRow, putAt, Narrow, NarrowItem, Writable}
+use Rattle.records.specs.ItemRecords.{marksOf, itemRecord, unnumberedRecord, recordsIn, recordsOf, recordsLength}
+use Rattle.records.specs.Writing.{pieceRecord, putAt, Narrow, NarrowItem, Writable}
 use Rattle.records.proofs.Areas.{put-written}
 use Rattle.records.specs.Widths.{itemWidth}
 
 -- a record has 16 numbers ----------------------------------------------------------------------------------------------------------
 
-pub row-length : (b : Bool) (it : Item) → length (rowOf b it) ≡ 16
-unfolding rowOf recordOf
-row-length b it = refl
+pub record-length : (b : Bool) (it : Item) → length (unnumberedRecord b it) ≡ 16
+unfolding unnumberedRecord itemRecord
+record-length b it = refl
 
-rows-in-length : (b : Bool) (its : List Item) → length (rowsIn b its) ≡ itemWidth * length its
+records-in-length : (b : Bool) (its : List Item) → length (recordsIn b its) ≡ itemWidth * length its
 unfolding flatMap
-rows-in-length b [] = refl
-rows-in-length b (it ∷ its) = simp (length-append, row-length, rows-in-length b its) (omega arith)
+records-in-length b [] = refl
+records-in-length b (it ∷ its) = simp (length-append, record-length, records-in-length b its) (omega arith)
 
-pub rows-length : (g : Group) → length (rowsOf g) ≡ rowsLength g
-unfolding rowsOf rowsLength
-rows-length g = rows-in-length (g .integral) (g .items)
+pub records-length : (g : Group) → length (recordsOf g) ≡ recordsLength g
+unfolding recordsOf recordsLength
+records-length g = records-in-length (g .integral) (g .items)
 
 -- one record -----------------------------------------------------------------------------------------------------------------------
 
@@ -77,17 +77,17 @@ module _ (row : List ℕ) {r₁ r₂ : List ℕ} where
   unfolding putAt
   locator-is l e₂ e₁ c w v = rw (e₂, e₁, c, w, v) refl
 
-  pub row-is : (b : Bool) (it : Item) {r₃ : List ℕ} {marks : ℕ} → r₃ ≡ putAt 11 (marks ∷ 0 ∷ 0 ∷ 0 ∷ 0 ∷ []) r₂
+  pub record-is : (b : Bool) (it : Item) {r₃ : List ℕ} {marks : ℕ} → r₃ ≡ putAt 11 (marks ∷ 0 ∷ 0 ∷ 0 ∷ 0 ∷ []) r₂
       → r₂ ≡ putAt 6 (pairOf (valueOf (it .locator)) ++ pairOf (suffixOf (it .locator)) ++ (codeOf (it .locator) ∷ [])) r₁
       → r₁ ≡ putAt 0 (pairOf (it .prefix) ++ pairOf (it .key) ++ pairOf (it .whole)) row
-      → marks ≡ pick (it .suppressed) 1 0 + pick b 2 0 → 16 ≤ length row → r₃ ≡ written (rowOf b it) row
-  unfolding rowOf recordOf marksOf putAt
-  row-is b it e₃ e₂ e₁ m h = rw (e₃, e₂, e₁, m) (put-written (rowOf b it) row (rw row-length h))
+      → marks ≡ pick (it .suppressed) 1 0 + pick b 2 0 → 16 ≤ length row → r₃ ≡ written (unnumberedRecord b it) row
+  unfolding unnumberedRecord itemRecord marksOf putAt
+  record-is b it e₃ e₂ e₁ m h = rw (e₃, e₂, e₁, m) (put-written (unnumberedRecord b it) row (rw record-length h))
 
 pub narrow-by : {p : Span} (r : Span) → r ≡ p → Narrow p → Narrow r
 narrow-by r e n = rw e n
 
-pub ruleset row-laws = (pair-put, marks-both, marks-first, marks-second, marks-none)
+pub ruleset record-laws = (pair-put, marks-both, marks-first, marks-second, marks-none)
 
 -- an item's places fit a record ----------------------------------------------------------------------------------------------------
 
@@ -107,31 +107,31 @@ item-narrow s a e {it = it} q g h k =
     }
 
 module _ (s : List ℕ) (a e : ℕ) (b : Bool) (row : List ℕ) {r : Parsed} (q : r ≡ itemOf s a e) where
-  pub piece-good : {it : Item} {out : List ℕ} → r ≡ Good it → out ≡ written (rowOf b it) row → out ≡ written (pieceRow b (itemOf s a e)) row
-  unfolding pieceRow
+  pub piece-good : {it : Item} {out : List ℕ} → r ≡ Good it → out ≡ written (unnumberedRecord b it) row → out ≡ written (pieceRecord b (itemOf s a e)) row
+  unfolding pieceRecord
   piece-good g o = o ∙ rw (← q, g)
 
-  pub piece-bad : r ≡ Bad → row ≡ written (pieceRow b (itemOf s a e)) row
-  unfolding pieceRow written
+  pub piece-bad : r ≡ Bad → row ≡ written (pieceRecord b (itemOf s a e)) row
+  unfolding pieceRecord written
   piece-bad g = rw (← q, g)
 
-pub ruleset piece-row-laws = (item-narrow, piece-good, piece-bad)
+pub ruleset piece-record-laws = (item-narrow, piece-good, piece-bad)
 
 -- all records of a group -----------------------------------------------------------------------------------------------------------
 
 -- a piece and those after it
-kept-rows : (b : Bool) (r : Parsed) (rest : List Item) → rowsIn b (kept r rest) ≡ pieceRow b r ++ rowsIn b rest
-unfolding flatMap pieceRow
-kept-rows b (Good it) rest = refl
-kept-rows b Bad rest = refl
+kept-records : (b : Bool) (r : Parsed) (rest : List Item) → recordsIn b (kept r rest) ≡ pieceRecord b r ++ recordsIn b rest
+unfolding flatMap pieceRecord
+kept-records b (Good it) rest = refl
+kept-records b Bad rest = refl
 
 kept-length : (r : Parsed) (rest : List Item) → isGood r ≡ true → length (kept r rest) ≡ suc (length rest)
 kept-length (Good it) rest g = refl
 kept-length Bad rest g = absurd (true≢false (sym g))
 
-piece-length : (b : Bool) (r : Parsed) → isGood r ≡ true → length (pieceRow b r) ≡ 16
-unfolding pieceRow
-piece-length b (Good it) g = row-length b it
+piece-length : (b : Bool) (r : Parsed) → isGood r ≡ true → length (pieceRecord b r) ≡ 16
+unfolding pieceRecord
+piece-length b (Good it) g = record-length b it
 piece-length b Bad g = absurd (true≢false (sym g))
 
 -- The loop: the pieces from `from` on are left, and their records belong to `items` from `n` on.
@@ -139,11 +139,11 @@ pub record Writing (s : List ℕ) (p c : ℕ) (items₀ : List ℕ) (b : Bool) (
   pub long : length items ≡ length items₀
   pub good : allGood s (pieces s from c) ≡ true
   pub room : n + itemWidth * length (itemsIn s (pieces s from c)) ≤ length items
-  pub gives : written (rowsOf (groupOf s p c)) items₀ ≡ take n items ++ written (rowsIn b (itemsIn s (pieces s from c))) (drop n items)
+  pub gives : written (recordsOf (groupOf s p c)) items₀ ≡ take n items ++ written (recordsIn b (itemsIn s (pieces s from c))) (drop n items)
 
 pub writing-start : (s : List ℕ) (p c : ℕ) (items : List ℕ) {b : Bool} {from : ℕ} → Writable s p c items → b ≡ integralAt s p → from ≡ itemsStart s p
     → Writing s p c items b items from 0
-unfolding goodItems piecesOf rowsOf groupOf itemsOf rowsLength
+unfolding goodItems piecesOf recordsOf groupOf itemsOf recordsLength
 writing-start s p c items w e f = record {
   long = refl;
   good = rw f (w .good);
@@ -156,8 +156,8 @@ module _ {s : List ℕ} {p c : ℕ} {items₀ : List ℕ} {b : Bool} {items : Li
   piece-good-is : isGood (itemOf s from q) ≡ true
   piece-good-is = first-good s from c d (w .good)
 
-  piece-row-length : length (pieceRow b (itemOf s from q)) ≡ 16
-  piece-row-length = piece-length b (itemOf s from q) piece-good-is
+  piece-record-length : length (pieceRecord b (itemOf s from q)) ≡ 16
+  piece-record-length = piece-length b (itemOf s from q) piece-good-is
 
   more-room : q < c → n + itemWidth + itemWidth * length (itemsIn s (pieces s (q + 1) c)) ≤ length items
   more-room h =
@@ -178,34 +178,34 @@ module _ {s : List ℕ} {p c : ℕ} {items₀ : List ℕ} {b : Bool} {items : Li
   end-room h = rest-room items n 16 (last-room h)
 
   -- the rest of the area came back with the record of the piece
-  module _ {x : List ℕ} (o : x ≡ written (pieceRow b (itemOf s from q)) (take (length items - n) (drop n items))) where
+  module _ {x : List ℕ} (o : x ≡ written (pieceRecord b (itemOf s from q)) (take (length items - n) (drop n items))) where
     pub writing-next : q < c → Writing s p c items₀ b (take n items ++ (x ++ drop (length items - n) (drop n items))) (q + 1) (n + itemWidth)
     writing-next h =
-        let r = pieceRow b (itemOf s from q) in
+        let r = pieceRecord b (itemOf s from q) in
         let its = itemsIn s (pieces s (q + 1) c) in
-        let l = piece-row-length in
+        let l = piece-record-length in
         let k = more-room h in
         let m : n + length r ≤ length items = omega arith in
         let e = back-length n items r m o in
-        let g = rw (items-more s from c d h, kept-rows b (itemOf s from q) its) at (w .gives) in
+        let g = rw (items-more s from c d h, kept-records b (itemOf s from q) its) at (w .gives) in
         record {
           long = e ∙ w .long;
           good = rest-good s from c d (w .good) h;
           room = rw e k;
-          gives = rw l at (back-next n items r m o (rowsIn b its) g);
+          gives = rw l at (back-next n items r m o (recordsIn b its) g);
         }
 
-    pub writing-end : c ≤ q → take n items ++ (x ++ drop (length items - n) (drop n items)) ≡ written (rowsOf (groupOf s p c)) items₀
+    pub writing-end : c ≤ q → take n items ++ (x ++ drop (length items - n) (drop n items)) ≡ written (recordsOf (groupOf s p c)) items₀
     unfolding flatMap
     writing-end h =
-        let r = pieceRow b (itemOf s from q) in
-        let g = rw (items-last s from c d h, kept-rows b (itemOf s from q) [], append-nil r) at (w .gives) in
+        let r = pieceRecord b (itemOf s from q) in
+        let g = rw (items-last s from c d h, kept-records b (itemOf s from q) [], append-nil r) at (w .gives) in
         came-back n items r o ∙ sym g
 
     pub end-length : c ≤ q → length (take n items ++ (x ++ drop (length items - n) (drop n items))) ≡ length items₀
     end-length h =
-        let l = piece-row-length in
+        let l = piece-record-length in
         let k = last-room h in
-        back-length n items (pieceRow b (itemOf s from q)) (omega arith) o ∙ w .long
+        back-length n items (pieceRecord b (itemOf s from q)) (omega arith) o ∙ w .long
 
 pub ruleset writing-laws = (writing-start, next-room, end-room, writing-next, writing-end, end-length)

@@ -16,23 +16,23 @@ unfoldable pub marksOf : Bool → Item → ℕ
 marksOf integral it = pick (it .suppressed) 1 0 + pick integral 2 0
 
 -- the record of an item with its number, its use and its label
-unfoldable pub recordOf : Bool → Item → ℕ → ℕ → Span → List ℕ
-recordOf integral it number use-index label =
+unfoldable pub itemRecord : Bool → Item → ℕ → ℕ → Span → List ℕ
+itemRecord integral it number use-index label =
     pairOf (it .prefix) ++ pairOf (it .key) ++ pairOf (it .whole) ++ pairOf (valueOf (it .locator)) ++ pairOf (suffixOf (it .locator))
     ++ (codeOf (it .locator) ∷ marksOf integral it ∷ number ∷ use-index ∷ pairOf label)
 
 -- "The last four are 0 where not numbered or only looked up."
-unfoldable pub rowOf : Bool → Item → List ℕ
-rowOf integral it = recordOf integral it 0 0 missing
+unfoldable pub unnumberedRecord : Bool → Item → List ℕ
+unnumberedRecord integral it = itemRecord integral it 0 0 missing
 
 -- the records of some items
-abbrev pub rowsIn : Bool → List Item → List ℕ
-rowsIn integral = flatMap (rowOf integral)
+abbrev pub recordsIn : Bool → List Item → List ℕ
+recordsIn integral = flatMap (unnumberedRecord integral)
 
 -- the records of a group's items, one after the other
-unfoldable pub rowsOf : Group → List ℕ
-rowsOf g = rowsIn (g .integral) (g .items)
+unfoldable pub recordsOf : Group → List ℕ
+recordsOf g = recordsIn (g .integral) (g .items)
 
 -- how many numbers they are
-unfoldable pub rowsLength : Group → ℕ
-rowsLength g = itemWidth * length (g .items)
+unfoldable pub recordsLength : Group → ℕ
+recordsLength g = itemWidth * length (g .items)

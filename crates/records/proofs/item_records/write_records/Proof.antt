@@ -1,4 +1,4 @@
--- `records::item_records::write_rows` meets its contract. The loop's invariant, the record `Writing`: the records of the pieces from `from` on, put into `items`
+-- `records::item_records::write_records` meets its contract. The loop's invariant, the record `Writing`: the records of the pieces from `from` on, put into `items`
 -- from `n` on, give the area as it is to be; the next piece ends at `to`. Assumes nothing.
 use Prim.Native.Nat.{_-_, _≤_}
 use mathlib.Core.Path.{_≡_}
@@ -7,9 +7,9 @@ use borrow.Author.Needs.{needs}
 use Rattle.base.specs.First.{first}
 use Rattle.item.specs.Pieces.{semicolonAt}
 use Rattle.item.proofs.Pieces.{piece-laws, next-fits}
-use Rattle.records.proofs.RowLaws.{Writing, writing-laws}
-use Rattle.records.proofs.item_records.write_rows.Statement.{statement}
-use Rattle.records.proofs.item_records.write_rows.Tie as tie
+use Rattle.records.proofs.RecordLaws.{Writing, writing-laws}
+use Rattle.records.proofs.item_records.write_records.Statement.{statement}
+use Rattle.records.proofs.item_records.write_records.Tie as tie
 
 abbrev Inv-loop : tie.InvT-loop
 Inv-loop text p c items₀ integral from₀ to₀ n₀ items from to n =
@@ -18,8 +18,8 @@ Inv-loop text p c items₀ integral from₀ to₀ n₀ items from to n =
 abbrev μ-loop : tie.MeasureT-loop
 μ-loop text p c items₀ integral from₀ to₀ n₀ items from to n = c - from
 
-pub write-rows-spec : {M : Type 1} → statement M
-write-rows-spec =
+pub write-records-spec : {M : Type 1} → statement M
+write-records-spec =
     tie.close
     (tie.spec
     Inv-loop

@@ -4,7 +4,7 @@ use mathlib.Core.List.{List, [], _∷_, _++_, flatMap}
 use mathlib.Core.Bool.{Bool}
 use lib.ListN.{length}
 use Rattle.item.specs.Group.{Group}
-use Rattle.records.specs.Rows.{rowsOf}
+use Rattle.records.specs.ItemRecords.{recordsOf}
 use Rattle.definition_line.specs.Lines.{inLine, groupEnd}
 
 -- a group of the sweep, with its standing
@@ -17,14 +17,14 @@ abbrev pub placed : Group → ℕ → Placed
 placed group standing = record { group = group; standing = standing }
 
 -- "Group record, 5 u16: pair, first item (items, groups and entries count from 0), item count, standing"
-unfoldable pub groupRow : ℕ → Placed → List ℕ
-groupRow n p =
+unfoldable pub groupRecord : ℕ → Placed → List ℕ
+groupRecord n p =
     p .group .at ∷ (groupEnd (p .group) - p .group .at) ∷ n ∷ length (p .group .items) ∷ p .standing ∷ []
 
 -- the records of groups, the first of them having item number `n` as its first
-unfoldable pub groupRows : ℕ → List Placed → List ℕ
-groupRows n [] = []
-groupRows n (p ∷ ps) = groupRow n p ++ groupRows (n + length (p .group .items)) ps
+unfoldable pub groupRecords : ℕ → List Placed → List ℕ
+groupRecords n [] = []
+groupRecords n (p ∷ ps) = groupRecord n p ++ groupRecords (n + length (p .group .items)) ps
 
 -- how many items groups have
 unfoldable pub itemCount : List Group → ℕ
@@ -39,5 +39,5 @@ placedBy standing text before from (g ∷ gs) =
     placed g (standing (inLine text before from g) g) ∷ placedBy standing text (inLine text before from g) (groupEnd g) gs
 
 -- the records of the groups' items, none of them numbered
-abbrev pub itemRows : List Group → List ℕ
-itemRows = flatMap rowsOf
+abbrev pub itemRecords : List Group → List ℕ
+itemRecords = flatMap recordsOf
