@@ -1,7 +1,5 @@
 // What defines a key: the last definition line of it among the group records, else the first entry of the pool.
 // And the author and the year that it gives.
-pub mod define;
-
 use crate::Author;
 use crate::Year;
 ghost use mathlib.Core.Path.{_≡_};
@@ -37,7 +35,7 @@ pub fn find(
     ensures within { λ r. ⌜ DefinedIn (now (pool .entry)) n r ⌝ }
     ensures found { λ r. ⌜ r ≡ foundIn (now (text .entry)) (now (groups .entry)) (now (items .entry)) n (now (pool .entry)) (now (key .entry)) ⌝ }
 {
-    let group = define::line_in(text, groups, items, n, lines, key);
+    let group = crate::lines::line_in(text, groups, items, n, lines, key);
     if group < n {
         return Defined::Line { group };
     }

@@ -1,4 +1,4 @@
--- `definition::defined::define::colon` meets its contract. Assumes nothing.
+-- `definition::lines::colon` meets its contract. Assumes nothing.
 use borrow.Author.Needs.{needs}
 use Rattle.definition.proofs.LineLaws.{define-laws}
 use Rattle.definition.proofs.lines.colon.Statement.{statement}

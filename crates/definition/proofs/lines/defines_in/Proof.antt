@@ -1,4 +1,4 @@
--- `definition::defined::define::defines_in` meets its contract. Assumes nothing.
+-- `definition::lines::defines_in` meets its contract. Assumes nothing.
 use borrow.Author.Needs.{needs}
 use Rattle.definition.proofs.LineLaws.{define-laws}
 use Rattle.definition.proofs.lines.defines_in.Statement.{statement}

@@ -1,4 +1,4 @@
--- `definition::defined::define::line_in` meets its contract. The loop's invariant: the last line of the key below `i` is the last one of all. The
+-- `definition::lines::line_in` meets its contract. The loop's invariant: the last line of the key below `i` is the last one of all. The
 -- measure is `i`. Assumes nothing.
 use Prim.Native.Nat.{_≤_}
 use mathlib.Core.Path.{_≡_}

@@ -1,4 +1,4 @@
--- `definition::defined::define::lines_end` meets its contract. The loop's invariant: every group that starts a definition line lies below `end`. The
+-- `definition::lines::lines_end` meets its contract. The loop's invariant: every group that starts a definition line lies below `end`. The
 -- measure is `end`. Assumes nothing.
 use Rattle.definition.specs.Definitions.{LinesBelow}
 use borrow.Author.Needs.{needs}

@@ -1,4 +1,4 @@
--- `definition::defined::define::starts` meets its contract. Assumes nothing.
+-- `definition::lines::starts` meets its contract. Assumes nothing.
 use borrow.Author.Needs.{needs}
 use Rattle.definition.proofs.LineLaws.{define-laws}
 use Rattle.definition.proofs.lines.starts.Statement.{statement}
