@@ -17,8 +17,8 @@
  *     citations_source_text  writes the text of an entry of a pool
  *
  * AREAS. A call works in areas that the caller lends: a pointer and a length. A length counts ELEMENTS of the pointer's type, not bytes
- * and not records: room for two item records is a length of 32. The caller owns every area and may free it or use it again as soon as the
- * call has returned; the library keeps no pointer and no state.
+ * and not records: room for two item records is a length of 2 * CITATIONS_ITEM_RECORD. The caller owns every area and may free it or use
+ * it again as soon as the call has returned; the library keeps no pointer and no state.
  *   - `text` and `pool` are only read. They may be the same memory.
  *   - Any other two areas of one call must not overlap, nor overlap text or pool.
  *   - Every pointer is aligned for its type and not null, also where the length is 0: pass the address of any object then.
@@ -289,9 +289,9 @@ enum citations_annotate_answer {
  *   references             one element a source. Accepted: the sources' numbers in reference order.
  *   labels                 one element a label byte. Accepted: the labels one after the other, in item order, with nothing between.
  *
- * Areas that are always long enough, with n from citations_size: items 16 * n, groups 5 * n, references n, labels CITATIONS_LABELS_MAX; only
- * labels above that many bytes are still refused by 10, whatever is lent. If one of the four is too short the call answers 10 and fills all
- * four with zeros, over their whole length; any other refusal leaves them as they were.
+ * Areas that are always long enough, with n from citations_size: items CITATIONS_ITEM_RECORD * n, groups CITATIONS_GROUP_RECORD * n,
+ * references n, labels CITATIONS_LABELS_MAX; only labels above that many bytes are still refused by 10, whatever is lent. If one of the four
+ * is too short the call answers 10 and fills all four with zeros, over their whole length; any other refusal leaves them as they were.
  *
  * Refusals, in this order: 1, 2, 6, 7, 9, 10.
  */
