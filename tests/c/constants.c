@@ -455,7 +455,7 @@ static void pools(void)
     set();
     source_text(0, BYTES);
     expect(answer[CITATIONS_SOURCE_TEXT_NUMBER] == 0, "CITATIONS_SOURCE_TEXT_NUMBER, or a tag of the pool");
-    SAME(sizeof text_by_year - 1, answer[CITATIONS_SOURCE_TEXT_BYTES]);
+    expect(answer[CITATIONS_SOURCE_TEXT_BYTES] == sizeof text_by_year - 1, "CITATIONS_SOURCE_TEXT_BYTES, or a tag of the pool");
     expect(begins(area, text_by_year), "a tag of the pool: another source text");
 
     put_text("[@a]");
@@ -470,7 +470,7 @@ static void pools(void)
     word(CITATIONS_POOL_DATE, "n.d.");
     set();
     source_text(0, BYTES);
-    SAME(sizeof text_by_date - 1, answer[CITATIONS_SOURCE_TEXT_BYTES]);
+    expect(answer[CITATIONS_SOURCE_TEXT_BYTES] == sizeof text_by_date - 1, "CITATIONS_SOURCE_TEXT_BYTES, or CITATIONS_POOL_DATE");
     expect(begins(area, text_by_date), "CITATIONS_POOL_DATE: another source text");
 }
 

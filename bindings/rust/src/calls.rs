@@ -35,13 +35,13 @@ pub struct AnnotationCounts {
 /// Refusals, in this order: 1, 2, 3, 4, 9, 5, 10.
 ///
 /// ```
-/// use citations::{item_records, look_up, Bracket, NOT_BUILT};
+/// use citations::{item_record, look_up, Bracket, NOT_BUILT};
 ///
 /// let text = b"[x -@a, p. 3]";
 /// let (mut index, mut records, mut items) = ([0; 13], [Bracket::default(); 13], [0; 32]);
 /// let found = look_up(text, 0, NOT_BUILT, &mut index, &mut records, &mut items)?;
 /// assert_eq!((found.close, found.items), (12, 1));
-/// let item = item_records(&items[..16]).next().unwrap();
+/// let item = item_record(&items, 0).unwrap();
 /// assert_eq!(item.key().of(text), b"a");
 /// # Ok::<(), citations::Refused>(())
 /// ```

@@ -70,7 +70,8 @@ pub use calls::{annotate, locator, look_up, size, source_text, AnnotationCounts,
 pub use owned::{source_text_of, Annotated, Group, Index};
 pub use raw::Bracket;
 pub use records::{
-    group_records, item_records, GroupRecord, ItemRecord, Locator, LocatorLabel, Mode, Span, Standing, GROUP_RECORD, ITEM_RECORD,
+    group_record, group_records, item_record, item_records, GroupRecord, ItemRecord, Locator, LocatorLabel, Mode, Span, Standing,
+    GROUP_RECORD, ITEM_RECORD,
 };
 pub use refusal::{Refusal, Refused};
 

@@ -5,8 +5,8 @@ use alloc::vec::Vec;
 use core::ops::Range;
 
 use crate::{
-    annotate, group_records, item_records, look_up, size, source_text, Bracket, GroupRecord, ItemRecord, Mode, Refusal, BUILT,
-    GROUP_RECORD, ITEM_RECORD, LABELS_MAX, NOT_BUILT, POOL_MAX, SOURCE_TEXT_MORE,
+    annotate, group_record, group_records, item_record, item_records, look_up, size, source_text, Bracket, GroupRecord, ItemRecord, Mode,
+    Refusal, BUILT, GROUP_RECORD, ITEM_RECORD, LABELS_MAX, NOT_BUILT, POOL_MAX, SOURCE_TEXT_MORE,
 };
 
 /// A text with its index: the areas and the note that its look-ups and annotations keep from call to call.
@@ -140,7 +140,7 @@ impl Group {
 
     /// Its item number `i`, from 0.
     pub fn item(&self, i: usize) -> Option<ItemRecord<'_>> {
-        self.items().nth(i)
+        item_record(&self.items, i)
     }
 }
 
@@ -166,15 +166,15 @@ impl Annotated {
 
     /// The group number `i`, from 0.
     pub fn group(&self, i: usize) -> Option<GroupRecord<'_>> {
-        self.groups().nth(i)
+        group_record(&self.groups, i)
     }
 
     /// The item number `i`, from 0.
     pub fn item(&self, i: usize) -> Option<ItemRecord<'_>> {
-        self.items().nth(i)
+        item_record(&self.items, i)
     }
 
-    /// The first item of the source of this number, from 1: the one that gave it its number.
+    /// The first item of the source of this number, from 1: the one that gave it its number. It is searched for from the first item on.
     pub fn first_item_of(&self, source: u16) -> Option<ItemRecord<'_>> {
         self.items().find(|item| item.number() == Some(source))
     }

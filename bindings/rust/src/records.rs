@@ -337,6 +337,16 @@ pub fn item_records(area: &[u16]) -> impl ExactSizeIterator<Item = ItemRecord<'_
     area.chunks_exact(ITEM_RECORD).map(|numbers| ItemRecord(numbers.try_into().unwrap()))
 }
 
+/// A view of the item record number `i` of an area, from 0; none where the area has no more than `i`.
+pub fn item_record(area: &[u16], i: usize) -> Option<ItemRecord<'_>> {
+    area.chunks_exact(ITEM_RECORD).nth(i).map(|numbers| ItemRecord(numbers.try_into().unwrap()))
+}
+
+/// A view of the group record number `i` of an area, from 0; none where the area has no more than `i`.
+pub fn group_record(area: &[u16], i: usize) -> Option<GroupRecord<'_>> {
+    area.chunks_exact(GROUP_RECORD).nth(i).map(|numbers| GroupRecord(numbers.try_into().unwrap()))
+}
+
 /// Views of the group records of an area: those of the first `n` groups are `group_records(&groups[..GROUP_RECORD * n])`.
 pub fn group_records(area: &[u16]) -> impl ExactSizeIterator<Item = GroupRecord<'_>> {
     area.chunks_exact(GROUP_RECORD).map(|numbers| GroupRecord(numbers.try_into().unwrap()))
