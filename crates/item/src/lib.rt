@@ -1,6 +1,6 @@
 // One item of a group, and the judgement on all items between a bracket and its close.
 use base::Span;
-use base::bytes::byte_at;
+use base::slices::byte_at;
 use base::span_of;
 use key::parse_key;
 use locator::Locator;
@@ -60,7 +60,7 @@ pub fn piece_end(text: &[u8], from: usize, end: usize) -> usize
     requires { ⌜ end ≤ length (now text) ⌝ }
     ensures { λ r. ⌜ r ≡ first (semicolonAt (now (text .entry))) (end - from) from ⌝ }
 {
-    base::bytes::find_byte(text, b';', from, end)
+    base::slices::find_byte(text, b';', from, end)
 }
 
 // Whether a key from `k` up to `m` ends the trimmed item at `e` or meets `,`.

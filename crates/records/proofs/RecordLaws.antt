@@ -25,11 +25,11 @@ use Rattle.item.specs.Group.{goodItems, Group, groupOf}
 use Rattle.records.specs.ItemRecords.{marksOf, itemRecord, unnumberedRecord, recordsIn, recordsOf, recordsLength}
 use Rattle.records.specs.Writing.{pieceRecord, putAt, Narrow, NarrowItem, Writable}
 use Rattle.records.proofs.Areas.{put-written}
-use Rattle.records.specs.Widths.{itemWidth}
+use Rattle.records.specs.Widths.{itemWidth, item-prefix, item-key, item-locator, item-value, item-suffix, item-code, item-marks, item-number, item-use, item-label, item-label-length}
 
--- a record has 16 numbers ----------------------------------------------------------------------------------------------------------
+-- how many numbers a record has ----------------------------------------------------------------------------------------------------------
 
-pub record-length : (b : Bool) (it : Item) → length (unnumberedRecord b it) ≡ 16
+pub record-length : (b : Bool) (it : Item) → length (unnumberedRecord b it) ≡ itemWidth
 unfolding unnumberedRecord itemRecord
 record-length b it = refl
 
@@ -48,7 +48,7 @@ pub pair-put : (k : ℕ) (row : List ℕ) (p : Span) → set (set row k (p .at))
 unfolding putAt
 pair-put k row p = refl
 
-pub marks-put : (row : List ℕ) (marks : ℕ) → set (set (set (set (set row 11 marks) 12 0) 13 0) 14 0) 15 0 ≡ putAt 11 (marks ∷ 0 ∷ 0 ∷ 0 ∷ 0 ∷ []) row
+pub marks-put : (row : List ℕ) (marks : ℕ) → set (set (set (set (set row item-marks marks) item-number 0) item-use 0) item-label 0) item-label-length 0 ≡ putAt item-marks (marks ∷ 0 ∷ 0 ∷ 0 ∷ 0 ∷ []) row
 unfolding putAt
 marks-put row marks = refl
 
@@ -67,20 +67,20 @@ module _ {a b : Bool} where
 
 -- numbers put one after another: the pairs of an item, those of its locator with the code, and all of them with the marks
 module _ (row : List ℕ) {r₁ r₂ : List ℕ} where
-  pub parts-are : (a b c d e f : ℕ) {r₃ : List ℕ} → r₃ ≡ putAt 4 (e ∷ f ∷ []) r₂ → r₂ ≡ putAt 2 (c ∷ d ∷ []) r₁ → r₁ ≡ putAt 0 (a ∷ b ∷ []) row
-      → r₃ ≡ putAt 0 (a ∷ b ∷ c ∷ d ∷ e ∷ f ∷ []) row
+  pub parts-are : (a b c d e f : ℕ) {r₃ : List ℕ} → r₃ ≡ putAt item-locator (e ∷ f ∷ []) r₂ → r₂ ≡ putAt item-key (c ∷ d ∷ []) r₁ → r₁ ≡ putAt item-prefix (a ∷ b ∷ []) row
+      → r₃ ≡ putAt item-prefix (a ∷ b ∷ c ∷ d ∷ e ∷ f ∷ []) row
   unfolding putAt
   parts-are a b c d e f e₃ e₂ e₁ = rw (e₃, e₂, e₁) refl
 
-  pub locator-is : (l : Locator) {v w : Span} {code : ℕ} → r₂ ≡ putAt 8 (pairOf w) r₁ → r₁ ≡ putAt 6 (pairOf v) row → code ≡ codeOf l
-      → w ≡ suffixOf l → v ≡ valueOf l → set r₂ 10 code ≡ putAt 6 (pairOf (valueOf l) ++ pairOf (suffixOf l) ++ (codeOf l ∷ [])) row
+  pub locator-is : (l : Locator) {v w : Span} {code : ℕ} → r₂ ≡ putAt item-suffix (pairOf w) r₁ → r₁ ≡ putAt item-value (pairOf v) row → code ≡ codeOf l
+      → w ≡ suffixOf l → v ≡ valueOf l → set r₂ item-code code ≡ putAt item-value (pairOf (valueOf l) ++ pairOf (suffixOf l) ++ (codeOf l ∷ [])) row
   unfolding putAt
   locator-is l e₂ e₁ c w v = rw (e₂, e₁, c, w, v) refl
 
-  pub record-is : (b : Bool) (it : Item) {r₃ : List ℕ} {marks : ℕ} → r₃ ≡ putAt 11 (marks ∷ 0 ∷ 0 ∷ 0 ∷ 0 ∷ []) r₂
-      → r₂ ≡ putAt 6 (pairOf (valueOf (it .locator)) ++ pairOf (suffixOf (it .locator)) ++ (codeOf (it .locator) ∷ [])) r₁
-      → r₁ ≡ putAt 0 (pairOf (it .prefix) ++ pairOf (it .key) ++ pairOf (it .whole)) row
-      → marks ≡ pick (it .suppressed) 1 0 + pick b 2 0 → 16 ≤ length row → r₃ ≡ written (unnumberedRecord b it) row
+  pub record-is : (b : Bool) (it : Item) {r₃ : List ℕ} {marks : ℕ} → r₃ ≡ putAt item-marks (marks ∷ 0 ∷ 0 ∷ 0 ∷ 0 ∷ []) r₂
+      → r₂ ≡ putAt item-value (pairOf (valueOf (it .locator)) ++ pairOf (suffixOf (it .locator)) ++ (codeOf (it .locator) ∷ [])) r₁
+      → r₁ ≡ putAt item-prefix (pairOf (it .prefix) ++ pairOf (it .key) ++ pairOf (it .whole)) row
+      → marks ≡ pick (it .suppressed) 1 0 + pick b 2 0 → itemWidth ≤ length row → r₃ ≡ written (unnumberedRecord b it) row
   unfolding unnumberedRecord itemRecord marksOf putAt
   record-is b it e₃ e₂ e₁ m h = rw (e₃, e₂, e₁, m) (put-written (unnumberedRecord b it) row (rw record-length h))
 
@@ -129,7 +129,7 @@ kept-length : (r : Parsed) (rest : List Item) → isGood r ≡ true → length (
 kept-length (Good it) rest g = refl
 kept-length Bad rest g = absurd (true≢false (sym g))
 
-piece-length : (b : Bool) (r : Parsed) → isGood r ≡ true → length (pieceRecord b r) ≡ 16
+piece-length : (b : Bool) (r : Parsed) → isGood r ≡ true → length (pieceRecord b r) ≡ itemWidth
 unfolding pieceRecord
 piece-length b (Good it) g = record-length b it
 piece-length b Bad g = absurd (true≢false (sym g))
@@ -156,7 +156,7 @@ module _ {s : List ℕ} {p c : ℕ} {items₀ : List ℕ} {b : Bool} {items : Li
   piece-good-is : isGood (itemOf s from q) ≡ true
   piece-good-is = first-good s from c d (w .good)
 
-  piece-record-length : length (pieceRecord b (itemOf s from q)) ≡ 16
+  piece-record-length : length (pieceRecord b (itemOf s from q)) ≡ itemWidth
   piece-record-length = piece-length b (itemOf s from q) piece-good-is
 
   more-room : q < c → n + itemWidth + itemWidth * length (itemsIn s (pieces s (q + 1) c)) ≤ length items
@@ -171,11 +171,11 @@ module _ {s : List ℕ} {p c : ℕ} {items₀ : List ℕ} {b : Bool} {items : Li
       let k = kept-length (itemOf s from q) [] piece-good-is in
       omega (arith, w .room)
 
-  pub next-room : q < c → 16 ≤ length (take (length items - n) (drop n items))
-  next-room h = rest-room items n 16 (omega (arith, more-room h))
+  pub next-room : q < c → itemWidth ≤ length (take (length items - n) (drop n items))
+  next-room h = rest-room items n itemWidth (omega (arith, more-room h))
 
-  pub end-room : c ≤ q → 16 ≤ length (take (length items - n) (drop n items))
-  end-room h = rest-room items n 16 (last-room h)
+  pub end-room : c ≤ q → itemWidth ≤ length (take (length items - n) (drop n items))
+  end-room h = rest-room items n itemWidth (last-room h)
 
   -- the rest of the area came back with the record of the piece
   module _ {x : List ℕ} (o : x ≡ written (pieceRecord b (itemOf s from q)) (take (length items - n) (drop n items))) where

@@ -1,6 +1,6 @@
 // UTF-8: which texts are well-formed, and what refuses a text by itself: its length, or that it is not UTF-8.
 // A run of ASCII is gone over 64 bytes at a time.
-use base::bytes::byte_at;
+use base::slices::byte_at;
 ghost use mathlib.Core.Path.{_≡_};
 ghost use Prim.Native.Nat.{_+_, _≤_, _<_};
 ghost use lib.ListN.{length};

@@ -1,6 +1,6 @@
 // White space: the 25 White_Space characters of Unicode, as UTF-8.
 // A byte is white where it is the first, the second or the third byte of one.
-use base::bytes::byte_at;
+use base::slices::byte_at;
 ghost use mathlib.Core.Path.{_≡_};
 ghost use Prim.Native.Nat.{_-_, _<_};
 ghost use lib.ListN.{length};
