@@ -6,6 +6,7 @@ use key::parse_key;
 use locator::Locator;
 use locator::parse_locator;
 use text::is_escaped_at;
+use text::trim;
 use text::trim_end;
 use text::trim_start;
 ghost use mathlib.Core.Path.{_≡_};
@@ -44,7 +45,7 @@ pub fn is_integral(text: &[u8], p: usize) -> bool
     requires { ⌜ p < length (now text) ⌝ }
     ensures { λ r. ⌜ r ≡ integralAt (now (text .entry)) p ⌝ }
 {
-    byte_at(text, p + 1) == 43
+    byte_at(text, p + 1) == b'+'
 }
 
 // Where the items of the bracket at `p` begin: after it, and after the `+`.
@@ -72,7 +73,7 @@ fn key_serves(text: &[u8], e: usize, k: usize, m: usize) -> bool
         return false;
     }
     if m < e {
-        return text[m] == 44;
+        return text[m] == b',';
     }
     m == e
 }
@@ -82,7 +83,7 @@ fn wins_at(text: &[u8], e: usize, i: usize) -> bool
     requires { ⌜ (i < e) × (e ≤ length (now text)) ⌝ }
     ensures { λ r. ⌜ r ≡ wins (now (text .entry)) e i ⌝ }
 {
-    if text[i] == 64 {
+    if text[i] == b'@' {
         if is_escaped_at(text, i) {
             return false;
         }
@@ -112,11 +113,12 @@ fn is_good_item(text: &[u8], start: usize, end: usize) -> bool
     requires { ⌜ end ≤ length (now text) ⌝ }
     ensures { λ r. ⌜ r ≡ isGood (itemOf (now (text .entry)) start end) ⌝ }
 {
-    let a = trim_start(text, start, end);
+    let t = trim(text, start, end);
+    let a = t.start;
+    let e = t.end;
     if end <= a {
         return false;
     }
-    let e = trim_end(text, a, end);
     find_winner(text, a, e) < e
 }
 
@@ -128,7 +130,7 @@ fn is_suppressed(text: &[u8], a: usize, i: usize) -> bool
     if i <= a {
         return false;
     }
-    if text[i - 1] == 45 {
+    if text[i - 1] == b'-' {
         !is_escaped_at(text, i - 1)
     } else {
         false
@@ -173,11 +175,12 @@ pub fn parse_item(text: &[u8], start: usize, end: usize) -> Parsed
     requires { ⌜ end ≤ length (now text) ⌝ }
     ensures { λ r. ⌜ r ≡ itemOf (now (text .entry)) start end ⌝ }
 {
-    let a = trim_start(text, start, end);
+    let t = trim(text, start, end);
+    let a = t.start;
+    let e = t.end;
     if end <= a {
         return Parsed::Bad;
     }
-    let e = trim_end(text, a, end);
     let i = find_winner(text, a, e);
     if i < e {
         Parsed::Good(item_at(text, a, e, i))
