@@ -41,6 +41,7 @@ comma : itemOf (ascii "[@a,]") 1 4
 unfolding opened
 comma = refl
 
+-- `[ @a ]`: white space around the item belongs to no part of it
 alone : itemOf (ascii "[ @a ]") 1 5
     ≡ Good (record { prefix = missing; key = span 3 1; whole = missing; locator = Nothing; suppressed = false })
 unfolding opened
@@ -62,15 +63,17 @@ two-pieces : piecesOf (ascii "[+@a;]") 0 5 ≡ stretch 2 4 ∷ stretch 5 5 ∷ [
 unfolding opened
 two-pieces = refl
 
--- "one bad item means none": `[+@a;@b]`, `[@a;b;]`, `[+]`
+-- `[+@a;@b]` has two good items
 both-good : judgedOf (ascii "[+@a;@b]") 0 7 ≡ AllGood 2
 unfolding opened
 both-good = refl
 
+-- "one bad item means none": the second item of `[@a;b;]` is bad
 second-bad : judgedOf (ascii "[@a;b;]") 0 6 ≡ FirstBad 1
 unfolding opened
 second-bad = refl
 
+-- the one item of `[+]` is empty, and so bad
 only-plus : judgedOf (ascii "[+]") 0 2 ≡ FirstBad 0
 unfolding opened
 only-plus = refl

@@ -48,7 +48,7 @@ pub fn is_integral(text: &[u8], p: usize) -> bool
     byte_at(text, p + 1) == b'+'
 }
 
-// Where the items of the bracket at `p` begin: after it, and after the `+`.
+// Where the items of the bracket at `p` begin: after the bracket, and after a `+` that follows it.
 pub fn items_start(text: &[u8], p: usize) -> usize
     requires { ⌜ p < length (now text) ⌝ }
     ensures { λ r. ⌜ r ≡ itemsStart (now (text .entry)) p ⌝ }
@@ -78,7 +78,7 @@ fn key_serves(text: &[u8], e: usize, k: usize, m: usize) -> bool
     m == e
 }
 
-// Whether an unescaped `@` with a key that serves stands at `i`.
+// Whether an unescaped `@` stands at `i`, with a key that ends the trimmed item at `e` or meets `,`.
 fn wins_at(text: &[u8], e: usize, i: usize) -> bool
     requires { ⌜ (i < e) × (e ≤ length (now text)) ⌝ }
     ensures { λ r. ⌜ r ≡ wins (now (text .entry)) e i ⌝ }
@@ -93,7 +93,7 @@ fn wins_at(text: &[u8], e: usize, i: usize) -> bool
     }
 }
 
-// The place of the `@` of the trimmed item from `a` to `e`: the first that wins, or the later of `a` and `e`.
+// The place of the first `@` with a key in the trimmed item from `a` to `e` (`wins_at`), or the later of `a` and `e`.
 fn find_winner(text: &[u8], a: usize, e: usize) -> usize
     requires { ⌜ e ≤ length (now text) ⌝ }
     ensures { λ r. ⌜ r ≡ winner (now (text .entry)) a e ⌝ }
