@@ -163,11 +163,8 @@ module _ {M : Type 1} (𝓤 : URA M) (H : Heap 𝓤) (A : Atoms 𝓤) (W : Given
   abbrev asked : Bool
   asked = escapedAt (now (d .text)) (d .at)
 
-  abbrev AskPost : Val → SProp 𝓤
-  AskPost = walkOf 𝓤 H A ask.ended ask-stayed (ask.clauses 𝓤 H A mem run) .post (((κ, tt), (q, tt), tt, (d, tt), (mach d ∷ [], tt)), tt)
-
   module _ (C : Calls 𝓤 H) (Λ : Loops 𝓤 H) (fm : FmC 𝓤 H (W .laws) C) (known : Triple 𝓤 (C odd-def.name) (tripleOf 𝓤 H A odd.signature (odd.spec 𝓤 H A mem run))) where
-    ask-walk : Typed (named 0) d → d .at ≤ length (now (d .text)) → ent 𝓤 (onEntry 𝓤 H A ask.signature (κ, tt) (q, tt) (d, tt) (mach d ∷ [], tt)) (WpFn 𝓤 H C Λ asks (mach d ∷ []) AskPost)
+    ask-walk : Typed (named 0) d → d .at ≤ length (now (d .text)) → ent 𝓤 (onEntry 𝓤 H A ask.signature (κ, tt) (q, tt) (d, tt) (mach d ∷ [], tt)) (WpFn 𝓤 H C Λ asks (mach d ∷ []) (walkOf 𝓤 H A ask.ended ask-stayed (ask.clauses 𝓤 H A mem run) .post (((κ, tt), (q, tt), tt, (d, tt), (mach d ∷ [], tt)), tt)))
     ask-walk wt within =
         qed W ((‵ (flft κ q) ⊛ ‵ ftrue) ∷ ‵ (owns (B (κ, tt) ∷ []) (d, tt) (mach d ∷ [], tt)) ∷ []) ∵ enter ! C Λ asks (mach d ∷ []) _ $
         alloc1 ! (λ l₀. alloc1 ! (λ l₁. alloc1 ! (λ l₂. alloc1 ! (λ l₃. alloc0 ! $ params1 ! $ pass1 ! (init ! 4 refl wt) $ pass0 ! $
@@ -224,11 +221,8 @@ module _ (R : List ℕ → ℕ → ℕ → Type 0) (F : List ℕ → ℕ → ℕ
     abbrev skip-vals : Vals skip.signature (κ, tt)
     skip-vals = (mach d ∷ [], (vint w64 n ∷ [], tt))
 
-    abbrev SkipPost : Val → SProp 𝓤
-    SkipPost = walkOf 𝓤 H A skip.ended skip-stayed (moves 𝓤) .post (((κ, tt), (q, tt), tt, (d, (n, tt)), skip-vals), tt)
-
     module _ (g : Name) (C : Calls 𝓤 H) (Λ : Loops 𝓤 H) (fm : FmC 𝓤 H (W .laws) C) (known : Triple 𝓤 (C g) (tripleOf 𝓤 H A first.signature (closing 𝓤 H A first.ended (finds 𝓤)))) where
-      skip-walk : Typed (named 0) d → n < 2 ^ 64 → R (now (d .text)) (d .at) n → ent 𝓤 (onEntry 𝓤 H A skip.signature (κ, tt) (q, tt) (d, (n, tt)) skip-vals) (WpFn 𝓤 H C Λ (skips g) (mach d ∷ vint w64 n ∷ []) SkipPost)
+      skip-walk : Typed (named 0) d → n < 2 ^ 64 → R (now (d .text)) (d .at) n → ent 𝓤 (onEntry 𝓤 H A skip.signature (κ, tt) (q, tt) (d, (n, tt)) skip-vals) (WpFn 𝓤 H C Λ (skips g) (mach d ∷ vint w64 n ∷ []) (walkOf 𝓤 H A skip.ended skip-stayed (moves 𝓤) .post (((κ, tt), (q, tt), tt, (d, (n, tt)), skip-vals), tt)))
       skip-walk wt ok within =
           qed W ((‵ (flft κ q) ⊛ ‵ ftrue) ∷ ‵ (owns (B (κ, tt) ∷ usize ∷ []) (d, (n, tt)) skip-vals) ∷ []) ∵ enter ! C Λ (skips g) (mach d ∷ vint w64 n ∷ []) _ $
           alloc1 ! (λ l₀. alloc1 ! (λ l₁. alloc1 ! (λ l₂. alloc1 ! (λ l₃. alloc1 ! (λ l₄. alloc1 ! (λ l₅. alloc1 ! (λ l₆. alloc0 ! $ params1 ! $ pass1 ! (init ! 10 refl wt) $ pass1 ! (init ! 8 refl (tt, record { fits = ok })) $ pass0 ! $
@@ -281,11 +275,8 @@ module _ {M : Type 1} (𝓤 : URA M) (H : Heap 𝓤) (A : Atoms 𝓤) (W : Given
   abbrev pass-vals : Vals pass.signature (κ, tt)
   pass-vals = (slice x ∷ [], (vint w64 n ∷ [], tt))
 
-  abbrev PassPost : Val → SProp 𝓤
-  PassPost = walkOf 𝓤 H A pass.ended pass-stayed (pass.clauses 𝓤 H A mem run) .post (((κ, tt), (q, tt), tt, (x, (n, tt)), pass-vals), tt)
-
   module _ (C : Calls 𝓤 H) (Λ : Loops 𝓤 H) (fm : FmC 𝓤 H (W .laws) C) (known : Triple 𝓤 (C ask-def.name) (tripleOf 𝓤 H A ask.signature (ask.spec 𝓤 H A mem run))) where
-    pass-walk : Is (ShrSlice (named 0) κ u8) x (slice x ∷ []) → n < 2 ^ 64 → n ≤ length (now x) → ent 𝓤 (onEntry 𝓤 H A pass.signature (κ, tt) (q, tt) (x, (n, tt)) pass-vals) (WpFn 𝓤 H C Λ passes (slice x ∷ vint w64 n ∷ []) PassPost)
+    pass-walk : Is (ShrSlice (named 0) κ u8) x (slice x ∷ []) → n < 2 ^ 64 → n ≤ length (now x) → ent 𝓤 (onEntry 𝓤 H A pass.signature (κ, tt) (q, tt) (x, (n, tt)) pass-vals) (WpFn 𝓤 H C Λ passes (slice x ∷ vint w64 n ∷ []) (walkOf 𝓤 H A pass.ended pass-stayed (pass.clauses 𝓤 H A mem run) .post (((κ, tt), (q, tt), tt, (x, (n, tt)), pass-vals), tt)))
     pass-walk p fits within =
         let wt = shr-slice-lawful 𝓤 H A W (named 0) κ u8 .typed x (slice x ∷ []) p .0 in
         qed W ((‵ (flft κ q) ⊛ ‵ ftrue) ∷ ‵ (owns (ShrSlice (named 0) κ u8 ∷ usize ∷ []) (x, (n, tt)) pass-vals) ∷ []) ∵ enter ! C Λ passes (slice x ∷ vint w64 n ∷ []) _ $
@@ -343,13 +334,10 @@ module _ {M : Type 1} (𝓤 : URA M) (H : Heap 𝓤) (A : Atoms 𝓤) (W : Given
   abbrev trim-vals : Vals trim.signature (κ, tt)
   trim-vals = (slice x ∷ [], (vint w64 a ∷ [], (vint w64 b ∷ [], (vint w64 e ∷ [], tt))))
 
-  abbrev TrimPost : Val → SProp 𝓤
-  TrimPost = walkOf 𝓤 H A trim.ended trim-stayed (trim.clauses 𝓤 H A mem run) .post (((κ, tt), (q, tt), tt, (x, (a, (b, (e, tt)))), trim-vals), tt)
-
   module _ (C : Calls 𝓤 H) (Λ : Loops 𝓤 H) (fm : FmC 𝓤 H (W .laws) C)
       (skipped : Triple 𝓤 (C skip-def.name) (tripleOf 𝓤 H A skip.signature (skip.spec 𝓤 H A mem run))) (backed : Triple 𝓤 (C back-def.name) (tripleOf 𝓤 H A back.signature (back.spec 𝓤 H A mem run))) where
     trim-walk : Is (ShrSlice (named 0) κ u8) x (slice x ∷ []) → a < 2 ^ 64 → b < 2 ^ 64 → e < 2 ^ 64 → (b ≤ length (now x)) × (e ≤ length (now x))
-        → ent 𝓤 (onEntry 𝓤 H A trim.signature (κ, tt) (q, tt) (x, (a, (b, (e, tt)))) trim-vals) (WpFn 𝓤 H C Λ trims (slice x ∷ vint w64 a ∷ vint w64 b ∷ vint w64 e ∷ []) TrimPost)
+        → ent 𝓤 (onEntry 𝓤 H A trim.signature (κ, tt) (q, tt) (x, (a, (b, (e, tt)))) trim-vals) (WpFn 𝓤 H C Λ trims (slice x ∷ vint w64 a ∷ vint w64 b ∷ vint w64 e ∷ []) (walkOf 𝓤 H A trim.ended trim-stayed (trim.clauses 𝓤 H A mem run) .post (((κ, tt), (q, tt), tt, (x, (a, (b, (e, tt)))), trim-vals), tt)))
     trim-walk p fa fb fe within =
         let wt = shr-slice-lawful 𝓤 H A W (named 0) κ u8 .typed x (slice x ∷ []) p .0 in
         qed W ((‵ (flft κ q) ⊛ ‵ ftrue) ∷ ‵ (owns (ShrSlice (named 0) κ u8 ∷ usize ∷ usize ∷ usize ∷ []) (x, (a, (b, (e, tt)))) trim-vals) ∷ []) ∵ enter ! C Λ trims (slice x ∷ vint w64 a ∷ vint w64 b ∷ vint w64 e ∷ []) _ $
