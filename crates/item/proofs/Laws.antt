@@ -28,8 +28,8 @@ use Rattle.item.specs.Items.{atSign, keyServes, wins, winner, suppresses
 use Rattle.item.specs.Pieces.{semicolonAt, integralAt, itemsStart}
 
 abbrev item : Span → Span → Span → Locator → Bool → Item
-item prefix key whole locator suppressed =
-    record { prefix = prefix; key = key; whole = whole; locator = locator; suppressed = suppressed }
+item prefix key locator parts suppressed =
+    record { prefix = prefix; key = key; locator = locator; parts = parts; suppressed = suppressed }
 
 -- the leading `+` ------------------------------------------------------------------------------------------------------------------
 

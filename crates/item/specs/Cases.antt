@@ -31,25 +31,25 @@ opened = 0
 
 -- "`[x -@a, p. 3]` prefix `x`, suppressed, page, `3`"
 page-three : itemOf (ascii "[x -@a, p. 3]") 1 12
-    ≡ Good (record { prefix = span 1 1; key = span 5 1; whole = span 8 4; locator = Labelled 9 (span 11 1) missing; suppressed = true })
+    ≡ Good (record { prefix = span 1 1; key = span 5 1; locator = span 8 4; parts = Labelled 9 (span 11 1) missing; suppressed = true })
 unfolding opened
 page-three = refl
 
 -- "`[@a,]` has no locator."
 comma : itemOf (ascii "[@a,]") 1 4
-    ≡ Good (record { prefix = missing; key = span 2 1; whole = missing; locator = Nothing; suppressed = false })
+    ≡ Good (record { prefix = missing; key = span 2 1; locator = missing; parts = Nothing; suppressed = false })
 unfolding opened
 comma = refl
 
 -- `[ @a ]`: white space around the item belongs to no part of it
 alone : itemOf (ascii "[ @a ]") 1 5
-    ≡ Good (record { prefix = missing; key = span 3 1; whole = missing; locator = Nothing; suppressed = false })
+    ≡ Good (record { prefix = missing; key = span 3 1; locator = missing; parts = Nothing; suppressed = false })
 unfolding opened
 alone = refl
 
 -- "The first .. wins": `[@a, @b]` has the key `a`
 first-wins : itemOf (ascii "[@a, @b]") 1 7
-    ≡ Good (record { prefix = missing; key = span 2 1; whole = span 5 2; locator = Plain (span 5 2); suppressed = false })
+    ≡ Good (record { prefix = missing; key = span 2 1; locator = span 5 2; parts = Plain (span 5 2); suppressed = false })
 unfolding opened
 first-wins = refl
 

@@ -19,12 +19,12 @@ ghost use Rattle.item.specs.Items.{keyServes, wins, winner, suppresses, 
 ghost use Rattle.item.specs.Pieces.{semicolonAt, integralAt, itemsStart};
 ghost use Rattle.item.specs.Judge.{judgedOf};
 
-// The parts of an item; `whole` is the whole locator.
+// An item. `parts` is what the locator is read as: nothing, plain or labelled.
 pub struct Item {
     pub prefix: Span,
     pub key: Span,
-    pub whole: Span,
-    pub locator: Locator,
+    pub locator: Span,
+    pub parts: Locator,
     pub suppressed: bool,
 }
 
@@ -158,14 +158,14 @@ fn item_at(text: &[u8], a: usize, e: usize, i: usize) -> Item
     let start = trim_start(text, m + 1, e);
     let prefix = span_of(a, prefix_end(text, a, i));
     let key = span_of(i + 1, m);
-    let whole = span_of(start, e);
-    let locator = parse_locator(text, start, e);
+    let locator = span_of(start, e);
+    let parts = parse_locator(text, start, e);
     let suppressed = is_suppressed(text, a, i);
     Item {
         prefix,
         key,
-        whole,
         locator,
+        parts,
         suppressed,
     }
 }

@@ -67,9 +67,9 @@ pub fn bare_in(items: &[u16], k: usize) -> bool
     ensures { λ r. ⌜ r ≡ bareIn (now (items .entry)) k ⌝ }
 {
     let prefix = item_field(items, k, 1);
-    let whole = item_field(items, k, 5);
+    let locator = item_field(items, k, 5);
     let marks = item_field(items, k, 11);
-    (prefix == 0) & (whole == 0) & (marks % 2 == 0)
+    (prefix == 0) & (locator == 0) & (marks % 2 == 0)
 }
 
 // The place of the close of group record `g`.

@@ -26,8 +26,8 @@ marksOf integral it = pick (it .suppressed) 1 0 + pick integral 2 0
 -- the record of an item with its number, its use and its label
 unfoldable pub recordOf : Bool → Item → ℕ → ℕ → Span → List ℕ
 recordOf integral it number use-index label =
-    pairOf (it .prefix) ++ pairOf (it .key) ++ pairOf (it .whole) ++ pairOf (valueOf (it .locator)) ++ pairOf (suffixOf (it .locator))
-    ++ (codeOf (it .locator) ∷ marksOf integral it ∷ number ∷ use-index ∷ pairOf label)
+    pairOf (it .prefix) ++ pairOf (it .key) ++ pairOf (it .locator) ++ pairOf (valueOf (it .parts)) ++ pairOf (suffixOf (it .parts))
+    ++ (codeOf (it .parts) ∷ marksOf integral it ∷ number ∷ use-index ∷ pairOf label)
 
 -- "The last four are 0 where not numbered or only looked up."
 unfoldable pub rowOf : Bool → Item → List ℕ
@@ -72,8 +72,8 @@ pub record NarrowLocator (l : Locator) : Type 0 where
 pub record NarrowItem (it : Item) : Type 0 where
   pub prefix : Narrow (it .prefix)
   pub key : Narrow (it .key)
-  pub whole : Narrow (it .whole)
-  pub locator : NarrowLocator (it .locator)
+  pub locator : Narrow (it .locator)
+  pub parts : NarrowLocator (it .parts)
 
 -- the records of the group at `p` with its close at `c` can be written: all its items are good, and there is room for them
 pub record Writable (s : List ℕ) (p c : ℕ) (items : List ℕ) : Type 0 where

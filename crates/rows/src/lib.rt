@@ -45,18 +45,18 @@ fn marks(suppressed: bool, integral: bool) -> u16
     if integral { 2 } else { 0 }
 }
 
-// The pairs of the prefix, the key and the whole locator.
+// The pairs of the prefix, the key and the locator.
 fn write_parts(row: &mut [u16], item: Item)
     requires { ⌜ (itemWidth ≤ length (now row)) × NarrowItem item ⌝ }
-    ensures { λ _. ⌜ Put 0 (pairOf (item .prefix) ++ pairOf (item .key) ++ pairOf (item .whole))
+    ensures { λ _. ⌜ Put 0 (pairOf (item .prefix) ++ pairOf (item .key) ++ pairOf (item .locator))
         (now (row .entry)) (now (row .exit)) ⌝ }
 {
     let prefix = item.prefix;
     let key = item.key;
-    let whole = item.whole;
+    let locator = item.locator;
     write_pair(row, 0, prefix);
     write_pair(row, 2, key);
-    write_pair(row, 4, whole);
+    write_pair(row, 4, locator);
 }
 
 // What the locator says: the pairs of value and suffix, and the label code.
@@ -90,7 +90,7 @@ fn write_row(item: Item, integral: bool, row: &mut [u16])
     requires { ⌜ (itemWidth ≤ length (now row)) × NarrowItem item ⌝ }
     ensures { λ _. ⌜ now (row .exit) ≡ written (rowOf integral item) (now (row .entry)) ⌝ }
 {
-    let l = item.locator;
+    let l = item.parts;
     write_parts(row, item);
     write_locator(row, l);
     write_marks(row, marks(item.suppressed, integral));
