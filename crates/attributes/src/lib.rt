@@ -21,7 +21,7 @@ fn word_end(attributes: &[u8], from: usize) -> usize
 {
     let mut i = from;
     while i < attributes.len() {
-        if white::is_ink(attributes[i]) {
+        if white::is_ascii_graphic(attributes[i]) {
             i += 1;
         } else if text::is_white_at(attributes, i) {
             return i;

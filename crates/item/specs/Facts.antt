@@ -14,7 +14,7 @@ use Rattle.item.specs.Pieces.{itemsOf}
 
 -- "pairs for prefix, key (without `@`), locator, value, suffix"
 unfoldable pub partsOf : Item → List Span
-partsOf it = it .prefix ∷ it .key ∷ it .whole ∷ valueOf (it .locator) ∷ suffixOf (it .locator) ∷ []
+partsOf it = it .prefix ∷ it .key ∷ it .locator ∷ valueOf (it .parts) ∷ suffixOf (it .parts) ∷ []
 
 -- "the offsets of those present never falling": those parts of a good item that are there lie in its stretch, from `a` to `e`, in this
 -- order

@@ -16,11 +16,11 @@ pub record PlacesOf (integral : Bool) (it : Item) (number use-index : ℕ) (labe
   pub prefix-length : getD (itemRecord integral it number use-index label) item-prefix-length 0 ≡ it .prefix .len
   pub key : getD (itemRecord integral it number use-index label) item-key 0 ≡ it .key .at
   pub key-length : getD (itemRecord integral it number use-index label) item-key-length 0 ≡ it .key .len
-  pub locator : getD (itemRecord integral it number use-index label) item-locator 0 ≡ it .whole .at
-  pub locator-length : getD (itemRecord integral it number use-index label) item-locator-length 0 ≡ it .whole .len
-  pub value : getD (itemRecord integral it number use-index label) item-value 0 ≡ valueOf (it .locator) .at
-  pub suffix : getD (itemRecord integral it number use-index label) item-suffix 0 ≡ suffixOf (it .locator) .at
-  pub code : getD (itemRecord integral it number use-index label) item-code 0 ≡ codeOf (it .locator)
+  pub locator : getD (itemRecord integral it number use-index label) item-locator 0 ≡ it .locator .at
+  pub locator-length : getD (itemRecord integral it number use-index label) item-locator-length 0 ≡ it .locator .len
+  pub value : getD (itemRecord integral it number use-index label) item-value 0 ≡ valueOf (it .parts) .at
+  pub suffix : getD (itemRecord integral it number use-index label) item-suffix 0 ≡ suffixOf (it .parts) .at
+  pub code : getD (itemRecord integral it number use-index label) item-code 0 ≡ codeOf (it .parts)
   pub marks : getD (itemRecord integral it number use-index label) item-marks 0 ≡ marksOf integral it
   pub the-number : getD (itemRecord integral it number use-index label) item-number 0 ≡ number
   pub the-use : getD (itemRecord integral it number use-index label) item-use 0 ≡ use-index

@@ -117,9 +117,9 @@ pub fn bare_in(items: &[u16], k: usize) -> bool
     ensures { λ r. ⌜ r ≡ bareIn (now (items .entry)) k ⌝ }
 {
     let prefix = item_field(items, k, ITEM_PREFIX_LENGTH);
-    let whole = item_field(items, k, ITEM_LOCATOR_LENGTH);
+    let locator = item_field(items, k, ITEM_LOCATOR_LENGTH);
     let marks = item_field(items, k, ITEM_MARKS);
-    (prefix == 0) & (whole == 0) & (marks % 2 == 0)
+    (prefix == 0) & (locator == 0) & (marks % 2 == 0)
 }
 
 // The place of the close of group record `g`.
