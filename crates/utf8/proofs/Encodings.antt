@@ -5,13 +5,14 @@ use mathlib.Core.Path.{_≡_, refl, sym, _∙_, ap}
 use mathlib.Core.List.{List, [], _∷_, _++_}
 use mathlib.Core.Logic.{_⊎_, inl, inr}
 use mathlib.Core.Bool.{Bool, true, false, _&&_, _||_, not, true≢false, and-false}
-use lib.ListN.{length, drop, List·getD-eq-default, drop-of-length-le, length-drop, length-append}
+use lib.ListN.{length, drop, drop-of-length-le, length-drop, length-append}
 use lib.Seq.{drop-cons, drop-drop, drop-append-seam, getD-drop}
 use lib.Dec.{eqb, leb, ltb}
 use borrow.Author.Tests.{eq-eqb, ne-eqb, le-leb, lt-leb, leb-true, leb-false, ltb-true, ltb-false, eqb-true, eqb-false, not-true}
 use Rattle.base.specs.Pick.{pick}
 use Rattle.base.specs.Lists.{byteAt, within}
 use Rattle.base.proofs.Bools.{and-left, and-right, and-three, or-three, or-four}
+use Rattle.base.proofs.Parts.{byte-there}
 use Rattle.base.proofs.Ranges.{within-is, within-so}
 use Rattle.utf8.specs.Utf8.{isTail, twoBytes, threeBytes, fourBytes, charWidth, utf8In, utf8}
 use Rattle.utf8.specs.Encoding.{isScalar, encodingOf, encoded, codeBy, codeAt, decodedIn, decoded}
@@ -204,14 +205,6 @@ byte-of s i k r h = sym (getD-drop i s k 0) ∙ ap (λ (l : List ℕ). byteAt l 
 
 byte-first : (s : List ℕ) (i : ℕ) (r : List ℕ) → drop i s ≡ r → byteAt s i ≡ byteAt r 0
 byte-first s i r h = let e : i ≡ i + 0 = omega arith in ap (byteAt s) e ∙ byte-of s i 0 r h
-
--- a byte that is not 0 is there
-byte-there : (s : List ℕ) (k : ℕ) → 0 < byteAt s k → k < length s
-byte-there s k h = go (ltb k (length s)) refl
-  where
-    go : (t : Bool) → ltb k (length s) ≡ t → k < length s
-    go true q = ltb-true k (length s) q
-    go false q = let z = List·getD-eq-default s 0 (ltb-false k (length s) q) in absurd (omega arith)
 
 -- the width of the character at `i` where a code point's encoding stands there
 width-of : (s : List ℕ) (i v : ℕ) (r : List ℕ) → isScalar v ≡ true → drop i s ≡ encodingOf v ++ r → length (encodingOf v) ≡ charWidth s i

@@ -4,7 +4,7 @@ use native.Mathlib.Omega.{arith}
 use mathlib.Core.Path.{_≡_, refl, sym, _∙_, ap}
 use mathlib.Core.List.{List, [], _∷_}
 use mathlib.Core.Bool.{Bool, true, false, _&&_, _||_, or-true}
-use lib.ListN.{length, getD, List·getD-eq-default}
+use lib.ListN.{length, getD}
 use lib.Seq.{ext-getD}
 use lib.Dec.{eqb, leb, ltb}
 use borrow.Author.Tests.{eqb-true, eqb-false, leb-true, le-leb, ltb-true, ltb-false, lt-ltb}
@@ -13,7 +13,7 @@ use Rattle.base.specs.Lists.{byteAt, within, part, upFrom}
 use Rattle.base.specs.Sorted.{Each}
 use Rattle.base.proofs.Bools.{and-left, and-right, and-three, or-two, or-three, or-four}
 use Rattle.base.proofs.Ranges.{within-is, each-up}
-use Rattle.base.proofs.Parts.{part-length, part-byte}
+use Rattle.base.proofs.Parts.{byte-there, part-length, part-byte}
 use Rattle.utf8.specs.Encoding.{encodingOf}
 use Rattle.white.specs.White.{whiteOne, whiteTwo, whiteThree, spaceWidth, isWhite}
 use Rattle.white.specs.Facts.{whiteSpaces, WhiteSpaces25, whiteBytes, StandsAt, WhiteHasWidth, WidthIsWhite, BytesAreWhite, WhiteIsByte}
@@ -41,13 +41,6 @@ stand-byte : (s : List ℕ) (i n j : ℕ) (x : ℕ) (xs : List ℕ) → part s i
 stand-byte s i n j x xs h l =
     let g = part-inside s i n x xs h in
     sym (part-byte s i (i + n) (omega arith) g j (omega arith)) ∙ ap (λ (l : List ℕ). byteAt l j) h
-
-byte-there : (s : List ℕ) (k : ℕ) → 0 < byteAt s k → k < length s
-byte-there s k h = go (ltb k (length s)) refl
-  where
-    go : (t : Bool) → ltb k (length s) ≡ t → k < length s
-    go true q = ltb-true k (length s) q
-    go false q = let z = List·getD-eq-default s 0 (ltb-false k (length s) q) in absurd (omega arith)
 
 -- bytes that are there are a part
 bytes-stand : (s : List ℕ) (i : ℕ) (l : List ℕ) → i + length l ≤ length s → ((j : ℕ) → j < length l → byteAt s (i + j) ≡ byteAt l j)
