@@ -222,7 +222,7 @@ width-is-white s i =
 
 -- the bytes of a white character --------------------------------------------------------------------------------------------------------
 
-width-by : (s : List ℕ) (i : ℕ) → spaceWidth s i ≤ 3
+pub width-by : (s : List ℕ) (i : ℕ) → spaceWidth s i ≤ 3
 unfolding spaceWidth
 width-by s i = go (whiteOne (byteAt s i)) (whiteTwo (byteAt s i) (byteAt s (i + 1))) (whiteThree (byteAt s i) (byteAt s (i + 1)) (byteAt s (i + 2)))
   where
@@ -233,7 +233,7 @@ width-by s i = go (whiteOne (byteAt s i)) (whiteTwo (byteAt s i) (byteAt s (i + 
     go false false false = omega arith
 
 -- a byte is white where a character begins at it or just before it, and is wide enough
-byte-white : (s : List ℕ) (j : ℕ) → (i : ℕ) → i ≤ j → j < i + spaceWidth s i → isWhite s j ≡ true
+pub byte-white : (s : List ℕ) (j i : ℕ) → i ≤ j → j < i + spaceWidth s i → isWhite s j ≡ true
 unfolding isWhite
 byte-white s j i l h = go (eqb j i) (eqb j (i + 1)) refl refl
   where
@@ -260,16 +260,18 @@ byte-white s j i l h = go (eqb j i) (eqb j (i + 1)) refl refl
 pub bytes-are-white : BytesAreWhite
 bytes-are-white s i j k h l m = let w = white-has-width s i k h in byte-white s j i l (omega arith)
 
-pub white-is-byte : WhiteIsByte
+-- and only there
+pub white-at : (s : List ℕ) (j : ℕ) → isWhite s j ≡ true → (i : ℕ) × (i ≤ j) × (j < i + spaceWidth s i)
 unfolding isWhite
-white-is-byte s j h =
+white-at s j h =
     or-three (ltb 0 (spaceWidth s j)) _ _ h
-    (λ e. at j (omega arith) (let n = ltb-true 0 (spaceWidth s j) e in omega arith))
-    (λ e. let n = ltb-true 1 (spaceWidth s (j - 1)) e in at (j - 1) (omega arith) (omega arith))
-    (λ e. let n = ltb-true 2 (spaceWidth s (j - 2)) e in at (j - 2) (omega arith) (omega arith))
-  where
-    at : (i : ℕ) → i ≤ j → j < i + spaceWidth s i → (i : ℕ) × (k : ℕ) × StandsAt s i k × (i ≤ j) × (j < i + length (whiteBytes k))
-    at i l m =
-        let f = width-is-white s i (omega arith) in
-        let w = white-has-width s i (f .0) (f .1) in
-        (i, f .0, f .1, l, omega arith)
+    (λ e. let n = ltb-true 0 (spaceWidth s j) e in (j, omega arith, omega arith))
+    (λ e. let n = ltb-true 1 (spaceWidth s (j - 1)) e in (j - 1, omega arith, omega arith))
+    (λ e. let n = ltb-true 2 (spaceWidth s (j - 2)) e in (j - 2, omega arith, omega arith))
+
+pub white-is-byte : WhiteIsByte
+white-is-byte s j h =
+    let p = white-at s j h in
+    let f = width-is-white s (p .0) (omega (arith, p .1, p .2)) in
+    let w = white-has-width s (p .0) (f .0) (f .1) in
+    (p .0, f .0, f .1, p .1, omega (arith, p .2))
