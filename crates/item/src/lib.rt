@@ -13,7 +13,7 @@ ghost use mathlib.Core.Path.{_≡_};
 ghost use Prim.Native.Nat.{_+_, _-_, _≤_, _<_};
 ghost use lib.ListN.{length};
 ghost use Rattle.base.specs.First.{first};
-ghost use Rattle.item.specs.Facts.{ItemInOrder, ItemsInOrder};
+ghost use Rattle.item.specs.Facts.{ItemInOrder, ItemsInOrder, ItemLocal, PiecesLocal};
 ghost use Rattle.key.specs.Keys.{keyEnd};
 ghost use Rattle.item.specs.Items.{keyServes, wins, winner, suppresses, prefixEnd, itemAt, itemOf, isGood};
 ghost use Rattle.item.specs.Pieces.{semicolonAt, integralAt, itemsStart};
@@ -217,4 +217,6 @@ pub fn judge_items(text: &[u8], p: usize, c: usize) -> Judged
 pub fn theorems()
     ensures item_in_order { λ _. ⌜ ItemInOrder ⌝ }
     ensures items_in_order { λ _. ⌜ ItemsInOrder ⌝ }
+    ensures item_local { λ _. ⌜ ItemLocal ⌝ }
+    ensures pieces_local { λ _. ⌜ PiecesLocal ⌝ }
 {}

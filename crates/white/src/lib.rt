@@ -4,6 +4,7 @@ use base::slices::byte_at;
 ghost use mathlib.Core.Path.{_≡_};
 ghost use Prim.Native.Nat.{_-_, _<_};
 ghost use lib.ListN.{length};
+ghost use Rattle.white.specs.Facts.{WhiteSpaces25, WhiteHasWidth, WidthIsWhite, BytesAreWhite, WhiteIsByte};
 ghost use Rattle.white.specs.White.{whiteOne, whiteTwo, whiteThree, spaceWidth, isWhite};
 ghost use Rattle.white.specs.Bytes.{isAsciiGraphic};
 
@@ -98,3 +99,12 @@ pub fn is_white(text: &[u8], at: usize) -> bool
         is_white_byte(text, at)
     }
 }
+
+// The theorems of specs/Facts. The function does nothing; its contract states them.
+pub fn theorems()
+    ensures white_spaces_25 { λ _. ⌜ WhiteSpaces25 ⌝ }
+    ensures white_has_width { λ _. ⌜ WhiteHasWidth ⌝ }
+    ensures width_is_white { λ _. ⌜ WidthIsWhite ⌝ }
+    ensures bytes_are_white { λ _. ⌜ BytesAreWhite ⌝ }
+    ensures white_is_byte { λ _. ⌜ WhiteIsByte ⌝ }
+{}
