@@ -1,5 +1,5 @@
 -- `lookup::prepare` meets its contract. Assumes nothing.
-use Rattle.lookup.proofs.Steps.{prepare-laws}
+use Rattle.lookup.proofs.Halves.{prepare-laws}
 use Rattle.lookup.proofs.RefusalLaws.{at-there}
 use borrow.Author.Needs.{needs}
 use Rattle.lookup.proofs.prepare.Statement.{statement}

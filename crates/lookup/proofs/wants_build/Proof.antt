@@ -1,5 +1,5 @@
 -- `lookup::wants_build` meets its contract. Assumes nothing.
-use Rattle.lookup.proofs.Steps.{prepare-laws}
+use Rattle.lookup.proofs.Halves.{prepare-laws}
 use borrow.Author.Needs.{needs}
 use Rattle.lookup.proofs.wants_build.Statement.{statement}
 use Rattle.lookup.proofs.wants_build.Tie as tie
