@@ -42,6 +42,17 @@ judges s p (At c) = go (barred s c) refl (judgedOf s p c) refl (judged-by s p c)
     go false q j r (all-good g) = rw g (cites c (record { clear = q; good = g; accepted = rw (q, g); judged = r }))
     go false q j r (one-bad n g e) = rw g (bad-item c n q g r)
 
+-- what holds of each group, and where there is none, holds of what the bracket gives
+pub judge-either : (s : List ℕ) (p : ℕ) (P : GroupAnswer → Type 0) (d : Close)
+    → ((c : ℕ) → d ≡ At c → Cited s p c → P (Found (groupOf s p c))) → P NoGroup → P (judge s p d)
+judge-either s p P d found none = go (judges s p d) found
+  where
+    go : {d : Close} {g : GroupAnswer} → Judges s p d g → ((c : ℕ) → d ≡ At c → Cited s p c → P (Found (groupOf s p c))) → P g
+    go (cites c k) f = f c refl k
+    go no-close f = none
+    go (follows c b) f = none
+    go (bad-item c n b g j) f = none
+
 -- the law read from left to right
 module _ (s : List ℕ) (p : ℕ) where
   pub judge-nothing : judge s p Nothing ≡ NoGroup
