@@ -168,8 +168,8 @@ module _ (text : List ℕ) (gs hs : List Group) (s r t : SweepState) (items grou
   all-items h =
       let y = item-records-length gs in
       let z = a .item-count in
-      b .item-rows h
-      ∙ rw (a .item-rows (fit-before h), item-records-append gs hs)
+      b .item-records h
+      ∙ rw (a .item-records (fit-before h), item-records-append gs hs)
       (written-more (itemWidth * s .items) items (itemRecords gs) (item-room h) (itemRecords hs) (itemWidth * r .items) (omega arith))
 
   all-groups : t .fits ≡ true
@@ -178,8 +178,8 @@ module _ (text : List ℕ) (gs hs : List Group) (s r t : SweepState) (items grou
       let y = group-records-length (s .items) (sweptFrom text (s .inside) (s .from) gs) in
       let w : length (sweptFrom text (s .inside) (s .from) gs) ≡ length gs = placed-length _ text (s .inside) (s .from) gs in
       let z = a .group-count in
-      b .group-rows h
-      ∙ rw (a .group-rows (fit-before h), a .item-count, a .line, a .end, group-records-append text (s .items) (s .inside) (s .from) gs hs)
+      b .group-records h
+      ∙ rw (a .group-records (fit-before h), a .item-count, a .line, a .end, group-records-append text (s .items) (s .inside) (s .from) gs hs)
       (written-more (groupWidth * s .groups) groups (groupRecords (s .items) (sweptFrom text (s .inside) (s .from) gs)) (group-room h) _ (groupWidth * r .groups) (omega arith))
 
   pub recorded-both : Recorded text (gs ++ hs) s items groups t items'' groups''
@@ -215,10 +215,10 @@ module _ {text : List ℕ} {gs : List Group} {items groups : List ℕ} {r : Swee
   all-fitted = a .fitted ∙ rw (all-items-count, all-groups-count)
 
   pub all-item-records : r .fits ≡ true → items' ≡ written (itemRecords gs) items
-  all-item-records h = a .item-rows h ∙ written-front (itemRecords gs) items
+  all-item-records h = a .item-records h ∙ written-front (itemRecords gs) items
 
   pub all-group-records : r .fits ≡ true → groups' ≡ written (groupRecords 0 (sweptFrom text false 0 gs)) groups
-  all-group-records h = a .group-rows h ∙ written-front (groupRecords 0 (sweptFrom text false 0 gs)) groups
+  all-group-records h = a .group-records h ∙ written-front (groupRecords 0 (sweptFrom text false 0 gs)) groups
 
 -- Two sweeps: the first with the index and the note as they were lent, the second, from where it stopped, with those after the build, if
 -- one was wanted. They record the groups of the sweep as run.

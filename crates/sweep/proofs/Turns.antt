@@ -161,8 +161,8 @@ moved-recorded text s items groups at wants h =
       fitted = r .fitted;
       item-area = refl;
       group-area = refl;
-      item-records = r .item-rows;
-      group-records = r .group-rows;
+      item-records = r .item-records;
+      group-records = r .group-records;
     }
 
 moved-counted : (text : List ℕ) (s : SweepState) (items groups at : ℕ) (wants : Bool) → Counted text s items groups → s .at ≤ at → at ≤ length text
@@ -316,8 +316,8 @@ module _ {text : List ℕ} {note : ℕ} {index : List ℕ} {s r₀ : SweepState}
               fitted = x .fitted;
               item-area = x .item-area;
               group-area = x .group-area;
-              item-records = x .item-rows;
-              group-records = x .group-rows;
+              item-records = x .item-records;
+              group-records = x .group-records;
             };
         counted = b .counted;
       }
