@@ -19,7 +19,8 @@ use Rattle.records.specs.Writing.{Writable}
 use Rattle.records.specs.Widths.{itemWidth}
 
 module _ (s : List ℕ) (p : ℕ) (d : Close) where
-  matched-is : {c n : ℕ} → matched (judge s p d) ≡ MatchedGroup c n → (d ≡ At c) × Cited s p c × (judge s p d ≡ Found (groupOf s p c)) × (n ≡ length (itemsOf s p c))
+  matched-is : {c n : ℕ} → matched (judge s p d) ≡ MatchedGroup c n
+      → (d ≡ At c) × Cited s p c × (judge s p d ≡ Found (groupOf s p c)) × (n ≡ length (itemsOf s p c))
   unfolding matched groupOf
   matched-is {c} {n} = go (judges s p d)
     where

@@ -119,7 +119,9 @@ pub size-values : (s : List ℕ) {a : Size} → a ≡ sizeAnswer (sizeCall s) �
 unfolding sizeAnswer sizeCall sizeValues sizeNumbers
 size-values s e = rw e (go (eqb (textRefusal s) 0) refl)
   where
-    go : (t : Bool) → eqb (textRefusal s) 0 ≡ t → sizeValues (sizeAnswer (pick t (sized 0 (length s / 3)) (sized (textRefusal s) 0))) ≡ sizeNumbers (pick t (sized 0 (length s / 3)) (sized (textRefusal s) 0))
+    go : (t : Bool) → eqb (textRefusal s) 0 ≡ t
+        → sizeValues (sizeAnswer (pick t (sized 0 (length s / 3)) (sized (textRefusal s) 0)))
+        ≡ sizeNumbers (pick t (sized 0 (length s / 3)) (sized (textRefusal s) 0))
     go true q = refl
     go false q = rw q
 
