@@ -1,5 +1,6 @@
 // An annotation up to the build of the index: what refuses it before the sweep,
 // and the sweep up to a bracket that wants a build.
+use lookup::is_too_few;
 use pool::is_well_formed;
 use sweep::group_records::SweepState;
 use sweep::start;
@@ -27,10 +28,11 @@ fn annotate_refusal(text: &[u8], mode: u8, pool: &[u8], index: usize, records: u
         return 6;
     }
     if is_well_formed(pool) {
-        if index < text.len() {
-            return 9;
-        }
-        return if records < text.len() { 9 } else { 0 };
+        return if is_too_few(text, index, records) {
+            9
+        } else {
+            0
+        };
     }
     7
 }
