@@ -15,7 +15,7 @@ use Rattle.definition.specs.declared.Year.the-variants.{Missing as NoYea
 use Rattle.attributes.specs.Attributes.{attrValue, authorWord, yearWord}
 use Rattle.definition_line.specs.Lines.{attributesOf}
 use Rattle.definition.specs.declared.AuthorYear.{AuthorYear}
-use Rattle.definition.specs.Parts.{authorBytes, yearBytes, authorYear, Gives}
+use Rattle.definition.specs.Parts.{authorBytes, yearBytes, bothOf, Gives}
 use Rattle.definition.specs.Defs.{lineDef, entryDef, defAuthor, defYear}
 use Rattle.definition.specs.declared.defined.Defined.{Defined}
 use Rattle.definition.specs.declared.defined.Defined.the-variants.{Line, Entry as EntryOf, Nothing}
@@ -66,7 +66,7 @@ line-gives text groups n g s r p q e w pool = rw (← p, ← q, ← e) (w pool)
 -- an entry gives its author and its year
 pub entry-gives : (pool : List ℕ) (i : ℕ) {a : Author} {y : Year} → GivesAuthor pool a (authorOf (entryAt pool i))
     → GivesYear pool y (yearOf (entryAt pool i))
-    → (text : List ℕ) → Gives text pool (authorYear a y) (authorOf (entryAt pool i)) (yearOf (entryAt pool i))
+    → (text : List ℕ) → Gives text pool (bothOf a y) (authorOf (entryAt pool i)) (yearOf (entryAt pool i))
 entry-gives pool i p q text = record { author-bytes = p .bytes text; year-bytes = q .bytes text }
 
 module _ (text pool groups : List ℕ) (n : ℕ) {d : Defined} where
@@ -89,7 +89,7 @@ module _ (text pool groups : List ℕ) (n : ℕ) {d : Defined} where
   given-entry p w = rw p (w text)
 
   pub given-nothing : d ≡ Nothing
-      → Gives text pool (authorYear Missing NoYear) (defAuthor (definedAs text groups n pool d)) (defYear (definedAs text groups n pool d))
+      → Gives text pool (bothOf Missing NoYear) (defAuthor (definedAs text groups n pool d)) (defYear (definedAs text groups n pool d))
   unfolding definedAs authorBytes yearBytes
   given-nothing p = rw p (record { author-bytes = refl; year-bytes = refl })
 

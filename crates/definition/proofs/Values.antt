@@ -15,7 +15,7 @@ use Rattle.definition.specs.declared.Author.the-variants.{InText, InPool
 use Rattle.definition.specs.declared.Year.{Year}
 use Rattle.definition.specs.declared.Year.the-variants.{InText as YearInText, InPool as YearInPool, Number, Missing as NoYear}
 use Rattle.attributes.specs.Attributes.{attrValue}
-use Rattle.definition.specs.Parts.{authorBytes, yearBytes, authorGiven, yearPart, authorYear, Gives}
+use Rattle.definition.specs.Parts.{authorBytes, yearBytes, authorGiven, yearPart, bothOf, Gives}
 use Rattle.attributes.specs.Values.{valueBytes, ValueWithin}
 use Rattle.base.proofs.Parts.{part-length, part-part}
 
@@ -64,7 +64,7 @@ module _ (text : List ℕ) {v : Value} {o : Option (List ℕ)} (e : valueBytes t
 
 -- both
 pub gives-both : (text : List ℕ) {a : Author} {y : Year} (o u : Option (List ℕ)) → ((pool : List ℕ) → authorBytes text pool a ≡ o)
-    → ((pool : List ℕ) → yearBytes text pool y ≡ u) → (pool : List ℕ) → Gives text pool (authorYear a y) o u
+    → ((pool : List ℕ) → yearBytes text pool y ≡ u) → (pool : List ℕ) → Gives text pool (bothOf a y) o u
 gives-both text o u p q pool = record { author-bytes = p pool; year-bytes = q pool }
 
 pub ruleset given-laws = (author-text, author-none, year-text, year-none, gives-both)

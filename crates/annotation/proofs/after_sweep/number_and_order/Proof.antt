@@ -16,7 +16,8 @@ order-references-requires c κs =
       search needs,
       search (order-laws, needs),
       search (order-laws, needs),
-      sources-are _ _ _ _ _ _ _ _ _ _ _ _ _ (numbered .number-groups .ensures) (search needs) (taken .if1 .taken),
+      sources-are _ _ _ _ _ _ _ _ _ _ _ _ _ (numbered .number-groups .ensures .0) (search needs) (taken .if1 .taken),
+      numbered .number-groups .ensures .1,
     )
 
 returns : tie.Need-returns
@@ -29,6 +30,7 @@ pub number-and-order-spec : {M : Type 1} → statement M
 number-and-order-spec =
     tie.close
     (tie.spec
+    (λ c κs. search needs)
     number-groups-requires
     order-references-requires
     (λ c. search needs)
