@@ -295,14 +295,14 @@ module _ (text : List ℕ) (mode : ℕ) (pool : List ℕ) (note : ℕ) (index₀
   abbrev left : AnnotateRan
   left = annotateRun text mode pool note index₀ records (areas items₀ groups₀ references labels)
 
-  pub ran-index : (p : Prepared) {items groups : List ℕ} → PreparedBy text mode pool note index₀ (length records) items₀ groups₀ p items groups
+  pub ran-index : (p : Prepared) (items groups : List ℕ) → PreparedBy text mode pool note index₀ (length records) items₀ groups₀ p items groups
       → left .index ≡ indexAfter (preparedWants p) text index₀
   unfolding annotateRan lentAfter indexAfter preparedWants
-  ran-index (NotReady number) b = rw (ran-refused note b records references labels refl)
-  ran-index (Ready s) b = rw (ran-swept b records references labels refl)
+  ran-index (NotReady number) items groups b = rw (ran-refused note b records references labels refl)
+  ran-index (Ready s) items groups b = rw (ran-swept b records references labels refl)
 
-  pub ran-records : (p : Prepared) {items groups : List ℕ} → PreparedBy text mode pool note index₀ (length records) items₀ groups₀ p items groups
+  pub ran-records : (p : Prepared) (items groups : List ℕ) → PreparedBy text mode pool note index₀ (length records) items₀ groups₀ p items groups
       → left .records ≡ recordsAfter (preparedWants p) text records
   unfolding annotateRan lentAfter recordsAfter preparedWants
-  ran-records (NotReady number) b = rw (ran-refused note b records references labels refl)
-  ran-records (Ready s) b = rw (ran-swept b records references labels refl)
+  ran-records (NotReady number) items groups b = rw (ran-refused note b records references labels refl)
+  ran-records (Ready s) items groups b = rw (ran-swept b records references labels refl)

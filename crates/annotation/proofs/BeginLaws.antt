@@ -47,8 +47,8 @@ pub ruleset begin-laws = (prepared-refused, prepared-counted, prepared-short, pr
 -- what the build asks for ------------------------------------------------------------------------------------------------------------
 
 module _ (text : List ℕ) (mode : ℕ) (pool : List ℕ) (note : ℕ) (index : List ℕ) (m : ℕ) (items₀ groups₀ : List ℕ) where
-  pub wanted-enough : (p : Prepared) {items groups : List ℕ} → PreparedBy text mode pool note index m items₀ groups₀ p items groups
+  pub wanted-enough : (p : Prepared) (items groups : List ℕ) → PreparedBy text mode pool note index m items₀ groups₀ p items groups
       → preparedWants p ≡ true → Enough text (length index) m
   unfolding preparedWants
-  wanted-enough (NotReady number) b w = absurd (true≢false (sym w))
-  wanted-enough (Ready s) b w = unrefused text mode pool (length index) m (b .passes) .enough
+  wanted-enough (NotReady number) items groups b w = absurd (true≢false (sym w))
+  wanted-enough (Ready s) items groups b w = unrefused text mode pool (length index) m (b .passes) .enough

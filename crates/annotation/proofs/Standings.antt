@@ -65,12 +65,12 @@ module _ (text : List ℕ) (all : List Group) (pool : List ℕ) where
   some-undefined : (is : List Item) → allDefined text all pool is ≡ false → Some (KeyUndefined text all pool) is
   unfolding allDefined
   some-undefined [] q = true≢false q
-  some-undefined (i ∷ is) q = go (isDefined (defOf text all pool (keyOf text i))) refl q
+  some-undefined (i ∷ is) q = go (isDefined (defOf text all pool (keyOf text i))) refl q (some-undefined is)
     where
       go : (b : Bool) → isDefined (defOf text all pool (keyOf text i)) ≡ b → (b && allDefined text all pool is) ≡ false
-          → Some (KeyUndefined text all pool) (i ∷ is)
-      go true e h = inr (some-undefined is h)
-      go false e h = inl e
+          → (allDefined text all pool is ≡ false → Some (KeyUndefined text all pool) is) → Some (KeyUndefined text all pool) (i ∷ is)
+      go true e h rest = inr (rest h)
+      go false e h rest = inl e
 
   all-defined : (is : List Item) → Each (KeyDefined text all pool) is → allDefined text all pool is ≡ true
   unfolding allDefined

@@ -151,7 +151,7 @@ module _ {M : Type 1} (𝓤 : URA M) (H : Heap 𝓤) (A : Atoms 𝓤) (W : Given
       qed W (‵ (R.the-row .own r (v ∷ [])) ∷ ‵ (flft κ₀ q₀) ∷ ‵ (flft κ₁ q₁) ∷ ‵ (flft κ₂ q₂) ∷ ‵ (flft κ₃ q₃) ∷ ‵ (flft κ₄ q₄) ∷ ‵ (flft κ₅ q₅) ∷ ‵ (flft κ₆ q₆) ∷ ‵ (ShrSlice (named 0) κ₀ u8 .own text (sv₀ ∷ []))
       ∷ ‵ (ShrSlice (named 0) κ₀ u8 .own pool (sv₁ ∷ [])) ∷ ‵ (finally u16 γ₂ (is′ p)) ∷ ‵ (MutSlice (named 2) κ₂ T.the-row .own (at-list b₃ o₃ γ₃ (ys′ p)) (sv₃ ∷ [])) ∷ ‵ (finally u16 γ₄ js′) ∷ ‵ (finally u16 γ₅ gs′) ∷ ‵ (finally u16 γ₆ rs′) ∷ ‵ (finally u8 γ₇ ls′) ∷ []) ∵
       suffices ! _ (ends-at 𝓤 H A f.ended stayed (f.clauses 𝓤 H A mem run) W (((κ₀, (κ₁, (κ₂, (κ₃, (κ₄, (κ₅, (κ₆, tt))))))), (q₀, (q₁, (q₂, (q₃, (q₄, (q₅, (q₆, tt))))))), tt, a, vals), tt) v r (tt, (tt, (tt, (tt, ((is′ p), ((ys′ p), (js′, (gs′, (rs′, (ls′, tt)))))))))) (tt, (tt, (tt, (tt, (e₂, (e₃, (e₄, (e₅, (e₆, (e₇, tt))))))))))) $
-      says ! (d .values, sym (ran-index ts mode ps note is js gs ys rs ls p b), sym (ran-records ts mode ps note is js gs ys rs ls p b), d .item-area, d .group-area, d .reference-area, d .label-area, d .answer) $
+      says ! (d .values, sym (ran-index ts mode ps note is js gs ys rs ls p js₁ gs₁ b), sym (ran-records ts mode ps note is js gs ys rs ls p js₁ gs₁ b), d .item-area, d .group-area, d .reference-area, d .label-area, d .answer) $
       nothing ! $ move ! (8 ∷ 0 ∷ []) $ join ! $ move ! (7 ∷ 0 ∷ []) $ join ! $ move ! (6 ∷ 0 ∷ []) $ join ! $ move ! (5 ∷ 0 ∷ []) $ join ! $ move ! (4 ∷ 0 ∷ []) $ join ! $ move ! (3 ∷ 0 ∷ []) $ join ! $ move ! (2 ∷ 0 ∷ []) $ join ! $ frame ! $
       -- [answer; text; pool; index last; records; items last; groups last; references last; labels last]
       nothing ! $ move ! (9 ∷ 0 ∷ []) $ fjoin ! $ move ! (8 ∷ 0 ∷ []) $ fjoin ! $ move ! (7 ∷ 0 ∷ []) $ fjoin ! $ move ! (6 ∷ 0 ∷ []) $ fjoin ! $ move ! (5 ∷ 0 ∷ []) $ fjoin ! $ move ! (4 ∷ 0 ∷ []) $ fjoin ! $ owned ! u8 (Is u8) (uint-makes 𝓤 H A W w8) note (vint w8 note ∷ []) (refl, note-fits) $ fjoin ! $ move ! (3 ∷ 0 ∷ []) $ fjoin ! $ owned ! u8 (Is u8) (uint-makes 𝓤 H A W w8) mode (vint w8 mode ∷ []) (refl, mode-fits) $ fjoin ! $ move ! (2 ∷ 0 ∷ []) $ fjoin ! $ frame ! $ done !
@@ -193,7 +193,7 @@ module _ {M : Type 1} (𝓤 : URA M) (H : Heap 𝓤) (A : Atoms 𝓤) (W : Given
         assigns ! (agg ! (and-then ! (load ! (from ! {i = 23} (stop !)) (look ! 41 refl)) (and-then ! (load ! (from ! {i = 5} (fld ! refl (stop !))) (look-in ! 77 (sub ! 1 refl (whole !)))) (no-more !)))) (from ! {i = 24} (stop !)) (init ! 39 refl (tt, (tt, (record { fits = room₂ .0 }, tt)))) $
         assigns ! (addr ! (from ! {i = 6} (fld ! refl (hop ! (look-in ! 75 (sub ! 0 refl (whole !))) (stop !))))) (from ! {i = 25} (stop !)) (init ! 37 refl (tt, tt)) $
         assigns ! (agg ! (and-then ! (load ! (from ! {i = 25} (stop !)) (look ! 37 refl)) (and-then ! (load ! (from ! {i = 6} (fld ! refl (stop !))) (look-in ! 75 (sub ! 1 refl (whole !)))) (no-more !)))) (from ! {i = 26} (stop !)) (init ! 35 refl (tt, (tt, (record { fits = room₃ .0 }, tt)))) $
-        move ! (6 ∷ 8 ∷ 4 ∷ 5 ∷ 9 ∷ 10 ∷ []) $ builds-when ! mem run fm (known .3) (named 0) (named 1) (named 2) b₀ o₀ b₂ o₂ b₃ o₃ (preparedWants p) ts is ys room₂ room₃ (wanted-enough ts mode ps note is (length ys) js gs p (b .0)) (and-then ! (load ! (from ! {i = 13} (stop !)) (look ! 55 refl)) (and-then ! (load ! (from ! {i = 1} (stop !)) (look ! 79 refl)) (and-then ! (load ! (from ! {i = 24} (stop !)) (look ! 33 refl)) (and-then ! (load ! (from ! {i = 26} (stop !)) (look ! 29 refl)) (no-more !))))) (λ e₂ e₃.
+        move ! (6 ∷ 8 ∷ 4 ∷ 5 ∷ 9 ∷ 10 ∷ []) $ builds-when ! mem run fm (known .3) (named 0) (named 1) (named 2) b₀ o₀ b₂ o₂ b₃ o₃ (preparedWants p) ts is ys room₂ room₃ (wanted-enough ts mode ps note is (length ys) js gs p _ _ (b .0)) (and-then ! (load ! (from ! {i = 13} (stop !)) (look ! 55 refl)) (and-then ! (load ! (from ! {i = 1} (stop !)) (look ! 79 refl)) (and-then ! (load ! (from ! {i = 24} (stop !)) (look ! 33 refl)) (and-then ! (load ! (from ! {i = 26} (stop !)) (look ! 29 refl)) (no-more !))))) (λ e₂ e₃.
         -- [κ₀; text; κ₁; index; κ₂; records; κ₄; groups; κ₃; items; pool; κ₅; κ₆; references; labels; _36; …]
         land ! (from ! {i = 22} (stop !)) (init ! 43 refl (tt, tt)) $
         assigns ! (addr ! (from ! {i = 5} (fld ! refl (hop ! (look-in ! 77 (sub ! 0 refl (whole !))) (stop !))))) (from ! {i = 27} (stop !)) (init ! 33 refl (tt, tt)) $
