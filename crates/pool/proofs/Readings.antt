@@ -1,13 +1,13 @@
 -- THEOREM `FieldsRead`: the fields of an entry are read to what they were made of.
 use Prim.Native.Nat.{ℕ, _<_}
 use native.Mathlib.Omega.{arith}
-use mathlib.Core.Path.{_≡_, refl, _∙_, ap}
+use mathlib.Core.Path.{_≡_, refl, _∙_}
 use mathlib.Core.List.{List, [], _∷_, _++_}
-use mathlib.Core.Option.{Option, none, some, Option·getD}
+use mathlib.Core.Option.{Option, none, some}
 use borrow.Author.Tests.{ne-eqb}
 use Rattle.pool.specs.Fields.{Field}
-use Rattle.pool.specs.Entries.{Name, fieldWith, inName, nameAfter, nameAt, namesIn, yearIn, entryOf}
-use Rattle.pool.specs.Facts.{optionalField, nameFields, namesFields, endFields, FieldsRead}
+use Rattle.pool.specs.Entries.{Name, fieldWith, inName, nameAfter, nameAt, namesIn, entryOf}
+use Rattle.pool.specs.Facts.{nameFields, namesFields, endFields, FieldsRead}
 
 -- none of a name's fields has a tag above 5
 past-names : (t : ℕ) (names : List Name) (end : List Field) → 5 < t → fieldWith t (namesFields names ++ end) ≡ fieldWith t end

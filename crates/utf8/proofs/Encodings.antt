@@ -4,7 +4,7 @@ use native.Mathlib.Omega.{arith}
 use mathlib.Core.Path.{_≡_, refl, sym, _∙_, ap}
 use mathlib.Core.List.{List, [], _∷_, _++_}
 use mathlib.Core.Logic.{_⊎_, inl, inr}
-use mathlib.Core.Bool.{Bool, true, false, _&&_, _||_, not, true≢false, and-false}
+use mathlib.Core.Bool.{Bool, true, false, _&&_, true≢false, and-false}
 use lib.ListN.{length, drop, drop-of-length-le, length-drop, length-append}
 use lib.Seq.{drop-cons, drop-drop, drop-append-seam, getD-drop}
 use lib.Dec.{eqb, leb, ltb}
