@@ -1,16 +1,15 @@
 -- THEOREMS `ItemLocal` and `PiecesLocal`: what an item is, it is by its own bytes.
-use Prim.Native.Nat.{ℕ, zero, suc, _+_, _-_, _%_, _≤_, _<_}
+use Prim.Native.Nat.{ℕ, zero, suc, _+_, _-_, _≤_, _<_}
 use native.Mathlib.Omega.{arith}
 use mathlib.Core.Path.{_≡_, refl, sym, _∙_, ap}
-use mathlib.Core.List.{List, [], _∷_}
+use mathlib.Core.List.{List}
 use mathlib.Core.Bool.{Bool, true, false, _&&_, _||_, not, true≢false}
 use lib.ListN.{length}
 use lib.Dec.{eqb, leb, ltb}
-use borrow.Author.Tests.{eqb-true, eqb-false, ne-eqb, lt-ltb, le-ltb, ltb-true, ltb-false, leb-true, leb-false}
+use borrow.Author.Tests.{eqb-true, eqb-false, ne-eqb, ltb-true, ltb-false, leb-true, leb-false}
 use Rattle.base.specs.Pick.{pick}
 use Rattle.base.specs.Lists.{byteAt, part}
 use Rattle.base.specs.First.{first}
-use Rattle.base.specs.Spans.{spanOf}
 use Rattle.base.specs.Sorted.{Each}
 use Rattle.base.proofs.Bools.{both}
 use Rattle.base.proofs.Parts.{byte-past, part-length, part-byte}
@@ -23,12 +22,10 @@ use Rattle.text.specs.Trim.{trimStart, trimEnd}
 use Rattle.text.proofs.Trims.{start-by, end-by, end-shift}
 use Rattle.key.specs.Keys.{isFirst, isMark, isKey, runEnd, keyEnd}
 use Rattle.key.proofs.Laws.{key-out, key-not, key-yes}
-use Rattle.locator.specs.Locators.{locatorOf}
-use Rattle.item.specs.declared.Item.{Item}
 use Rattle.item.specs.declared.Parsed.the-variants.{Good, Bad}
 use Rattle.item.specs.Items.{atSign, keyServes, wins, winner, suppresses, prefixEnd, locatorStart, itemAt, itemIn, itemOf}
-use Rattle.item.specs.Moved.{movedSpan, movedItem, movedParsed}
-use Rattle.item.specs.Pieces.{Stretch, stretch, semicolonAt, endsPiece, piecesIn, pieces, integralAt, itemsStart, piecesOf, parsed}
+use Rattle.item.specs.Moved.{movedItem, movedParsed}
+use Rattle.item.specs.Pieces.{stretch, semicolonAt, endsPiece, piecesIn, pieces, integralAt, itemsStart, piecesOf, parsed}
 use Rattle.item.specs.Facts.{Before, Local, ItemLocal, PiecesLocal}
 use Rattle.item.proofs.Groups.{start-in}
 use Rattle.item.proofs.LocatorShift.{ltb-move, eqb-move, span-move, first-move, locator-move}

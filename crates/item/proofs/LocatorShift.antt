@@ -1,7 +1,7 @@
 -- A locator in two lists of bytes: where those of `t` before `e` are those of `s` from `d` on, it is the same, moved.
 use Prim.Native.Nat.{ℕ, _+_, _-_, _≤_, _<_}
 use native.Mathlib.Omega.{arith}
-use mathlib.Core.Path.{_≡_, refl, sym, _∙_, ap}
+use mathlib.Core.Path.{_≡_, refl, sym, ap}
 use mathlib.Core.List.{List, [], _∷_}
 use mathlib.Core.Bool.{Bool, true, false, _&&_, _||_, not}
 use lib.ListN.{length}
@@ -15,7 +15,7 @@ use Rattle.base.specs.Spans.{span, missing, spanOf}
 use Rattle.base.proofs.Searches.{first-by, first-shift}
 use Rattle.base.proofs.Lasts.{last-end-shift}
 use Rattle.locator.specs.declared.Label.{Label}
-use Rattle.locator.specs.declared.Locator.the-variants.{Nothing, Plain, Labelled}
+use Rattle.locator.specs.declared.Locator.the-variants.{Nothing, Plain}
 use Rattle.locator.specs.Matchers.{Matcher, matchers, no-code, code-page}
 use Rattle.locator.specs.Locators.{isBlank, isDigit, skipBlanks, lower, fits, isSign, mayFollow, label, stands, matchIn, orPage, labelOf, isValue, valueRun, isLoose, valueEnd, valued, labelled, locatorFrom, locatorOf}
 use Rattle.item.specs.Moved.{movedSpan, movedLocator}

@@ -1,5 +1,5 @@
 -- THEOREMS `SpellingsAreMatchers`, `Matchers51` and `SpellingsFound`, by computing.
-use mathlib.Core.Path.{_≡_, refl}
+use mathlib.Core.Path.{refl}
 use Rattle.base.specs.Lists.{upFrom}
 use Rattle.base.specs.Ascii.{ascii}
 use Rattle.locator.specs.Matchers.{matchers}

@@ -4,3 +4,4 @@ pub mod LayoutLaws
 pub mod ReaderLaws
 pub mod PoolLaws
 pub mod Shapes
+pub mod Readings

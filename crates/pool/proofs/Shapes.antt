@@ -1,16 +1,16 @@
 -- THEOREMS `GoodIsSpelled` and `SpelledIsGood`: the tags of a good entry are 1 (2 3? 4? 5?)* 6? 7? 8?, and these make one good.
-use Prim.Native.Nat.{ℕ, _+_, _≤_, _<_}
+use Prim.Native.Nat.{ℕ, _≤_, _<_}
 use native.Mathlib.Omega.{arith}
 use mathlib.Core.Path.{_≡_, refl, sym, _∙_, ap, subst}
 use mathlib.Core.List.{List, [], _∷_, _++_}
 use mathlib.Core.Bool.{Bool, true, false, _&&_, true≢false}
-use lib.Dec.{eqb, leb, ltb}
-use borrow.Author.Tests.{eqb-true, eq-eqb, leb-true, le-leb, ltb-true}
+use lib.Dec.{eqb, leb}
+use borrow.Author.Tests.{eqb-true, leb-true, ltb-true}
 use Rattle.base.specs.Lists.{within, upFrom}
 use Rattle.base.specs.Sorted.{Each}
 use Rattle.base.proofs.Bools.{and-left, and-right, and-three, or-four}
 use Rattle.base.proofs.Ranges.{within-is, each-up}
-use Rattle.pool.specs.Fields.{Field, fieldsOf, fill, follows, contentGood, fieldsGood, goodFrom}
+use Rattle.pool.specs.Fields.{Field, fieldsOf, fill, follows, fieldsGood, goodFrom}
 use Rattle.pool.specs.Facts.{optional, NameShape, nameTags, namesTags, endTags, EntryShape, entryTags, tagsOf, ContentsGood, GoodIsSpelled, SpelledIsGood}
 
 -- which tag may come after which

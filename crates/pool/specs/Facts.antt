@@ -1,11 +1,14 @@
--- Theorems: which tags an entry's fields have, as a grammar; an entry is good exactly where they spell it. Proved in proofs/.
+-- Theorems: which tags an entry's fields have, as a grammar, that an entry is good exactly where they spell it,
+-- and what its fields are read to. Proved in proofs/.
 use Prim.Native.Nat.{ℕ}
 use mathlib.Core.Path.{_≡_}
 use mathlib.Core.List.{List, [], _∷_, _++_, map}
 use mathlib.Core.Bool.{Bool, true}
+use mathlib.Core.Option.{Option, none, some}
 use Rattle.base.specs.Pick.{pick}
 use Rattle.base.specs.Sorted.{Each}
 use Rattle.pool.specs.Fields.{Field, fieldsOf, fill, contentGood, entryGood}
+use Rattle.pool.specs.Entries.{Name, yearIn, entryOf}
 
 -- a tag that may be left out
 abbrev pub optional : Bool → ℕ → List ℕ
@@ -60,3 +63,29 @@ abbrev pub SpelledIsGood : Type 0
 SpelledIsGood =
     (s : List ℕ) (at e : ℕ) (x : EntryShape) → fill s at e ≡ true → ContentsGood (fieldsOf s at e) → tagsOf (fieldsOf s at e) ≡ entryTags x
     → entryGood s at e ≡ true
+
+-- a field that may be left out
+abbrev pub optionalField : ℕ → Option (List ℕ) → List Field
+optionalField tag none = []
+optionalField tag (some bytes) = record { tag = tag; bytes = bytes } ∷ []
+
+-- the fields of a name: "3 family, 4 given, 5 literal"
+abbrev pub nameFields : Name → List Field
+nameFields n =
+    record { tag = 2; bytes = [] } ∷ (optionalField 3 (n .family) ++ (optionalField 4 (n .given) ++ optionalField 5 (n .literal)))
+
+-- those of some names
+unfoldable pub namesFields : List Name → List Field
+namesFields [] = []
+namesFields (n ∷ ns) = nameFields n ++ namesFields ns
+
+-- "6 year (8 bytes, signed), 7 date literal, 8 title"
+abbrev pub endFields : Option (List ℕ) → Option (List ℕ) → Option (List ℕ) → List Field
+endFields year date title = optionalField 6 year ++ (optionalField 7 date ++ optionalField 8 title)
+
+-- the fields of an entry are read to what they were made of, the year by its bytes
+abbrev pub FieldsRead : Type 0
+FieldsRead =
+    (id : List ℕ) (names : List Name) (year date title : Option (List ℕ))
+    → entryOf (record { tag = 1; bytes = id } ∷ (namesFields names ++ endFields year date title))
+    ≡ record { id = id; names = names; year = yearIn year; date = date; title = title }

@@ -1,14 +1,14 @@
--- THEOREMS `EncodedIsUtf8` and `Utf8IsEncoded`: the accepted bytes are the encodings of lists of code points.
+-- THEOREMS `EncodedIsUtf8`, `Utf8IsEncoded` and `DecodedIsBack`: the accepted bytes are the encodings of lists of code points, of one each.
 use Prim.Native.Nat.{ℕ, zero, suc, _+_, _-_, _*_, _/_, _%_, _≤_, _<_}
 use native.Mathlib.Omega.{arith}
 use mathlib.Core.Path.{_≡_, refl, sym, _∙_, ap}
 use mathlib.Core.List.{List, [], _∷_, _++_}
 use mathlib.Core.Logic.{_⊎_, inl, inr}
-use mathlib.Core.Bool.{Bool, true, false, _&&_, _||_, not, true≢false, and-false}
+use mathlib.Core.Bool.{Bool, true, false, _&&_, true≢false, and-false}
 use lib.ListN.{length, drop, drop-of-length-le, length-drop, length-append}
 use lib.Seq.{drop-cons, drop-drop, drop-append-seam, getD-drop}
 use lib.Dec.{eqb, leb, ltb}
-use borrow.Author.Tests.{eq-eqb, ne-eqb, le-leb, lt-leb, leb-true, leb-false, ltb-true, ltb-false, eqb-true, eqb-false, not-true}
+use borrow.Author.Tests.{lt-ltb, le-ltb, eq-eqb, ne-eqb, le-leb, lt-leb, leb-true, leb-false, ltb-true, ltb-false, eqb-true, eqb-false, not-true}
 use Rattle.base.specs.Pick.{pick}
 use Rattle.base.specs.Lists.{byteAt, within}
 use Rattle.base.proofs.Bools.{and-left, and-right, and-three, or-three, or-four}
@@ -16,7 +16,7 @@ use Rattle.base.proofs.Parts.{byte-there}
 use Rattle.base.proofs.Ranges.{within-is, within-so}
 use Rattle.utf8.specs.Utf8.{isTail, twoBytes, threeBytes, fourBytes, charWidth, utf8In, utf8}
 use Rattle.utf8.specs.Encoding.{isScalar, encodingOf, encoded, codeBy, codeAt, decodedIn, decoded}
-use Rattle.utf8.specs.Facts.{Scalars, EncodedIsUtf8, Utf8IsEncoded}
+use Rattle.utf8.specs.Facts.{Scalars, EncodedIsUtf8, Utf8IsEncoded, DecodedIsBack}
 use Rattle.utf8.proofs.Characters.{char-1, char-2, char-3, char-4, Rest, rest-start, rest-end, rest-next}
 
 -- code points -------------------------------------------------------------------------------------------------------------------------
@@ -273,19 +273,25 @@ some-byte v = go (leb v 0x7F) (leb v 0x7FF) (leb v 0xFFFF)
     go false false true = omega arith
     go false false false = omega arith
 
+-- a text that is, from `i` on, the encoding of a code point and of others
+encoded-next : (s : List ℕ) (i v : ℕ) (cs : List ℕ) → drop i s ≡ encodingOf v ++ encoded cs
+    → (i < length s) × (drop (i + length (encodingOf v)) s ≡ encoded cs)
+encoded-next s i v cs e =
+    let l : length (drop i s) ≡ length (encodingOf v) + length (encoded cs) = ap length e ∙ length-append (encodingOf v) (encoded cs) in
+    let m = length-drop i s in
+    let o = some-byte v in
+    (omega arith, sym (drop-drop (length (encodingOf v)) i s) ∙ ap (drop (length (encodingOf v))) e ∙ drop-append-seam (encodingOf v) (encoded cs))
+
 -- the check of a text that is, from `i` on, the encoding of `cs`
 encoded-rest : (s : List ℕ) (cs : List ℕ) (i : ℕ) {w : Bool} → Rest s i w → Scalars cs → drop i s ≡ encoded cs → true ≡ w
 unfolding encoded
 encoded-rest s [] i rest h e = rest-end s i rest (let l : length (drop i s) ≡ 0 = ap length e in let m = length-drop i s in omega arith)
-encoded-rest s (v ∷ cs) i {w} rest h e =
-    let l : length (drop i s) ≡ length (encodingOf v) + length (encoded cs) = ap length e ∙ length-append (encodingOf v) (encoded cs) in
-    let m = length-drop i s in
+encoded-rest s (v ∷ cs) i rest h e =
+    let g = encoded-next s i v cs e in
     let o = some-byte v in
-    let d : drop (i + length (encodingOf v)) s ≡ encoded cs =
-    sym (drop-drop (length (encodingOf v)) i s) ∙ ap (drop (length (encodingOf v))) e ∙ drop-append-seam (encodingOf v) (encoded cs) in
     encoded-rest s cs (i + length (encodingOf v))
-    (rest-next s i rest (omega arith) (width-of s i v (encoded cs) (h .0) e) (λ z. omega arith))
-    (h .1) d
+    (rest-next s i rest (g .0) (width-of s i v (encoded cs) (h .0) e) (λ z. omega arith))
+    (h .1) (g .1)
 
 pub encoded-is-utf8 : EncodedIsUtf8
 encoded-is-utf8 cs h = sym (encoded-rest (encoded cs) cs 0 (rest-start (encoded cs)) h refl)
@@ -383,3 +389,89 @@ decoded-in (suc n) s i t = go (ltb i (length s)) (eqb (charWidth s i) 0) refl re
 pub utf8-is-encoded : Utf8IsEncoded
 unfolding utf8 decoded
 utf8-is-encoded s h = decoded-in (length s) s 0 h
+
+-- a code point's encoding is read back to it ----------------------------------------------------------------------------------------------
+
+module _ (v : ℕ) where
+  back-1 : (b c d : ℕ) → v ≤ 0x7F → codeBy v b c d ≡ v
+  unfolding codeBy
+  back-1 b c d h = rw (le-leb v 0x7F h) refl
+
+  back-2 : (c d : ℕ) → 0x7F < v → v ≤ 0x7FF → codeBy (0xC0 + v / 64) (0x80 + v % 64) c d ≡ v
+  unfolding codeBy
+  back-2 c d l h = rw (lt-leb (0xC0 + v / 64) 0x7F (omega arith), le-leb (0xC0 + v / 64) 0xDF (omega arith)) (omega arith)
+
+  back-3 : (d : ℕ) → 0x7FF < v → v ≤ 0xFFFF → codeBy (0xE0 + v / 4096) (0x80 + v / 64 % 64) (0x80 + v % 64) d ≡ v
+  unfolding codeBy
+  back-3 d l h =
+      rw (lt-leb (0xE0 + v / 4096) 0x7F (omega arith), lt-leb (0xE0 + v / 4096) 0xDF (omega arith), le-leb (0xE0 + v / 4096) 0xEF (omega arith)) (omega arith)
+
+  back-4 : 0xFFFF < v → codeBy (0xF0 + v / 262144) (0x80 + v / 4096 % 64) (0x80 + v / 64 % 64) (0x80 + v % 64) ≡ v
+  unfolding codeBy
+  back-4 l =
+      rw (lt-leb (0xF0 + v / 262144) 0x7F (omega arith), lt-leb (0xF0 + v / 262144) 0xDF (omega arith), lt-leb (0xF0 + v / 262144) 0xEF (omega arith))
+      (digits (v / 64) (v / 4096) (v / 262144) (v % 64) (v / 64 % 64) (v / 4096 % 64) (omega arith) (omega arith) (omega arith))
+    where
+      digits : (x y z a b c : ℕ) → v ≡ x * 64 + a → x ≡ y * 64 + b → y ≡ z * 64 + c
+          → (0xF0 + z - 0xF0) * 262144 + (0x80 + c - 0x80) * 4096 + (0x80 + b - 0x80) * 64 + (0x80 + a - 0x80) ≡ v
+      digits x y z a b c p q r = omega arith
+
+code-of : (s : List ℕ) (i v : ℕ) (r : List ℕ) → drop i s ≡ encodingOf v ++ r → codeAt s i ≡ v
+code-of s i v r e = go (leb v 0x7F) (leb v 0x7FF) (leb v 0xFFFF) refl refl refl
+  where
+    shape : (l : List ℕ) → encodingOf v ≡ l → drop i s ≡ l ++ r
+    shape l q = e ∙ ap (λ (x : List ℕ). x ++ r) q
+
+    go : (x y z : Bool) → leb v 0x7F ≡ x → leb v 0x7FF ≡ y → leb v 0xFFFF ≡ z → codeAt s i ≡ v
+    go true y z p q t =
+        let k = leb-true v 0x7F p in
+        let w = shape (v ∷ []) (enc-1 v k) in
+        rw (byte-first s i (v ∷ r) w) (back-1 v (byteAt s (i + 1)) (byteAt s (i + 2)) (byteAt s (i + 3)) k)
+    go false true z p q t =
+        let k = leb-false v 0x7F p in
+        let l = leb-true v 0x7FF q in
+        let a₀ = 0xC0 + v / 64 in
+        let b₀ = 0x80 + v % 64 in
+        let w = shape (a₀ ∷ b₀ ∷ []) (enc-2 v a₀ b₀ k l refl refl) in
+        rw (byte-first s i (a₀ ∷ b₀ ∷ r) w, byte-of s i 1 (a₀ ∷ b₀ ∷ r) w) (back-2 v (byteAt s (i + 2)) (byteAt s (i + 3)) k l)
+    go false false true p q t =
+        let k = leb-false v 0x7FF q in
+        let l = leb-true v 0xFFFF t in
+        let a₀ = 0xE0 + v / 4096 in
+        let b₀ = 0x80 + v / 64 % 64 in
+        let c₀ = 0x80 + v % 64 in
+        let w = shape (a₀ ∷ b₀ ∷ c₀ ∷ []) (enc-3 v a₀ b₀ c₀ k l refl refl refl) in
+        rw (byte-first s i (a₀ ∷ b₀ ∷ c₀ ∷ r) w, byte-of s i 1 (a₀ ∷ b₀ ∷ c₀ ∷ r) w, byte-of s i 2 (a₀ ∷ b₀ ∷ c₀ ∷ r) w)
+        (back-3 v (byteAt s (i + 3)) k l)
+    go false false false p q t =
+        let k = leb-false v 0xFFFF t in
+        let a₀ = 0xF0 + v / 262144 in
+        let b₀ = 0x80 + v / 4096 % 64 in
+        let c₀ = 0x80 + v / 64 % 64 in
+        let d₀ = 0x80 + v % 64 in
+        let w = shape (a₀ ∷ b₀ ∷ c₀ ∷ d₀ ∷ []) (enc-4 v a₀ b₀ c₀ d₀ k refl refl refl refl) in
+        rw (
+          byte-first s i (a₀ ∷ b₀ ∷ c₀ ∷ d₀ ∷ r) w,
+          byte-of s i 1 (a₀ ∷ b₀ ∷ c₀ ∷ d₀ ∷ r) w,
+          byte-of s i 2 (a₀ ∷ b₀ ∷ c₀ ∷ d₀ ∷ r) w,
+          byte-of s i 3 (a₀ ∷ b₀ ∷ c₀ ∷ d₀ ∷ r) w,
+        )
+        (back-4 v k)
+
+back-in : (n : ℕ) (s : List ℕ) (cs : List ℕ) (i : ℕ) → length s - i ≤ n → Scalars cs → drop i s ≡ encoded cs → decodedIn n s i ≡ cs
+unfolding decodedIn encoded
+back-in zero s [] i h c e = refl
+back-in zero s (v ∷ cs) i h c e = let g = encoded-next s i v cs e in absurd (omega (arith, g .0))
+back-in (suc n) s [] i h c e =
+    let l : length (drop i s) ≡ 0 = ap length e in
+    let m = length-drop i s in
+    rw (le-ltb i (length s) (omega arith)) refl
+back-in (suc n) s (v ∷ cs) i h c e =
+    let g = encoded-next s i v cs e in
+    let o = some-byte v in
+    rw (lt-ltb i (length s) (g .0), code-of s i v (encoded cs) e, sym (width-of s i v (encoded cs) (c .0) e))
+    (ap (λ (l : List ℕ). v ∷ l) (back-in n s cs (i + length (encodingOf v)) (omega (arith, g .0)) (c .1) (g .1)))
+
+pub decoded-is-back : DecodedIsBack
+unfolding decoded
+decoded-is-back cs h = back-in (length (encoded cs)) (encoded cs) cs 0 (omega arith) h refl

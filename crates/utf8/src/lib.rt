@@ -5,7 +5,7 @@ ghost use mathlib.Core.Path.{_≡_};
 ghost use Prim.Native.Nat.{_+_, _≤_, _<_};
 ghost use lib.ListN.{length};
 ghost use Rattle.base.specs.Pick.{pick};
-ghost use Rattle.utf8.specs.Facts.{EncodedIsUtf8, Utf8IsEncoded};
+ghost use Rattle.utf8.specs.Facts.{EncodedIsUtf8, Utf8IsEncoded, DecodedIsBack};
 ghost use Rattle.utf8.specs.Blocks.{allAscii, asciiStep};
 ghost use Rattle.utf8.specs.Refusal.{textRefusal};
 ghost use Rattle.utf8.specs.Utf8.{twoBytes, threeBytes, fourBytes, charWidth, utf8};
@@ -133,4 +133,5 @@ pub fn text_refusal(text: &[u8]) -> u8
 pub fn theorems()
     ensures encoded_is_utf8 { λ _. ⌜ EncodedIsUtf8 ⌝ }
     ensures utf8_is_encoded { λ _. ⌜ Utf8IsEncoded ⌝ }
+    ensures decoded_is_back { λ _. ⌜ DecodedIsBack ⌝ }
 {}
