@@ -26,8 +26,10 @@ pub fn number_and_order<'a>(
     references: &mut [u16],
     labels: &mut [u8],
 ) -> Annotation
-    requires { ⌜ (s .groups ≤ 32768) × (s .items ≤ 65535) × (wellFormed (now pool) ≡ true) × Unnumbered (s .items) (now items) × Orderable (now text) (now pool) (s .groups) (s .items) (numberAll (now text) mode (now pool) (s .groups) (now items) (now groups)) ⌝ }
-    ensures { λ r. ⌜ Ordered (now (text .entry)) mode (now (pool .entry)) (s .groups) (s .items) note (now (items .entry)) (now (groups .entry)) (now (references .entry)) (now (labels .entry)) r (now (items .exit)) (now (groups .exit)) (now (references .exit)) (now (labels .exit)) ⌝ }
+    requires { ⌜ (s .groups ≤ 32768) × (s .items ≤ 65535) × (wellFormed (now pool) ≡ true) × Unnumbered (s .items) (now items)
+        × Orderable (now text) (now pool) (s .groups) (s .items) (numberAll (now text) mode (now pool) (s .groups) (now items) (now groups)) ⌝ }
+    ensures { λ r. ⌜ Ordered (now (text .entry)) mode (now (pool .entry)) (s .groups) (s .items) note (now (items .entry)) (now (groups .entry))
+        (now (references .entry)) (now (labels .entry)) r (now (items .exit)) (now (groups .exit)) (now (references .exit)) (now (labels .exit)) ⌝ }
 {
     let n = s.groups;
     let m = s.items;

@@ -49,7 +49,8 @@ pub fn refuse_ten(
     references: &mut [u16],
     labels: &mut [u8],
 ) -> Annotation
-    ensures { λ r. ⌜ Zeroed note (now (items .entry)) (now (groups .entry)) (now (references .entry)) (now (labels .entry)) r (now (items .exit)) (now (groups .exit)) (now (references .exit)) (now (labels .exit)) ⌝ }
+    ensures { λ r. ⌜ Zeroed note (now (items .entry)) (now (groups .entry)) (now (references .entry)) (now (labels .entry)) r (now (items .exit))
+        (now (groups .exit)) (now (references .exit)) (now (labels .exit)) ⌝ }
 {
     zero_fill(items);
     zero_fill(groups);

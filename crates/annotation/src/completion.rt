@@ -22,7 +22,9 @@ pub fn finish<'a>(
     labels: &mut [u8],
 ) -> Annotation
     requires { ⌜ CanFinish (now text) mode (now pool) note p (now index) (now items) (now groups) ⌝ }
-    ensures { λ r. ⌜ Finished (now (text .entry)) mode (now (pool .entry)) note p (now (index .entry)) (now (items .entry)) (now (groups .entry)) (now (references .entry)) (now (labels .entry)) r (now (items .exit)) (now (groups .exit)) (now (references .exit)) (now (labels .exit)) × (now (index .exit) ≡ now (index .entry)) ⌝ }
+    ensures { λ r. ⌜ Finished (now (text .entry)) mode (now (pool .entry)) note p (now (index .entry)) (now (items .entry)) (now (groups .entry))
+        (now (references .entry)) (now (labels .entry)) r (now (items .exit)) (now (groups .exit)) (now (references .exit)) (now (labels .exit))
+        × (now (index .exit) ≡ now (index .entry)) ⌝ }
 {
     match p {
         Prepared::Refused { number } => Annotation::Refused { number, note },

@@ -48,7 +48,9 @@ pub fn prepare(
     items: &mut [u16],
     groups: &mut [u16],
 ) -> Prepared
-    ensures { λ r. ⌜ PreparedBy (now (text .entry)) mode (now (pool .entry)) note (now (index .entry)) records (now (items .entry)) (now (groups .entry)) r (now (items .exit)) (now (groups .exit)) × (now (index .exit) ≡ now (index .entry)) ⌝ }
+    ensures { λ r. ⌜ PreparedBy (now (text .entry)) mode (now (pool .entry)) note (now (index .entry)) records (now (items .entry)) (now (groups .entry)) r
+        (now (items .exit)) (now (groups .exit))
+        × (now (index .exit) ≡ now (index .entry)) ⌝ }
 {
     let number = annotate_refusal(text, mode, pool, index.len(), records);
     if number != 0 {

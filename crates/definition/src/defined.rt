@@ -33,7 +33,8 @@ pub fn find(
     key: &[u8],
 ) -> Defined
     requires { ⌜ (n < 4294967296) × (wellFormed (now pool) ≡ true) × LinesBelow (now text) (now groups) (now items) n lines ⌝ }
-    ensures { λ r. ⌜ definedAs (now (text .entry)) (now (groups .entry)) n (now (pool .entry)) r ≡ definitionIn (now (text .entry)) (now (groups .entry)) (now (items .entry)) n (now (pool .entry)) (now (key .entry)) ⌝ }
+    ensures { λ r. ⌜ definedAs (now (text .entry)) (now (groups .entry)) n (now (pool .entry)) r ≡ definitionIn (now (text .entry)) (now (groups .entry))
+        (now (items .entry)) n (now (pool .entry)) (now (key .entry)) ⌝ }
     ensures within { λ r. ⌜ DefinedIn (now (pool .entry)) n r ⌝ }
     ensures found { λ r. ⌜ r ≡ foundIn (now (text .entry)) (now (groups .entry)) (now (items .entry)) n (now (pool .entry)) (now (key .entry)) ⌝ }
 {
@@ -53,7 +54,9 @@ pub fn find(
 // The author and the year that the definition line of group record `g` gives.
 fn line_given(text: &[u8], groups: &[u16], n: usize, g: usize) -> AuthorYear
     requires { ⌜ (n < 4294967296) × (g < n) ⌝ }
-    ensures { λ r. ⌜ ((pool : List ℕ) → Gives (now (text .entry)) pool r (lineDefIn (now (text .entry)) (now (groups .entry)) n g .author) (lineDefIn (now (text .entry)) (now (groups .entry)) n g .year)) ⌝ }
+    ensures { λ r. ⌜ ((pool : List ℕ) → Gives (now (text .entry)) pool r
+        (lineDefIn (now (text .entry)) (now (groups .entry)) n g .author)
+        (lineDefIn (now (text .entry)) (now (groups .entry)) n g .year)) ⌝ }
 {
     let close = records::close_of_record(groups, g);
     let next = records::next_in(text, groups, n, g);
@@ -74,7 +77,8 @@ fn entry_given(pool: &[u8], number: usize) -> AuthorYear
 // Those that what was found gives.
 pub fn given_by(text: &[u8], pool: &[u8], groups: &[u16], n: usize, d: Defined) -> AuthorYear
     requires { ⌜ (n < 4294967296) × (wellFormed (now pool) ≡ true) × DefinedIn (now pool) n d ⌝ }
-    ensures { λ r. ⌜ Gives (now (text .entry)) (now (pool .entry)) r (defAuthor (definedAs (now (text .entry)) (now (groups .entry)) n (now (pool .entry)) d)) (defYear (definedAs (now (text .entry)) (now (groups .entry)) n (now (pool .entry)) d)) ⌝ }
+    ensures { λ r. ⌜ Gives (now (text .entry)) (now (pool .entry)) r (defAuthor (definedAs (now (text .entry)) (now (groups .entry)) n (now (pool .entry)) d))
+        (defYear (definedAs (now (text .entry)) (now (groups .entry)) n (now (pool .entry)) d)) ⌝ }
 {
     match d {
         Defined::Line { group } => line_given(text, groups, n, group),

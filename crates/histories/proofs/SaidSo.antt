@@ -198,7 +198,6 @@ module _ (text : List ℕ) (mode : ℕ) (all : List Group) (pool : List ℕ) whe
       → Says text mode pool all (contentOf text mode all pool)
   unfolding contentOf
   says closes apart =
-      let sources = tallyOf text mode all pool .sources in
       let u = all-so in
       let n = item-records-length all in
       let c = records-numbered text mode all pool in
@@ -209,9 +208,9 @@ module _ (text : List ℕ) (mode : ℕ) (all : List Group) (pool : List ℕ) whe
         items = λ k c h g. u .found k c (omega (arith, u .alike, n, h)) g;
         in-order = sources-in-order text mode all pool;
         numbers = λ k h. c .cells k (omega (arith, c .count, u .count, u .alike, n, h));
-        references = references-all text mode all pool sources;
-        by-number = λ e. rw e (references-by-number text all pool sources);
-        by-rank = λ e. rw e (references-by-rank text all pool sources);
+        references = references-all text mode all pool (tallyOf text mode all pool .sources);
+        by-number = λ e. rw e (references-by-number text all pool (tallyOf text 0 all pool .sources));
+        by-rank = λ e. rw e (references-by-rank text all pool (tallyOf text 1 all pool .sources));
         uses = λ k h. records-used text mode all pool k h;
         labels = u .joins;
         label-offsets = λ k h. u .offsets k (omega (arith, u .alike, n, h));

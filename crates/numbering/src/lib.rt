@@ -30,7 +30,8 @@ pub fn number_groups<'a>(
     labels: &mut [u8],
 ) -> Numbering
     requires { ⌜ (n ≤ 65535) × (wellFormed (now pool) ≡ true) × Unnumbered m (now items) × LinesBelow (now text) (now groups) (now items) n lines ⌝ }
-    ensures { λ r. ⌜ Holds (numberAll (now (text .entry)) mode (now (pool .entry)) n (now (items .entry)) (now (groups .entry))) (roomOf (now (labels .entry))) (now (labels .entry)) r (now (items .exit)) (now (groups .exit)) (now (labels .exit)) ⌝ }
+    ensures { λ r. ⌜ Holds (numberAll (now (text .entry)) mode (now (pool .entry)) n (now (items .entry)) (now (groups .entry))) (roomOf (now (labels .entry)))
+        (now (labels .entry)) r (now (items .exit)) (now (groups .exit)) (now (labels .exit)) ⌝ }
     ensures lines { λ _. ⌜ LinesBelow (now (text .entry)) (now (groups .exit)) (now (items .exit)) n lines ⌝ }
 {
     let mut s = Numbering {

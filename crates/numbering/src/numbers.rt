@@ -77,7 +77,10 @@ fn label_in<'a>(
     out: &mut [u8],
 ) -> usize
     requires { ⌜ (n < 4294967296) × (wellFormed (now pool) ≡ true) × (k < 4294967296) × LinesBelow (now text) (now groups) (now items) n end ⌝ }
-    ensures { λ r. ⌜ (r ≡ length (recordLabel (now (text .entry)) mode (now (pool .entry)) (now (groups .entry)) (now (items .entry)) n k number)) × (now (out .exit) ≡ fitted (recordLabel (now (text .entry)) mode (now (pool .entry)) (now (groups .entry)) (now (items .entry)) n k number) (now (out .entry))) ⌝ }
+    ensures { λ r. ⌜ r ≡ length (recordLabel (now (text .entry)) mode (now (pool .entry)) (now (groups .entry)) (now (items .entry)) n k number) ⌝ }
+    ensures area { λ _. ⌜ now (out .exit) ≡ fitted
+        (recordLabel (now (text .entry)) mode (now (pool .entry)) (now (groups .entry)) (now (items .entry)) n k number)
+        (now (out .entry)) ⌝ }
 {
     if mode == 0 {
         return label::write_label(
@@ -135,8 +138,12 @@ fn write_label_of<'a>(
     groups: &[u16],
     labels: &mut [u8],
 ) -> usize
-    requires { ⌜ (n < 4294967296) × (wellFormed (now pool) ≡ true) × (k < 4294967296) × LinesBelow (now text) (now groups) (now items) n end × (s .fits ≡ true) × (s .«label_bytes» ≤ length (now labels)) × Labelled (now text) mode (now pool) n m s (now items) (now groups) (now labels) ⌝ }
-    ensures { λ r. ⌜ (r ≡ length (recordLabel (now (text .entry)) mode (now (pool .entry)) (now (groups .entry)) (now (items .entry)) n k (c .number))) × (now (labels .exit) ≡ fittedAt (recordLabel (now (text .entry)) mode (now (pool .entry)) (now (groups .entry)) (now (items .entry)) n k (c .number)) (s .«label_bytes») (now (labels .entry))) ⌝ }
+    requires { ⌜ (n < 4294967296) × (wellFormed (now pool) ≡ true) × (k < 4294967296) × LinesBelow (now text) (now groups) (now items) n end × (s .fits ≡ true)
+        × (s .«label_bytes» ≤ length (now labels)) × Labelled (now text) mode (now pool) n m s (now items) (now groups) (now labels) ⌝ }
+    ensures { λ r. ⌜ r ≡ length (recordLabel (now (text .entry)) mode (now (pool .entry)) (now (groups .entry)) (now (items .entry)) n k (c .number)) ⌝ }
+    ensures area { λ _. ⌜ now (labels .exit) ≡ fittedAt
+        (recordLabel (now (text .entry)) mode (now (pool .entry)) (now (groups .entry)) (now (items .entry)) n k (c .number))
+        (s .«label_bytes») (now (labels .entry)) ⌝ }
 {
     let number = c.number;
     let at = s.label_bytes;
@@ -151,7 +158,7 @@ fn write_label_of<'a>(
     label_in(text, mode, pool, n, end, k, number, items, groups, out)
 }
 
-// A numberingOf of the numbering.
+// How far the numbering is.
 fn reached(fits: bool, sources: usize, bytes: usize) -> Numbering
     ensures { λ r. ⌜ r ≡ numberingOf fits sources bytes ⌝ }
 {
@@ -176,8 +183,10 @@ fn cite<'a>(
     groups: &[u16],
     labels: &mut [u8],
 ) -> Numbering
-    requires { ⌜ (n < 4294967296) × (wellFormed (now pool) ≡ true) × (k < 4294967296) × (s .sources < 1099511627776) × (s .«label_bytes» ≤ roomOf (now labels)) × LinesBelow (now text) (now groups) (now items) n end × Labelled (now text) mode (now pool) n m s (now items) (now groups) (now labels) ⌝ }
-    ensures { λ r. ⌜ Advances 1 (λ t. citeIn (now (text .entry)) mode (now (pool .entry)) n t k) s r (now (items .entry)) (now (groups .entry)) (now (labels .entry)) (now (items .exit)) (now (groups .entry)) (now (labels .exit)) ⌝ }
+    requires { ⌜ (n < 4294967296) × (wellFormed (now pool) ≡ true) × (k < 4294967296) × (s .sources < 1099511627776) × (s .«label_bytes» ≤ roomOf (now labels))
+        × LinesBelow (now text) (now groups) (now items) n end × Labelled (now text) mode (now pool) n m s (now items) (now groups) (now labels) ⌝ }
+    ensures { λ r. ⌜ Advances 1 (λ t. citeIn (now (text .entry)) mode (now (pool .entry)) n t k) s r (now (items .entry)) (now (groups .entry))
+        (now (labels .entry)) (now (items .exit)) (now (groups .entry)) (now (labels .exit)) ⌝ }
     ensures lines { λ _. ⌜ LinesBelow (now (text .entry)) (now (groups .entry)) (now (items .exit)) n end ⌝ }
     ensures labelled { λ r. ⌜ Labelled (now (text .entry)) mode (now (pool .entry)) n m r (now (items .exit)) (now (groups .entry)) (now (labels .exit)) ⌝ }
 {
@@ -212,8 +221,11 @@ fn cite_from<'a>(
     groups: &[u16],
     labels: &mut [u8],
 ) -> Numbering
-    requires { ⌜ (n < 4294967296) × (wellFormed (now pool) ≡ true) × (first < 65536) × (count < 65536) × (s .sources < 549755813888) × (s .«label_bytes» ≤ roomOf (now labels)) × LinesBelow (now text) (now groups) (now items) n end × Labelled (now text) mode (now pool) n m s (now items) (now groups) (now labels) ⌝ }
-    ensures { λ r. ⌜ Advances count (λ t. citeFrom (now (text .entry)) mode (now (pool .entry)) n count t first) s r (now (items .entry)) (now (groups .entry)) (now (labels .entry)) (now (items .exit)) (now (groups .entry)) (now (labels .exit)) ⌝ }
+    requires { ⌜ (n < 4294967296) × (wellFormed (now pool) ≡ true) × (first < 65536) × (count < 65536) × (s .sources < 549755813888)
+        × (s .«label_bytes» ≤ roomOf (now labels)) × LinesBelow (now text) (now groups) (now items) n end
+        × Labelled (now text) mode (now pool) n m s (now items) (now groups) (now labels) ⌝ }
+    ensures { λ r. ⌜ Advances count (λ t. citeFrom (now (text .entry)) mode (now (pool .entry)) n count t first) s r (now (items .entry)) (now (groups .entry))
+        (now (labels .entry)) (now (items .exit)) (now (groups .entry)) (now (labels .exit)) ⌝ }
     ensures lines { λ _. ⌜ LinesBelow (now (text .entry)) (now (groups .entry)) (now (items .exit)) n end ⌝ }
     ensures labelled { λ r. ⌜ Labelled (now (text .entry)) mode (now (pool .entry)) n m r (now (items .exit)) (now (groups .entry)) (now (labels .exit)) ⌝ }
 {
@@ -252,8 +264,10 @@ pub fn number_group<'a>(
     groups: &mut [u16],
     labels: &mut [u8],
 ) -> Numbering
-    requires { ⌜ (n < 4294967296) × (wellFormed (now pool) ≡ true) × (g < 4294967296) × (s .sources < 549755813888) × (s .«label_bytes» ≤ roomOf (now labels)) × LinesBelow (now text) (now groups) (now items) n end × Labelled (now text) mode (now pool) n m s (now items) (now groups) (now labels) ⌝ }
-    ensures { λ r. ⌜ Advances 65535 (λ t. numberGroup (now (text .entry)) mode (now (pool .entry)) n t g) s r (now (items .entry)) (now (groups .entry)) (now (labels .entry)) (now (items .exit)) (now (groups .exit)) (now (labels .exit)) ⌝ }
+    requires { ⌜ (n < 4294967296) × (wellFormed (now pool) ≡ true) × (g < 4294967296) × (s .sources < 549755813888) × (s .«label_bytes» ≤ roomOf (now labels))
+        × LinesBelow (now text) (now groups) (now items) n end × Labelled (now text) mode (now pool) n m s (now items) (now groups) (now labels) ⌝ }
+    ensures { λ r. ⌜ Advances 65535 (λ t. numberGroup (now (text .entry)) mode (now (pool .entry)) n t g) s r (now (items .entry)) (now (groups .entry))
+        (now (labels .entry)) (now (items .exit)) (now (groups .exit)) (now (labels .exit)) ⌝ }
     ensures lines { λ _. ⌜ LinesBelow (now (text .entry)) (now (groups .exit)) (now (items .exit)) n end ⌝ }
     ensures labelled { λ r. ⌜ Labelled (now (text .entry)) mode (now (pool .entry)) n m r (now (items .exit)) (now (groups .exit)) (now (labels .exit)) ⌝ }
 {

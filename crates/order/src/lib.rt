@@ -63,8 +63,11 @@ fn place_of<'a>(
     references: &[u16],
     count: usize,
 ) -> usize
-    requires { ⌜ (n < 4294967296) × (wellFormed (now pool) ≡ true) × (count < 65536) × Rising (greaterAt (rankBy (now text) (now pool) (now groups) (now items) n) (now rank) (now references)) count ⌝ }
-    ensures { λ r. ⌜ r ≡ first (greaterAt (rankBy (now (text .entry)) (now (pool .entry)) (now (groups .entry)) (now (items .entry)) n) (now (rank .entry)) (now (references .entry))) count 0 ⌝ }
+    requires { ⌜ (n < 4294967296) × (wellFormed (now pool) ≡ true) × (count < 65536)
+        × Rising (greaterAt (rankBy (now text) (now pool) (now groups) (now items) n) (now rank) (now references)) count ⌝ }
+    ensures { λ r. ⌜ r ≡ first
+        (greaterAt (rankBy (now (text .entry)) (now (pool .entry)) (now (groups .entry)) (now (items .entry)) n) (now (rank .entry)) (now (references .entry)))
+        count 0 ⌝ }
 {
     let mut low: usize = 0;
     let mut high = count;
@@ -106,8 +109,11 @@ fn insert_definition<'a>(
     d: u16,
     references: &mut [u16],
 )
-    requires { ⌜ (n < 4294967296) × (wellFormed (now pool) ≡ true) × (count < 65535) × (count < length (now references)) × SortedBy (rankBy (now text) (now pool) (now groups) (now items) n) (take count (now references)) ⌝ }
-    ensures { λ _. ⌜ now (references .exit) ≡ written (insertBy (rankBy (now (text .entry)) (now (pool .entry)) (now (groups .entry)) (now (items .entry)) n) (take count (now (references .entry))) d) (now (references .entry)) ⌝ }
+    requires { ⌜ (n < 4294967296) × (wellFormed (now pool) ≡ true) × (count < 65535) × (count < length (now references))
+        × SortedBy (rankBy (now text) (now pool) (now groups) (now items) n) (take count (now references)) ⌝ }
+    ensures { λ _. ⌜ now (references .exit) ≡ written
+        (insertBy (rankBy (now (text .entry)) (now (pool .entry)) (now (groups .entry)) (now (items .entry)) n) (take count (now (references .entry))) d)
+        (now (references .entry)) ⌝ }
 {
     let rank = ranks::rank_by(text, pool, groups, items, n, d as usize);
     let place = place_of(text, pool, groups, items, n, rank, references, count);
@@ -126,8 +132,12 @@ fn order_definitions<'a>(
     sources: usize,
     references: &mut [u16],
 )
-    requires { ⌜ (n ≤ 32768) × (m < 4294967296) × (wellFormed (now pool) ≡ true) × (sources ≤ 65535) × (sources ≤ length (now references)) × SourcesKnown (now text) (now pool) (now groups) (now items) n m sources × LinesBelow (now text) (now groups) (now items) n lines ⌝ }
-    ensures { λ _. ⌜ now (references .exit) ≡ written (map (definitionOf (now (text .entry)) (now (pool .entry)) (now (groups .entry)) (now (items .entry)) n m) (insertedFrom (rankIn (now (text .entry)) (now (pool .entry)) (now (groups .entry)) (now (items .entry)) n m) sources [] 1)) (now (references .entry)) ⌝ }
+    requires { ⌜ (n ≤ 32768) × (m < 4294967296) × (wellFormed (now pool) ≡ true) × (sources ≤ 65535) × (sources ≤ length (now references))
+        × SourcesKnown (now text) (now pool) (now groups) (now items) n m sources × LinesBelow (now text) (now groups) (now items) n lines ⌝ }
+    ensures { λ _. ⌜ now (references .exit) ≡ written
+        (map (definitionOf (now (text .entry)) (now (pool .entry)) (now (groups .entry)) (now (items .entry)) n m)
+        (insertedFrom (rankIn (now (text .entry)) (now (pool .entry)) (now (groups .entry)) (now (items .entry)) n m) sources [] 1))
+        (now (references .entry)) ⌝ }
 {
     let mut i: usize = 0;
     while i < sources {
@@ -149,7 +159,9 @@ fn number_sources<'a>(
     references: &mut [u16],
 )
     requires { ⌜ (n < 4294967296) × (m < 4294967296) × (wellFormed (now pool) ≡ true) × (sources ≤ length (now references)) ⌝ }
-    ensures { λ _. ⌜ now (references .exit) ≡ written (map (sourceBy (now (text .entry)) (now (pool .entry)) (now (groups .entry)) (now (items .entry)) n m) (take sources (now (references .entry)))) (now (references .entry)) ⌝ }
+    ensures { λ _. ⌜ now (references .exit) ≡ written
+        (map (sourceBy (now (text .entry)) (now (pool .entry)) (now (groups .entry)) (now (items .entry)) n m) (take sources (now (references .entry))))
+        (now (references .entry)) ⌝ }
 {
     let mut i: usize = 0;
     while i < sources {
@@ -171,8 +183,10 @@ fn order_by_rank<'a>(
     sources: usize,
     references: &mut [u16],
 )
-    requires { ⌜ (n ≤ 32768) × (m < 4294967296) × (wellFormed (now pool) ≡ true) × (sources ≤ 65535) × (sources ≤ length (now references)) × SourcesKnown (now text) (now pool) (now groups) (now items) n m sources × LinesBelow (now text) (now groups) (now items) n lines ⌝ }
-    ensures { λ _. ⌜ now (references .exit) ≡ written (insertedFrom (rankIn (now (text .entry)) (now (pool .entry)) (now (groups .entry)) (now (items .entry)) n m) sources [] 1) (now (references .entry)) ⌝ }
+    requires { ⌜ (n ≤ 32768) × (m < 4294967296) × (wellFormed (now pool) ≡ true) × (sources ≤ 65535) × (sources ≤ length (now references))
+        × SourcesKnown (now text) (now pool) (now groups) (now items) n m sources × LinesBelow (now text) (now groups) (now items) n lines ⌝ }
+    ensures { λ _. ⌜ now (references .exit) ≡ written
+        (insertedFrom (rankIn (now (text .entry)) (now (pool .entry)) (now (groups .entry)) (now (items .entry)) n m) sources [] 1) (now (references .entry)) ⌝ }
 {
     order_definitions(text, pool, groups, items, n, lines, m, sources, references);
     number_sources(text, pool, groups, items, n, m, sources, references);
@@ -204,8 +218,10 @@ pub fn order_references<'a>(
     groups: &[u16],
     references: &mut [u16],
 )
-    requires { ⌜ (n ≤ 32768) × (m ≤ 65535) × (wellFormed (now pool) ≡ true) × (sources ≤ 65535) × (sources ≤ length (now references)) × SourcesKnown (now text) (now pool) (now groups) (now items) n m sources × LinesBelow (now text) (now groups) (now items) n lines ⌝ }
-    ensures { λ _. ⌜ now (references .exit) ≡ written (referencesIn (now (text .entry)) (now (pool .entry)) (now (groups .entry)) (now (items .entry)) n m mode sources) (now (references .entry)) ⌝ }
+    requires { ⌜ (n ≤ 32768) × (m ≤ 65535) × (wellFormed (now pool) ≡ true) × (sources ≤ 65535) × (sources ≤ length (now references))
+        × SourcesKnown (now text) (now pool) (now groups) (now items) n m sources × LinesBelow (now text) (now groups) (now items) n lines ⌝ }
+    ensures { λ _. ⌜ now (references .exit) ≡ written
+        (referencesIn (now (text .entry)) (now (pool .entry)) (now (groups .entry)) (now (items .entry)) n m mode sources) (now (references .entry)) ⌝ }
 {
     if mode == 0 {
         order_by_number(sources, references);

@@ -127,7 +127,8 @@ pub fn definition_of(
 // The number of the first of the `m` item records that is numbered and has the key `key`.
 fn number_of_key(text: &[u8], items: &[u16], m: usize, key: &[u8]) -> usize
     requires { ⌜ m < 4294967296 ⌝ }
-    ensures { λ r. ⌜ (r ≡ numberOfKey (now (text .entry)) (now (items .entry)) m (now (key .entry))) × (r < 65536) ⌝ }
+    ensures { λ r. ⌜ r ≡ numberOfKey (now (text .entry)) (now (items .entry)) m (now (key .entry)) ⌝ }
+    ensures small { λ r. ⌜ r < 65536 ⌝ }
 {
     let mut j: usize = 0;
     while j < m {
