@@ -14,6 +14,7 @@ ghost use Rattle.definition.specs.Parts.{Gives};
 ghost use Rattle.definition.specs.Lines.{lineDefIn};
 ghost use Rattle.definition.specs.Definitions.{definitionIn, LinesBelow};
 ghost use Rattle.definition.specs.Defined.{definedAs, foundIn, DefinedIn};
+ghost use Rattle.records.specs.Bounds.{recordBound};
 
 // What defines a key: the line that a group starts, by the group's number, or an entry of the pool, by its number.
 pub enum Defined {
@@ -32,7 +33,7 @@ pub fn find(
     lines: usize,
     key: &[u8],
 ) -> Defined
-    requires { ⌜ (n < 4294967296) × (wellFormed (now pool) ≡ true) × LinesBelow (now text) (now groups) (now items) n lines ⌝ }
+    requires { ⌜ (n < recordBound) × (wellFormed (now pool) ≡ true) × LinesBelow (now text) (now groups) (now items) n lines ⌝ }
     ensures { λ r. ⌜ definedAs (now (text .entry)) (now (groups .entry)) n (now (pool .entry)) r ≡ definitionIn (now (text .entry)) (now (groups .entry))
         (now (items .entry)) n (now (pool .entry)) (now (key .entry)) ⌝ }
     ensures within { λ r. ⌜ DefinedIn (now (pool .entry)) n r ⌝ }
@@ -53,7 +54,7 @@ pub fn find(
 
 // The author and the year that the definition line of group record `g` gives.
 fn line_given(text: &[u8], groups: &[u16], n: usize, g: usize) -> AuthorYear
-    requires { ⌜ (n < 4294967296) × (g < n) ⌝ }
+    requires { ⌜ (n < recordBound) × (g < n) ⌝ }
     ensures { λ r. ⌜ ((pool : List ℕ) → Gives (now (text .entry)) pool r
         (lineDefIn (now (text .entry)) (now (groups .entry)) n g .author)
         (lineDefIn (now (text .entry)) (now (groups .entry)) n g .year)) ⌝ }
@@ -76,7 +77,7 @@ fn entry_given(pool: &[u8], number: usize) -> AuthorYear
 
 // Those that what was found gives.
 pub fn given_by(text: &[u8], pool: &[u8], groups: &[u16], n: usize, d: Defined) -> AuthorYear
-    requires { ⌜ (n < 4294967296) × (wellFormed (now pool) ≡ true) × DefinedIn (now pool) n d ⌝ }
+    requires { ⌜ (n < recordBound) × (wellFormed (now pool) ≡ true) × DefinedIn (now pool) n d ⌝ }
     ensures { λ r. ⌜ Gives (now (text .entry)) (now (pool .entry)) r (defAuthor (definedAs (now (text .entry)) (now (groups .entry)) n (now (pool .entry)) d))
         (defYear (definedAs (now (text .entry)) (now (groups .entry)) n (now (pool .entry)) d)) ⌝ }
 {

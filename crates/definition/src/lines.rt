@@ -3,10 +3,11 @@ ghost use mathlib.Core.Path.{_≡_};
 ghost use Prim.Native.Nat.{_<_};
 ghost use Rattle.definition.specs.Lines.{definesIn, definesKeyIn, lineIn};
 ghost use Rattle.definition.specs.Definitions.{LinesBelow};
+ghost use Rattle.records.specs.Bounds.{recordBound};
 
 // Whether group record `g` starts a definition line.
 fn defines_in(text: &[u8], groups: &[u16], items: &[u16], g: usize) -> bool
-    requires { ⌜ g < 4294967296 ⌝ }
+    requires { ⌜ g < recordBound ⌝ }
     ensures { λ r. ⌜ r ≡ definesIn (now (text .entry)) (now (groups .entry)) (now (items .entry)) g ⌝ }
 {
     let count = records::group_field(groups, g, records::GROUP_COUNT);
@@ -25,7 +26,7 @@ fn defines_in(text: &[u8], groups: &[u16], items: &[u16], g: usize) -> bool
 // Whether it starts one of the key `key`. After most groups no colon stands, which costs less to see than that their
 // keys differ.
 fn defines_key_in(text: &[u8], groups: &[u16], items: &[u16], g: usize, key: &[u8]) -> bool
-    requires { ⌜ g < 4294967296 ⌝ }
+    requires { ⌜ g < recordBound ⌝ }
     ensures { λ r. ⌜ r ≡ definesKeyIn (now (text .entry)) (now (groups .entry)) (now (items .entry)) (now (key .entry)) g ⌝ }
 {
     if definition_line::colon_after(text, records::close_of_record(groups, g)) {
@@ -43,7 +44,7 @@ fn defines_key_in(text: &[u8], groups: &[u16], items: &[u16], g: usize, key: &[u
 
 // One past the last of the first `n` group records that starts a definition line; 0 where none does.
 pub fn lines_end(text: &[u8], groups: &[u16], items: &[u16], n: usize) -> usize
-    requires { ⌜ n < 4294967296 ⌝ }
+    requires { ⌜ n < recordBound ⌝ }
     ensures { λ r. ⌜ LinesBelow (now (text .entry)) (now (groups .entry)) (now (items .entry)) n r ⌝ }
 {
     let mut end = n;
@@ -66,7 +67,7 @@ pub fn line_in(
     lines: usize,
     key: &[u8],
 ) -> usize
-    requires { ⌜ (n < 4294967296) × LinesBelow (now text) (now groups) (now items) n lines ⌝ }
+    requires { ⌜ (n < recordBound) × LinesBelow (now text) (now groups) (now items) n lines ⌝ }
     ensures { λ r. ⌜ r ≡ lineIn (now (text .entry)) (now (groups .entry)) (now (items .entry)) n (now (key .entry)) ⌝ }
 {
     let mut i = lines;

@@ -26,7 +26,7 @@ use Rattle.source_parts.specs.Names.{givenPart, familyPart, nameBy, nameOf}
 use Rattle.source_parts.specs.Parens.{inParens}
 use Rattle.source_text.specs.Call.{sourceRefused, sourceWritten, sourceTextCall}
 use Rattle.source_text.specs.Values.{sourceTextNumbers}
-use Rattle.answers.specs.Words.{Words}
+use Rattle.answers.specs.Words.{Words, wordBound}
 
 -- the fields -----------------------------------------------------------------------------------------------------------------------
 
@@ -166,7 +166,7 @@ module _ (s : List ℕ) (at e : ℕ) (small : length s ≤ 32768) (inside : e �
       let b = beside-short (32 ∷ []) (namesOf entry) (inParens (yearBy (entry .year) (entry .date))) in
       omega arith
 
-  text-by : length (sourceTextOf entry) < 4294967296
+  text-by : length (sourceTextOf entry) < wordBound
   unfolding sourceTextOf bodyOf entryOf
   text-by =
       let h = head-by in
@@ -175,7 +175,7 @@ module _ (s : List ℕ) (at e : ℕ) (small : length s ≤ 32768) (inside : e �
       let d = ended-short (bodyOf entry) in
       omega arith
 
-entry-text-by : (p : List ℕ) (i : ℕ) → wellFormed p ≡ true → i < countOf p → length (sourceTextOf (entryAt p i)) < 4294967296
+entry-text-by : (p : List ℕ) (i : ℕ) → wellFormed p ≡ true → i < countOf p → length (sourceTextOf (entryAt p i)) < wordBound
 unfolding entryAt
 entry-text-by p i w h =
     let t = entry-there p i w h in
@@ -188,7 +188,7 @@ source-words p i area = go (wellFormed p) refl (ltb i (countOf p)) refl
     out : List ℕ
     out = sourceTextOf (entryAt p i)
 
-    full : (t : Bool) → length out < 4294967296 → Words (sourceTextNumbers (pick t (sourceRefused 10 area) (record { number = 0; bytes = length out; area = written out area })))
+    full : (t : Bool) → length out < wordBound → Words (sourceTextNumbers (pick t (sourceRefused 10 area) (record { number = 0; bytes = length out; area = written out area })))
     full true h = (omega arith, (omega arith, tt))
     full false h = (omega arith, (h, tt))
 

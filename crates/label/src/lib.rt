@@ -58,7 +58,7 @@ fn put_author(author: &[u8], out: &mut [u8])
 {
     let k = author.len();
     bytes::copy(author, out);
-    out[k] = 32;
+    out[k] = b' ';
 }
 
 // An author, a space and a year, where they fit. Their length.

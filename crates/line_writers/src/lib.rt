@@ -10,6 +10,7 @@ ghost use Rattle.decimal.specs.Decimal.{decimal};
 ghost use Rattle.line_writers.specs.Lines.{groupPart, itemPart, itemLine, linesOf, groupLines, countLine, answerLines};
 ghost use Rattle.line_writers.specs.Writes.{Put, Room, answerBy};
 ghost use Rattle.records.specs.Widths.{groupWidth, itemWidth};
+ghost use Rattle.records.specs.Bounds.{recordBound};
 
 // The numbers of an answer that the listing says: the number of a refusal, or 0 and the counts of groups, items and sources.
 pub struct Told {
@@ -54,7 +55,7 @@ fn put_group_part(groups: &[u16], g: usize, out: &mut [u8], k: usize) -> usize
 
 // What a line says of its item.
 fn put_item_part(text: &[u8], items: &[u16], i: usize, out: &mut [u8], k: usize) -> usize
-    requires { ⌜ (i < 4294967296) × Room k (itemPart (now text) (drop (itemWidth * i) (now items))) (now out) ⌝ }
+    requires { ⌜ (i < recordBound) × Room k (itemPart (now text) (drop (itemWidth * i) (now items))) (now out) ⌝ }
     ensures { λ r. ⌜ Put k (itemPart (now (text .entry)) (drop (itemWidth * i) (now (items .entry)))) (now (out .entry)) (now (out .exit)) r ⌝ }
 {
     let key = key_in(text, items, i);
@@ -76,7 +77,7 @@ fn put_line(
     out: &mut [u8],
     k: usize,
 ) -> usize
-    requires { ⌜ (g < 65536) × (i < 4294967296) × Room k (itemLine (now text) (drop (groupWidth * g) (now groups)) (drop (itemWidth * i) (now items))) (now out) ⌝ }
+    requires { ⌜ (g < 65536) × (i < recordBound) × Room k (itemLine (now text) (drop (groupWidth * g) (now groups)) (drop (itemWidth * i) (now items))) (now out) ⌝ }
     ensures { λ r. ⌜ Put k (itemLine (now (text .entry)) (drop (groupWidth * g) (now (groups .entry))) (drop (itemWidth * i) (now (items .entry)))) (now (out .entry)) (now (out .exit)) r ⌝ }
 {
     let a = put_group_part(groups, g, out, k);

@@ -28,6 +28,7 @@ use Rattle.numbering.specs.declared.Numbering.{Numbering}
 use Rattle.numbering.specs.Numbers.{recordLabel}
 use Rattle.numbering.specs.Progress.{Alike, LabelStands, Labelled}
 use Rattle.records.specs.Widths.{item-number, item-marks, item-label, item-label-length}
+use Rattle.records.specs.Bounds.{recordBound}
 
 module _ (text pool groups items : List ℕ) (mode n k number : ℕ) where
   abbrev L : List ℕ
@@ -89,7 +90,7 @@ before-found text items k number mode sources {j} o e h =
 
 pub ruleset before-laws = (before-none, before-found)
 
-pub before-low : (k : ℕ) (j : ℕ) (b : Bool) → (ltb j k && b) ≡ true → k < 4294967296 → j < 4294967296
+pub before-low : (k : ℕ) (j : ℕ) (b : Bool) → (ltb j k && b) ≡ true → k < recordBound → j < recordBound
 before-low k j b t h = let l = ltb-true j k (and-left (ltb j k) b t) in omega arith
 
 -- its label, copied

@@ -15,6 +15,7 @@ ghost use Rattle.label.specs.Areas.{fitted, fittedAt};
 ghost use Rattle.definition.specs.Definitions.{LinesBelow};
 ghost use Rattle.numbering.specs.Numbers.{keyDefined, keysDefined, recordLabel, citeIn, citeFrom, numberGroup};
 ghost use Rattle.numbering.specs.Progress.{roomOf, numberingOf, Advances, Alike, Labelled};
+ghost use Rattle.records.specs.Bounds.{recordBound, sourceBound};
 
 // Whether the key of item record `k` is defined.
 fn is_defined(
@@ -26,7 +27,7 @@ fn is_defined(
     end: usize,
     k: usize,
 ) -> bool
-    requires { ⌜ (n < 4294967296) × (wellFormed (now pool) ≡ true) × (k < 4294967296) × LinesBelow (now text) (now groups) (now items) n end ⌝ }
+    requires { ⌜ (n < recordBound) × (wellFormed (now pool) ≡ true) × (k < recordBound) × LinesBelow (now text) (now groups) (now items) n end ⌝ }
     ensures { λ r. ⌜ r ≡ keyDefined (now (text .entry)) (now (pool .entry)) (now (groups .entry)) (now (items .entry)) n k ⌝ }
 {
     let key = records::key_in(text, items, k);
@@ -49,7 +50,7 @@ fn all_defined(
     first: usize,
     count: usize,
 ) -> bool
-    requires { ⌜ (n < 4294967296) × (wellFormed (now pool) ≡ true) × (first < 65536) × (count < 65536) × LinesBelow (now text) (now groups) (now items) n end ⌝ }
+    requires { ⌜ (n < recordBound) × (wellFormed (now pool) ≡ true) × (first < 65536) × (count < 65536) × LinesBelow (now text) (now groups) (now items) n end ⌝ }
     ensures { λ r. ⌜ r ≡ keysDefined (now (text .entry)) (now (pool .entry)) (now (groups .entry)) (now (items .entry)) n count first ⌝ }
 {
     let mut i: usize = 0;
@@ -76,7 +77,7 @@ fn label_in<'a>(
     groups: &[u16],
     out: &mut [u8],
 ) -> usize
-    requires { ⌜ (n < 4294967296) × (wellFormed (now pool) ≡ true) × (k < 4294967296) × LinesBelow (now text) (now groups) (now items) n end ⌝ }
+    requires { ⌜ (n < recordBound) × (wellFormed (now pool) ≡ true) × (k < recordBound) × LinesBelow (now text) (now groups) (now items) n end ⌝ }
     ensures { λ r. ⌜ r ≡ length (recordLabel (now (text .entry)) mode (now (pool .entry)) (now (groups .entry)) (now (items .entry)) n k number) ⌝ }
     ensures area { λ _. ⌜ now (out .exit) ≡ fitted
         (recordLabel (now (text .entry)) mode (now (pool .entry)) (now (groups .entry)) (now (items .entry)) n k number)
@@ -113,7 +114,7 @@ fn labelled_before(
     k: usize,
     number: usize,
 ) -> usize
-    requires { ⌜ k < 4294967296 ⌝ }
+    requires { ⌜ k < recordBound ⌝ }
     ensures { λ r. ⌜ ((r < k) → Alike (now (text .entry)) (now (items .entry)) k number r) ⌝ }
 {
     if (mode == 0) | (number == 0) | (sources < number) {
@@ -138,7 +139,7 @@ fn write_label_of<'a>(
     groups: &[u16],
     labels: &mut [u8],
 ) -> usize
-    requires { ⌜ (n < 4294967296) × (wellFormed (now pool) ≡ true) × (k < 4294967296) × LinesBelow (now text) (now groups) (now items) n end × (s .fits ≡ true)
+    requires { ⌜ (n < recordBound) × (wellFormed (now pool) ≡ true) × (k < recordBound) × LinesBelow (now text) (now groups) (now items) n end × (s .fits ≡ true)
         × (s .«label_bytes» ≤ length (now labels)) × Labelled (now text) mode (now pool) n m s (now items) (now groups) (now labels) ⌝ }
     ensures { λ r. ⌜ r ≡ length (recordLabel (now (text .entry)) mode (now (pool .entry)) (now (groups .entry)) (now (items .entry)) n k (c .number)) ⌝ }
     ensures area { λ _. ⌜ now (labels .exit) ≡ fittedAt
@@ -183,7 +184,7 @@ fn cite<'a>(
     groups: &[u16],
     labels: &mut [u8],
 ) -> Numbering
-    requires { ⌜ (n < 4294967296) × (wellFormed (now pool) ≡ true) × (k < 4294967296) × (s .sources < 1099511627776) × (s .«label_bytes» ≤ roomOf (now labels))
+    requires { ⌜ (n < recordBound) × (wellFormed (now pool) ≡ true) × (k < recordBound) × (s .sources < sourceBound) × (s .«label_bytes» ≤ roomOf (now labels))
         × LinesBelow (now text) (now groups) (now items) n end × Labelled (now text) mode (now pool) n m s (now items) (now groups) (now labels) ⌝ }
     ensures { λ r. ⌜ Advances 1 (λ t. citeIn (now (text .entry)) mode (now (pool .entry)) n t k) s r (now (items .entry)) (now (groups .entry))
         (now (labels .entry)) (now (items .exit)) (now (groups .entry)) (now (labels .exit)) ⌝ }
@@ -221,7 +222,7 @@ fn cite_from<'a>(
     groups: &[u16],
     labels: &mut [u8],
 ) -> Numbering
-    requires { ⌜ (n < 4294967296) × (wellFormed (now pool) ≡ true) × (first < 65536) × (count < 65536) × (s .sources < 549755813888)
+    requires { ⌜ (n < recordBound) × (wellFormed (now pool) ≡ true) × (first < 65536) × (count < 65536) × (s .sources < 549755813888)
         × (s .«label_bytes» ≤ roomOf (now labels)) × LinesBelow (now text) (now groups) (now items) n end
         × Labelled (now text) mode (now pool) n m s (now items) (now groups) (now labels) ⌝ }
     ensures { λ r. ⌜ Advances count (λ t. citeFrom (now (text .entry)) mode (now (pool .entry)) n count t first) s r (now (items .entry)) (now (groups .entry))
@@ -264,7 +265,7 @@ pub fn number_group<'a>(
     groups: &mut [u16],
     labels: &mut [u8],
 ) -> Numbering
-    requires { ⌜ (n < 4294967296) × (wellFormed (now pool) ≡ true) × (g < 4294967296) × (s .sources < 549755813888) × (s .«label_bytes» ≤ roomOf (now labels))
+    requires { ⌜ (n < recordBound) × (wellFormed (now pool) ≡ true) × (g < recordBound) × (s .sources < 549755813888) × (s .«label_bytes» ≤ roomOf (now labels))
         × LinesBelow (now text) (now groups) (now items) n end × Labelled (now text) mode (now pool) n m s (now items) (now groups) (now labels) ⌝ }
     ensures { λ r. ⌜ Advances 65535 (λ t. numberGroup (now (text .entry)) mode (now (pool .entry)) n t g) s r (now (items .entry)) (now (groups .entry))
         (now (labels .entry)) (now (items .exit)) (now (groups .exit)) (now (labels .exit)) ⌝ }

@@ -31,6 +31,7 @@ use Rattle.order.specs.Ordered.{rankBy, definitionOf, sourceBy}
 use Rattle.definition.proofs.EntryLaws.{part-none}
 use Rattle.definition.proofs.DefinedLaws.{below-count, line-there, entry-there}
 use Rattle.records.specs.Widths.{item-number, group-first}
+use Rattle.records.specs.Bounds.{recordBound}
 
 -- the number of a definition -------------------------------------------------------------------------------------------------------
 
@@ -107,7 +108,7 @@ module _ (text pool groups items : List ℕ) {d : Defined} {r : List ℕ} where
   unfolding keyBy
   key-nothing p e = e ∙ part-none text ∙ rw p refl
 
-pub line-below : (pool : List ℕ) (n : ℕ) {d : Defined} {g : ℕ} → n < 4294967296 → DefinedIn pool n d → d ≡ Line g → g < 4294967296
+pub line-below : (pool : List ℕ) (n : ℕ) {d : Defined} {g : ℕ} → n < recordBound → DefinedIn pool n d → d ≡ Line g → g < recordBound
 line-below pool n {d} {g} l h p = let k : g < n = rw p at h in omega arith
 
 pub ruleset key-laws = (line-there, line-below, entry-there, key-line, key-entry, key-nothing)
@@ -158,7 +159,7 @@ module _ (items : List ℕ) (m k i : ℕ) where
 
 pub ruleset with-laws = (with-start, with-out, with-stop, with-more)
 
-pub with-below : (items : List ℕ) (m k : ℕ) {j : ℕ} → j ≡ firstWith items m k → m < 4294967296 → j < 4294967296
+pub with-below : (items : List ℕ) (m k : ℕ) {j : ℕ} → j ≡ firstWith items m k → m < recordBound → j < recordBound
 unfolding firstWith
 with-below items m k p h = let l = first-by (hasNumber items k) m 0 in omega arith
 

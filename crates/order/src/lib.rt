@@ -13,6 +13,7 @@ ghost use Rattle.definition.specs.Definitions.{LinesBelow};
 ghost use Rattle.order.specs.Order.{less, insertBy, insertedFrom};
 ghost use Rattle.order.specs.Ordered.{definitionOf, sourceBy, rankBy, greaterAt, shifted, Rising, SortedBy};
 ghost use Rattle.order.specs.References.{rankIn, SourcesKnown, referencesIn};
+ghost use Rattle.records.specs.Bounds.{recordBound};
 
 // Whether the bytes `a` come before the bytes `b`.
 fn is_less(a: &[u8], b: &[u8]) -> bool
@@ -45,7 +46,7 @@ fn is_greater<'a>(
     references: &[u16],
     i: usize,
 ) -> bool
-    requires { ⌜ (n < 4294967296) × (wellFormed (now pool) ≡ true) ⌝ }
+    requires { ⌜ (n < recordBound) × (wellFormed (now pool) ≡ true) ⌝ }
     ensures { λ r. ⌜ r ≡ greaterAt (rankBy (now (text .entry)) (now (pool .entry)) (now (groups .entry)) (now (items .entry)) n) (now (rank .entry)) (now (references .entry)) i ⌝ }
 {
     let d = records::number_at(references, i);
@@ -63,7 +64,7 @@ fn place_of<'a>(
     references: &[u16],
     count: usize,
 ) -> usize
-    requires { ⌜ (n < 4294967296) × (wellFormed (now pool) ≡ true) × (count < 65536)
+    requires { ⌜ (n < recordBound) × (wellFormed (now pool) ≡ true) × (count < 65536)
         × Rising (greaterAt (rankBy (now text) (now pool) (now groups) (now items) n) (now rank) (now references)) count ⌝ }
     ensures { λ r. ⌜ r ≡ first
         (greaterAt (rankBy (now (text .entry)) (now (pool .entry)) (now (groups .entry)) (now (items .entry)) n) (now (rank .entry)) (now (references .entry)))
@@ -109,7 +110,7 @@ fn insert_definition<'a>(
     d: u16,
     references: &mut [u16],
 )
-    requires { ⌜ (n < 4294967296) × (wellFormed (now pool) ≡ true) × (count < 65535) × (count < length (now references))
+    requires { ⌜ (n < recordBound) × (wellFormed (now pool) ≡ true) × (count < 65535) × (count < length (now references))
         × SortedBy (rankBy (now text) (now pool) (now groups) (now items) n) (take count (now references)) ⌝ }
     ensures { λ _. ⌜ now (references .exit) ≡ written
         (insertBy (rankBy (now (text .entry)) (now (pool .entry)) (now (groups .entry)) (now (items .entry)) n) (take count (now (references .entry))) d)
@@ -132,7 +133,7 @@ fn order_definitions<'a>(
     sources: usize,
     references: &mut [u16],
 )
-    requires { ⌜ (n ≤ 32768) × (m < 4294967296) × (wellFormed (now pool) ≡ true) × (sources ≤ 65535) × (sources ≤ length (now references))
+    requires { ⌜ (n ≤ 32768) × (m < recordBound) × (wellFormed (now pool) ≡ true) × (sources ≤ 65535) × (sources ≤ length (now references))
         × SourcesKnown (now text) (now pool) (now groups) (now items) n m sources × LinesBelow (now text) (now groups) (now items) n lines ⌝ }
     ensures { λ _. ⌜ now (references .exit) ≡ written
         (map (definitionOf (now (text .entry)) (now (pool .entry)) (now (groups .entry)) (now (items .entry)) n m)
@@ -158,7 +159,7 @@ fn number_sources<'a>(
     sources: usize,
     references: &mut [u16],
 )
-    requires { ⌜ (n < 4294967296) × (m < 4294967296) × (wellFormed (now pool) ≡ true) × (sources ≤ length (now references)) ⌝ }
+    requires { ⌜ (n < recordBound) × (m < recordBound) × (wellFormed (now pool) ≡ true) × (sources ≤ length (now references)) ⌝ }
     ensures { λ _. ⌜ now (references .exit) ≡ written
         (map (sourceBy (now (text .entry)) (now (pool .entry)) (now (groups .entry)) (now (items .entry)) n m) (take sources (now (references .entry))))
         (now (references .entry)) ⌝ }
@@ -183,7 +184,7 @@ fn order_by_rank<'a>(
     sources: usize,
     references: &mut [u16],
 )
-    requires { ⌜ (n ≤ 32768) × (m < 4294967296) × (wellFormed (now pool) ≡ true) × (sources ≤ 65535) × (sources ≤ length (now references))
+    requires { ⌜ (n ≤ 32768) × (m < recordBound) × (wellFormed (now pool) ≡ true) × (sources ≤ 65535) × (sources ≤ length (now references))
         × SourcesKnown (now text) (now pool) (now groups) (now items) n m sources × LinesBelow (now text) (now groups) (now items) n lines ⌝ }
     ensures { λ _. ⌜ now (references .exit) ≡ written
         (insertedFrom (rankIn (now (text .entry)) (now (pool .entry)) (now (groups .entry)) (now (items .entry)) n m) sources [] 1) (now (references .entry)) ⌝ }

@@ -9,6 +9,7 @@ ghost use Rattle.definition.specs.Definitions.{LinesBelow};
 ghost use Rattle.definition.specs.Defined.{definitionNumber, definitionAt, keyBy, DefinedIn};
 ghost use Rattle.order.specs.References.{firstWith, numberOfKey};
 ghost use Rattle.order.specs.Ordered.{rankBy, definitionOf, sourceBy};
+ghost use Rattle.records.specs.Bounds.{recordBound};
 
 // The number of a definition: a group's own, an entry's after those of the `n` groups.
 fn definition_number(pool: &[u8], n: usize, d: Defined) -> u16
@@ -49,7 +50,7 @@ fn key_by<'a>(
     n: usize,
     d: Defined,
 ) -> &'a [u8]
-    requires { ⌜ (n < 4294967296) × (wellFormed (now pool) ≡ true) × DefinedIn (now pool) n d ⌝ }
+    requires { ⌜ (n < recordBound) × (wellFormed (now pool) ≡ true) × DefinedIn (now pool) n d ⌝ }
     ensures { λ r. ⌜ now r ≡ keyBy (now (text .entry)) (now (pool .entry)) (now (groups .entry)) (now (items .entry)) d ⌝ }
 {
     match d {
@@ -74,7 +75,7 @@ pub fn rank_by<'a>(
     n: usize,
     i: usize,
 ) -> &'a [u8]
-    requires { ⌜ (n < 4294967296) × (wellFormed (now pool) ≡ true) ⌝ }
+    requires { ⌜ (n < recordBound) × (wellFormed (now pool) ≡ true) ⌝ }
     ensures { λ r. ⌜ now r ≡ rankBy (now (text .entry)) (now (pool .entry)) (now (groups .entry)) (now (items .entry)) n i ⌝ }
 {
     let d = definition_at(pool, n, i);
@@ -89,7 +90,7 @@ pub fn rank_by<'a>(
 
 // The first of the `m` item records with the number `k`; `m` where there is none.
 fn first_with(items: &[u16], m: usize, k: usize) -> usize
-    requires { ⌜ m < 4294967296 ⌝ }
+    requires { ⌜ m < recordBound ⌝ }
     ensures { λ r. ⌜ r ≡ firstWith (now (items .entry)) m k ⌝ }
 {
     let mut j: usize = 0;
@@ -113,7 +114,7 @@ pub fn definition_of(
     m: usize,
     k: usize,
 ) -> u16
-    requires { ⌜ (n ≤ 32768) × (m < 4294967296) × (wellFormed (now pool) ≡ true) × LinesBelow (now text) (now groups) (now items) n lines ⌝ }
+    requires { ⌜ (n ≤ 32768) × (m < recordBound) × (wellFormed (now pool) ≡ true) × LinesBelow (now text) (now groups) (now items) n lines ⌝ }
     ensures { λ r. ⌜ r ≡ definitionOf (now (text .entry)) (now (pool .entry)) (now (groups .entry)) (now (items .entry)) n m k ⌝ }
 {
     let key = records::key_in(text, items, first_with(items, m, k));
@@ -126,7 +127,7 @@ pub fn definition_of(
 
 // The number of the first of the `m` item records that is numbered and has the key `key`.
 fn number_of_key(text: &[u8], items: &[u16], m: usize, key: &[u8]) -> usize
-    requires { ⌜ m < 4294967296 ⌝ }
+    requires { ⌜ m < recordBound ⌝ }
     ensures { λ r. ⌜ r ≡ numberOfKey (now (text .entry)) (now (items .entry)) m (now (key .entry)) ⌝ }
     ensures small { λ r. ⌜ r < 65536 ⌝ }
 {
@@ -150,7 +151,7 @@ pub fn source_by<'a>(
     m: usize,
     i: usize,
 ) -> u16
-    requires { ⌜ (n < 4294967296) × (m < 4294967296) × (wellFormed (now pool) ≡ true) ⌝ }
+    requires { ⌜ (n < recordBound) × (m < recordBound) × (wellFormed (now pool) ≡ true) ⌝ }
     ensures { λ r. ⌜ r ≡ sourceBy (now (text .entry)) (now (pool .entry)) (now (groups .entry)) (now (items .entry)) n m i ⌝ }
 {
     let d = definition_at(pool, n, i);

@@ -4,3 +4,4 @@ pub mod ItemRecords
 pub mod Fields
 pub mod Writing
 pub mod Facts
+pub mod Bounds

@@ -2,11 +2,12 @@
 pub mod item_records;
 
 ghost use mathlib.Core.Path.{_≡_};
-ghost use Prim.Native.Nat.{_<_};
+ghost use Prim.Native.Nat.{_+_, _<_};
 ghost use lib.ListN.{getD, set};
 ghost use Rattle.records.specs.Facts.{ItemPlaces};
 ghost use Rattle.records.specs.Records.{groupField, keyIn, suppressedIn, bareIn, closeOfRecord, nextIn};
 ghost use Rattle.records.specs.Fields.{itemField};
+ghost use Rattle.records.specs.Bounds.{recordBound};
 
 // How many numbers an item record has.
 pub const ITEM_WIDTH: usize = 16;
@@ -79,7 +80,7 @@ pub fn put(area: &mut [u16], i: usize, v: u16)
 
 // The number at place `c` of item record `k`.
 pub fn item_field(items: &[u16], k: usize, c: usize) -> usize
-    requires { ⌜ (k < 4294967296) × (c < 65536) ⌝ }
+    requires { ⌜ (k < recordBound) × (c < 65536) ⌝ }
     ensures { λ r. ⌜ (r ≡ itemField (now (items .entry)) k c) × (r < 65536) ⌝ }
 {
     number_at(items, ITEM_WIDTH * k + c)
@@ -87,7 +88,7 @@ pub fn item_field(items: &[u16], k: usize, c: usize) -> usize
 
 // The number at place `c` of group record `g`.
 pub fn group_field(groups: &[u16], g: usize, c: usize) -> usize
-    requires { ⌜ (g < 4294967296) × (c < 65536) ⌝ }
+    requires { ⌜ (g < recordBound) × (c < 65536) ⌝ }
     ensures { λ r. ⌜ (r ≡ groupField (now (groups .entry)) g c) × (r < 65536) ⌝ }
 {
     number_at(groups, GROUP_WIDTH * g + c)
@@ -95,7 +96,7 @@ pub fn group_field(groups: &[u16], g: usize, c: usize) -> usize
 
 // The key of item record `k`.
 pub fn key_in<'a>(text: &'a [u8], items: &[u16], k: usize) -> &'a [u8]
-    requires { ⌜ k < 4294967296 ⌝ }
+    requires { ⌜ k < recordBound ⌝ }
     ensures { λ r. ⌜ now r ≡ keyIn (now (text .entry)) (now (items .entry)) k ⌝ }
 {
     let at = item_field(items, k, ITEM_KEY);
@@ -105,7 +106,7 @@ pub fn key_in<'a>(text: &'a [u8], items: &[u16], k: usize) -> &'a [u8]
 
 // Whether item record `k` is marked as suppressed.
 pub fn suppressed_in(items: &[u16], k: usize) -> bool
-    requires { ⌜ k < 4294967296 ⌝ }
+    requires { ⌜ k < recordBound ⌝ }
     ensures { λ r. ⌜ r ≡ suppressedIn (now (items .entry)) k ⌝ }
 {
     item_field(items, k, ITEM_MARKS) % 2 == 1
@@ -113,7 +114,7 @@ pub fn suppressed_in(items: &[u16], k: usize) -> bool
 
 // Whether it has no prefix, no locator, and is not suppressed.
 pub fn bare_in(items: &[u16], k: usize) -> bool
-    requires { ⌜ k < 4294967296 ⌝ }
+    requires { ⌜ k < recordBound ⌝ }
     ensures { λ r. ⌜ r ≡ bareIn (now (items .entry)) k ⌝ }
 {
     let prefix = item_field(items, k, ITEM_PREFIX_LENGTH);
@@ -124,7 +125,7 @@ pub fn bare_in(items: &[u16], k: usize) -> bool
 
 // The place of the close of group record `g`.
 pub fn close_of_record(groups: &[u16], g: usize) -> usize
-    requires { ⌜ g < 4294967296 ⌝ }
+    requires { ⌜ g < recordBound ⌝ }
     ensures { λ r. ⌜ r ≡ closeOfRecord (now (groups .entry)) g ⌝ }
 {
     let end = group_field(groups, g, GROUP_PLACE) + group_field(groups, g, GROUP_LENGTH);
@@ -133,7 +134,7 @@ pub fn close_of_record(groups: &[u16], g: usize) -> usize
 
 // Where the group after number `g` of `n` begins; the text's end where there is none.
 pub fn next_in(text: &[u8], groups: &[u16], n: usize, g: usize) -> usize
-    requires { ⌜ g < 4294967295 ⌝ }
+    requires { ⌜ g + 1 < recordBound ⌝ }
     ensures { λ r. ⌜ r ≡ nextIn (now (text .entry)) (now (groups .entry)) n g ⌝ }
 {
     if g + 1 < n {

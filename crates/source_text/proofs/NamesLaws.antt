@@ -26,7 +26,7 @@ use Rattle.pool.proofs.ReaderLaws.{fields-of-entry, fields-order, fields-head, 
 use Rattle.source_text.specs.Text.{beside, addName, namesOf}
 use Rattle.source_parts.specs.Names.{nameOf}
 use Rattle.source_parts.specs.Lengths.{lenOf, familyLen, nameLenBy, nameLen, givenLen}
-use Rattle.source_text.specs.Lengths.{besideLen, opened, addLen}
+use Rattle.source_text.specs.Lengths.{besideLen, opened, addLen, lengthBound}
 use Rattle.source_text.specs.Room.{Fit, NameFits, NextFits}
 use Rattle.source_text.proofs.WriteLaws.{beside-length, beside-more, fit-total, fit-opened, fit-rest, fit-written}
 use Rattle.source_parts.proofs.NameLaws.{name-length}
@@ -97,7 +97,7 @@ module _ (s : List ℕ) (i n : ℕ) (r : NameParts) where
   pub next-bound : (fs : List Field) {m k : ℕ} → length s ≤ 32768 → ReadsName s r (nameAfter fs) → m ≡ nameLen r → k ≡ besideLen n 2 m → k ≤ n + 65540
   next-bound fs {m} h q e g = let a = len-small h q e in rw g (omega (arith, beside-at-most n 2 m))
 
-  pub next-sum : {x : Name} {m : ℕ} → length s ≤ 32768 → ReadsName s r x → m ≡ nameLen r → n ≤ 4294967296 → n + 2 + m < 9223372036854775808
+  pub next-sum : {x : Name} {m : ℕ} → length s ≤ 32768 → ReadsName s r x → m ≡ nameLen r → n ≤ lengthBound → n + 2 + m < 9223372036854775808
   next-sum h q e l = let a = len-small h q e in omega arith
 
 pub next-none : (s : List ℕ) (i n : ℕ) (fs : List Field) → (byteAt s i ≡ 2 → ⊥) → n ≡ fold addLen n (nameAt (byteAt s i) fs)
@@ -107,7 +107,7 @@ next-none s i n fs t = rw (ne-eqb (byteAt s i) 2 t) refl
 pub ruleset next-laws = (family-small, given-small, next-sum, next-name, next-bound, next-none)
 
 -- the bounds of the loop
-pub names-small : (s : List ℕ) (i e n : ℕ) → n ≤ 65540 * i → i ≤ e → e ≤ length s → length s ≤ 32768 → n ≤ 4294967296
+pub names-small : (s : List ℕ) (i e n : ℕ) → n ≤ 65540 * i → i ≤ e → e ≤ length s → length s ≤ 32768 → n ≤ lengthBound
 names-small s i e n a b c d = omega arith
 
 pub names-grow : (s : List ℕ) (i n : ℕ) {k r : ℕ} → n ≤ 65540 * i → k ≡ fieldEnd s i → r ≤ n + 65540 → r ≤ 65540 * k

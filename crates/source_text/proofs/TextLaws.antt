@@ -20,7 +20,7 @@ use Rattle.source_text.specs.Text.{beside, namesOf, headOf, ended, bodyO
 use Rattle.source.specs.Entry.{yearOf}
 use Rattle.source_parts.specs.Parens.{inParens}
 use Rattle.source_parts.specs.Lengths.{yearLen, parensLen, lenOf}
-use Rattle.source_text.specs.Lengths.{besideLen}
+use Rattle.source_text.specs.Lengths.{besideLen, lengthBound}
 use Rattle.source.specs.Years.{writtenYear, YearInside, ReadsYear}
 use Rattle.source_text.specs.Room.{Fit}
 use Rattle.source_parts.proofs.NameLaws.{found-length}
@@ -196,7 +196,7 @@ module _ (s : List ℕ) (at e : ℕ) (y : EntryYear) where
   head-long r p q g = g ∙ rw (p, year-long s y _ r q) (sym (beside-length (32 ∷ []) (namesOf (entryFrom s at e)) (inParens (yearOf (entryFrom s at e)))))
 
   pub head-bound : (n m : ℕ) {k : ℕ} → EntryIn s at e → ReadsYear s y (yearOf (entryFrom s at e)) → n ≤ 2147614720 → m ≡ parensLen y
-      → k ≡ besideLen n 1 m → k ≤ 4294967296
+      → k ≡ besideLen n 1 m → k ≤ lengthBound
   head-bound n m h r l q g = omega (arith, year-bound m h r q, beside-at-most n 1 m)
 
 pub ruleset head-len-laws = (year-small, entry-small, head-sum, head-long, head-bound)
@@ -206,7 +206,7 @@ module _ (s : List ℕ) (at e : ℕ) (f : Found) where
   title-bound : (m : ℕ) → EntryIn s at e → Reads s f (fieldWith 8 (fieldsOf s at e)) → m ≡ lenOf f → m ≤ 32768
   title-bound m h r q = rw q (inside-small s f (h .small) (r .inside))
 
-  pub body-sum : {n m : ℕ} → EntryIn s at e → Reads s f (fieldWith 8 (fieldsOf s at e)) → n ≤ 4294967296 → m ≡ lenOf f → n + 2 + m < 9223372036854775808
+  pub body-sum : {n m : ℕ} → EntryIn s at e → Reads s f (fieldWith 8 (fieldsOf s at e)) → n ≤ lengthBound → m ≡ lenOf f → n + 2 + m < 9223372036854775808
   body-sum {n} {m} h r l q = omega (arith, title-bound m h r q)
 
   body-long : (n m k : ℕ) → Reads s f (fieldWith 8 (fieldsOf s at e)) → n ≡ length (headOf (entryFrom s at e)) → m ≡ lenOf f
@@ -215,7 +215,7 @@ module _ (s : List ℕ) (at e : ℕ) (f : Found) where
   body-long n m k r p q g =
       g ∙ rw (p, title-long s f _ r q) (sym (beside-length (46 ∷ 32 ∷ []) (headOf (entryFrom s at e)) (Option·getD (fieldWith 8 (fieldsOf s at e)) [])))
 
-  pub text-one : (n m : ℕ) {k : ℕ} → EntryIn s at e → Reads s f (fieldWith 8 (fieldsOf s at e)) → n ≤ 4294967296 → m ≡ lenOf f → k ≡ besideLen n 2 m
+  pub text-one : (n m : ℕ) {k : ℕ} → EntryIn s at e → Reads s f (fieldWith 8 (fieldsOf s at e)) → n ≤ lengthBound → m ≡ lenOf f → k ≡ besideLen n 2 m
       → Fits w64 (k + 1)
   text-one n m h r l q g = omega (arith, title-bound m h r q, beside-at-most n 2 m)
 

@@ -7,6 +7,10 @@ use Rattle.base.specs.Pick.{pick}
 use Rattle.pool.specs.Entries.{Name}
 use Rattle.source_parts.specs.Names.{nameOf}
 
+-- more bytes than the text of any entry has
+abbrev pub lengthBound : ℕ
+lengthBound = 4294967296
+
 -- the length of `beside`, with a separator of `sep` bytes
 unfoldable pub besideLen : ℕ → ℕ → ℕ → ℕ
 besideLen a sep b = pick (eqb a 0) b (pick (eqb b 0) a (a + sep + b))

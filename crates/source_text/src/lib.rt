@@ -7,7 +7,7 @@ ghost use Prim.Native.Nat.{_+_, _≤_, _<_};
 ghost use lib.ListN.{length, take};
 ghost use Rattle.base.specs.Lists.{byteAt, written};
 ghost use Rattle.base.specs.Areas.{Wrote};
-ghost use Rattle.source_text.specs.Lengths.{besideLen, opened, addLen};
+ghost use Rattle.source_text.specs.Lengths.{besideLen, opened, addLen, lengthBound};
 ghost use Rattle.source_text.specs.Text.{addName, namesOf, beside, headOf, ended, bodyOf, sourceTextOf};
 ghost use Rattle.source.specs.Entry.{yearOf};
 ghost use Rattle.source_parts.specs.Parens.{inParens};
@@ -57,7 +57,7 @@ fn separate(area: &mut [u8], k: usize, m: usize, sep: &[u8]) -> usize
 
 // The length `n` of the names so far, with the name that the field at `i` begins, if it is a 2; the fields after it begin at `end`.
 fn next_len(pool: &[u8], i: usize, end: usize, e: usize, n: usize) -> usize
-    requires { ⌜ (i < length (now pool)) × (length (now pool) ≤ 32768) × FieldsIn (now pool) end e × (n ≤ 4294967296) ⌝ }
+    requires { ⌜ (i < length (now pool)) × (length (now pool) ≤ 32768) × FieldsIn (now pool) end e × (n ≤ lengthBound) ⌝ }
     ensures { λ r. ⌜ (r ≡ fold addLen n (nameAt (byteAt (now (pool .entry)) i) (fieldsOf (now (pool .entry)) end e))) × (r ≤ n + 65540) ⌝ }
 {
     if pool[i] == 2 {
@@ -195,7 +195,7 @@ fn write_text(pool: &[u8], at: usize, e: usize, area: &mut [u8])
 // How many bytes names and year are.
 fn head_len(pool: &[u8], at: usize, e: usize) -> usize
     requires { ⌜ EntryIn (now pool) at e ⌝ }
-    ensures { λ r. ⌜ (r ≡ length (headOf (entryFrom (now (pool .entry)) at e))) × (r ≤ 4294967296) ⌝ }
+    ensures { λ r. ⌜ (r ≡ length (headOf (entryFrom (now (pool .entry)) at e))) × (r ≤ lengthBound) ⌝ }
 {
     let year = source::csl_year(pool, at, e);
     let names = names_len(pool, at, e);

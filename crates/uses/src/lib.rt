@@ -4,6 +4,7 @@ ghost use Prim.Native.Nat.{_+_, _%_, _<_};
 ghost use Rattle.base.specs.Pick.{pick};
 ghost use Rattle.uses.specs.Uses.{usedAt, lastUse, alikeAt, lastAlike, setLast};
 ghost use Rattle.uses.specs.Uses.{Counts};
+ghost use Rattle.records.specs.Bounds.{recordBound, sourceBound};
 
 // The number and the use of an item record, and the sources after it.
 pub struct Count {
@@ -14,7 +15,7 @@ pub struct Count {
 
 // Whether item record `j` is numbered, and has the key `key`.
 pub fn is_use(text: &[u8], items: &[u16], j: usize, key: &[u8]) -> bool
-    requires { ⌜ j < 4294967296 ⌝ }
+    requires { ⌜ j < recordBound ⌝ }
     ensures { λ r. ⌜ r ≡ usedAt (now (text .entry)) (now (items .entry)) (now (key .entry)) j ⌝ }
 {
     let number = records::item_field(items, j, records::ITEM_NUMBER);
@@ -26,7 +27,7 @@ pub fn is_use(text: &[u8], items: &[u16], j: usize, key: &[u8]) -> bool
 
 // The last item record before `k` that is numbered and has the key of record `k`; `k` where there is none.
 pub fn last_use(text: &[u8], items: &[u16], k: usize) -> usize
-    requires { ⌜ k < 4294967296 ⌝ }
+    requires { ⌜ k < recordBound ⌝ }
     ensures { λ r. ⌜ r ≡ lastUse (now (text .entry)) (now (items .entry)) k ⌝ }
 {
     let key = records::key_in(text, items, k);
@@ -42,7 +43,7 @@ pub fn last_use(text: &[u8], items: &[u16], k: usize) -> usize
 
 // Whether item record `j` has the number `number`, the mark of suppression `mark` and the key `key`.
 fn is_alike(text: &[u8], items: &[u16], number: usize, mark: usize, key: &[u8], j: usize) -> bool
-    requires { ⌜ j < 4294967296 ⌝ }
+    requires { ⌜ j < recordBound ⌝ }
     ensures { λ r. ⌜ r ≡ alikeAt (now (text .entry)) (now (items .entry)) number mark (now (key .entry)) j ⌝ }
 {
     if records::item_field(items, j, records::ITEM_NUMBER) != number {
@@ -57,7 +58,7 @@ fn is_alike(text: &[u8], items: &[u16], number: usize, mark: usize, key: &[u8], 
 // The last item record before `k` that has the number `number`, and the mark of suppression and the key of record `k`: it has the label of
 // record `k` with that number. `k` where there is none.
 pub fn last_alike(text: &[u8], items: &[u16], k: usize, number: usize) -> usize
-    requires { ⌜ k < 4294967296 ⌝ }
+    requires { ⌜ k < recordBound ⌝ }
     ensures { λ r. ⌜ r ≡ lastAlike (now (text .entry)) (now (items .entry)) k number ⌝ }
 {
     let mark = records::item_field(items, k, records::ITEM_MARKS) % 2;
@@ -86,7 +87,7 @@ fn next_use(pooled: bool, before: usize) -> u16
 
 // The number and the use of item record `k`, with `sources` before it.
 pub fn count_in(text: &[u8], items: &[u16], pooled: bool, sources: usize, k: usize) -> Count
-    requires { ⌜ (k < 4294967296) × (sources < 1099511627776) ⌝ }
+    requires { ⌜ (k < recordBound) × (sources < sourceBound) ⌝ }
     ensures { λ r. ⌜ Counts (now (text .entry)) (now (items .entry)) pooled sources k r ⌝ }
 {
     let j = last_use(text, items, k);
@@ -107,7 +108,7 @@ pub fn count_in(text: &[u8], items: &[u16], pooled: bool, sources: usize, k: usi
 
 // The last four numbers of item record `k`.
 pub fn set_last(items: &mut [u16], k: usize, number: u16, use_index: u16, at: u16, len: u16)
-    requires { ⌜ k < 4294967296 ⌝ }
+    requires { ⌜ k < recordBound ⌝ }
     ensures { λ _. ⌜ now (items .exit) ≡ setLast (now (items .entry)) k number use_index at len ⌝ }
 {
     records::put(
