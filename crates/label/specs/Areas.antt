@@ -1,5 +1,6 @@
 -- Follows the code; nothing to believe: an area that was lent for one answer.
 use Prim.Native.Nat.{ℕ}
+use mathlib.Core.Path.{_≡_}
 use mathlib.Core.List.{List, _++_}
 use lib.ListN.{length, take, drop}
 use lib.Dec.{leb}
@@ -13,3 +14,7 @@ fitted out area = pick (leb (length out) (length area)) (written out area) area
 -- the same from place `at` of the area on
 unfoldable pub fittedAt : List ℕ → ℕ → List ℕ → List ℕ
 fittedAt out at area = take at area ++ fitted out (drop at area)
+
+-- what a writer answers and leaves: the length of `out`, and the area with it where it fits
+abbrev pub Fitted : List ℕ → List ℕ → ℕ → List ℕ → Type 0
+Fitted out area r after = (r ≡ length out) × (after ≡ fitted out area)

@@ -12,12 +12,12 @@ ghost use Rattle.pool.specs.Numbers.{signed};
 ghost use Rattle.decimal.specs.Decimal.{decimal};
 ghost use Rattle.source.specs.Decimal.{signedDecimal};
 ghost use Rattle.definition.specs.Parts.{authorGiven, yearBytes};
-ghost use Rattle.label.specs.Areas.{fitted, fittedAt};
+ghost use Rattle.label.specs.Areas.{fittedAt, Fitted};
 ghost use Rattle.label.specs.Labels.{authorYear, yearOnly, labelBy};
 
 // Bytes, where they fit. Their length.
 fn write_bytes(label: &[u8], out: &mut [u8]) -> usize
-    ensures { λ r. ⌜ (r ≡ length (now (label .entry))) × (now (out .exit) ≡ fitted (now (label .entry)) (now (out .entry))) ⌝ }
+    ensures { λ r. ⌜ Fitted (now (label .entry)) (now (out .entry)) r (now (out .exit)) ⌝ }
 {
     let n = label.len();
     if out.len() < n {
@@ -29,7 +29,7 @@ fn write_bytes(label: &[u8], out: &mut [u8]) -> usize
 
 // A number in decimal, where it fits. Its length.
 fn write_number(number: u64, out: &mut [u8]) -> usize
-    ensures { λ r. ⌜ (r ≡ length (decimal number)) × (now (out .exit) ≡ fitted (decimal number) (now (out .entry))) ⌝ }
+    ensures { λ r. ⌜ Fitted (decimal number) (now (out .entry)) r (now (out .exit)) ⌝ }
 {
     let n = decimal::digit_count(number);
     if out.len() < n {
@@ -41,7 +41,7 @@ fn write_number(number: u64, out: &mut [u8]) -> usize
 
 // A number with its sign, where it fits. Its length.
 fn write_signed(negative: bool, magnitude: u64, out: &mut [u8]) -> usize
-    ensures { λ r. ⌜ (r ≡ length (signedDecimal (signed negative magnitude))) × (now (out .exit) ≡ fitted (signedDecimal (signed negative magnitude)) (now (out .entry))) ⌝ }
+    ensures { λ r. ⌜ Fitted (signedDecimal (signed negative magnitude)) (now (out .entry)) r (now (out .exit)) ⌝ }
 {
     let n = source::signed_len(negative, magnitude);
     if out.len() < n {
@@ -63,7 +63,7 @@ fn put_author(author: &[u8], out: &mut [u8])
 
 // An author, a space and a year, where they fit. Their length.
 fn write_both(author: &[u8], year: &[u8], out: &mut [u8]) -> usize
-    ensures { λ r. ⌜ (r ≡ length (now (author .entry) ++ (32 ∷ now (year .entry)))) × (now (out .exit) ≡ fitted (now (author .entry) ++ (32 ∷ now (year .entry))) (now (out .entry))) ⌝ }
+    ensures { λ r. ⌜ Fitted (now (author .entry) ++ (32 ∷ now (year .entry))) (now (out .entry)) r (now (out .exit)) ⌝ }
 {
     let k = author.len() + 1;
     let n = k + year.len();
@@ -77,7 +77,7 @@ fn write_both(author: &[u8], year: &[u8], out: &mut [u8]) -> usize
 
 // The same with a number for a year.
 fn write_both_signed(author: &[u8], negative: bool, magnitude: u64, out: &mut [u8]) -> usize
-    ensures { λ r. ⌜ (r ≡ length (now (author .entry) ++ (32 ∷ signedDecimal (signed negative magnitude)))) × (now (out .exit) ≡ fitted (now (author .entry) ++ (32 ∷ signedDecimal (signed negative magnitude))) (now (out .entry))) ⌝ }
+    ensures { λ r. ⌜ Fitted (now (author .entry) ++ (32 ∷ signedDecimal (signed negative magnitude))) (now (out .entry)) r (now (out .exit)) ⌝ }
 {
     let k = author.len() + 1;
     let n = k + source::signed_len(negative, magnitude);
@@ -92,7 +92,7 @@ fn write_both_signed(author: &[u8], negative: bool, magnitude: u64, out: &mut [u
 // The bytes from `k` on, trimmed at their end, where they fit. Their length.
 fn write_content(label: &[u8], k: usize, out: &mut [u8]) -> usize
     requires { ⌜ k < length (now label) ⌝ }
-    ensures { λ r. ⌜ (r ≡ length (part (now (label .entry)) k (trimEnd (now (label .entry)) k (length (now (label .entry)))))) × (now (out .exit) ≡ fitted (part (now (label .entry)) k (trimEnd (now (label .entry)) k (length (now (label .entry))))) (now (out .entry))) ⌝ }
+    ensures { λ r. ⌜ Fitted (part (now (label .entry)) k (trimEnd (now (label .entry)) k (length (now (label .entry))))) (now (out .entry)) r (now (out .exit)) ⌝ }
 {
     let e = text::trim_end(label, k, label.len());
     write_bytes(&label[k..e], out)
@@ -100,7 +100,7 @@ fn write_content(label: &[u8], k: usize, out: &mut [u8]) -> usize
 
 // "author, space, year, trimmed, or the number if nothing is left", where it fits. Its length.
 fn write_author_year(author: &[u8], year: &[u8], number: u16, out: &mut [u8]) -> usize
-    ensures { λ r. ⌜ (r ≡ length (authorYear number (now (author .entry)) (now (year .entry)))) × (now (out .exit) ≡ fitted (authorYear number (now (author .entry)) (now (year .entry))) (now (out .entry))) ⌝ }
+    ensures { λ r. ⌜ Fitted (authorYear number (now (author .entry)) (now (year .entry))) (now (out .entry)) r (now (out .exit)) ⌝ }
 {
     let k = text::trim_start(author, 0, author.len());
     if k < author.len() {
@@ -119,7 +119,7 @@ fn write_author_year(author: &[u8], year: &[u8], number: u16, out: &mut [u8]) ->
 
 // The same with a number for a year: something is left.
 fn write_author_signed(author: &[u8], negative: bool, magnitude: u64, out: &mut [u8]) -> usize
-    ensures { λ r. ⌜ (r ≡ length (trim (now (author .entry) ++ (32 ∷ signedDecimal (signed negative magnitude))))) × (now (out .exit) ≡ fitted (trim (now (author .entry) ++ (32 ∷ signedDecimal (signed negative magnitude)))) (now (out .entry))) ⌝ }
+    ensures { λ r. ⌜ Fitted (trim (now (author .entry) ++ (32 ∷ signedDecimal (signed negative magnitude)))) (now (out .entry)) r (now (out .exit)) ⌝ }
 {
     let k = text::trim_start(author, 0, author.len());
     if k < author.len() {
@@ -130,7 +130,7 @@ fn write_author_signed(author: &[u8], negative: bool, magnitude: u64, out: &mut 
 
 // "A suppressed item shows the year even if that is empty, else its number", where it fits. Its length.
 fn write_year<'a>(text: &'a [u8], pool: &'a [u8], number: u16, year: Year, out: &mut [u8]) -> usize
-    ensures { λ r. ⌜ (r ≡ length (yearOnly number (yearBytes (now (text .entry)) (now (pool .entry)) year))) × (now (out .exit) ≡ fitted (yearOnly number (yearBytes (now (text .entry)) (now (pool .entry)) year)) (now (out .entry))) ⌝ }
+    ensures { λ r. ⌜ Fitted (yearOnly number (yearBytes (now (text .entry)) (now (pool .entry)) year)) (now (out .entry)) r (now (out .exit)) ⌝ }
 {
     match year {
         Year::InText { part: _ } => write_bytes(definition::year_part(text, pool, year), out),
@@ -152,7 +152,7 @@ fn write_named<'a>(
     year: Year,
     out: &mut [u8],
 ) -> usize
-    ensures { λ r. ⌜ (r ≡ length (authorYear number (authorGiven (now (text .entry)) (now (pool .entry)) author) (Option·getD (yearBytes (now (text .entry)) (now (pool .entry)) year) []))) × (now (out .exit) ≡ fitted (authorYear number (authorGiven (now (text .entry)) (now (pool .entry)) author) (Option·getD (yearBytes (now (text .entry)) (now (pool .entry)) year) [])) (now (out .entry))) ⌝ }
+    ensures { λ r. ⌜ Fitted (authorYear number (authorGiven (now (text .entry)) (now (pool .entry)) author) (Option·getD (yearBytes (now (text .entry)) (now (pool .entry)) year) [])) (now (out .entry)) r (now (out .exit)) ⌝ }
 {
     let name = definition::author_bytes(text, pool, author);
     match year {
@@ -192,7 +192,7 @@ pub fn write_label<'a>(
     year: Year,
     out: &mut [u8],
 ) -> usize
-    ensures { λ r. ⌜ (r ≡ length (labelBy mode suppressed number (authorGiven (now (text .entry)) (now (pool .entry)) author) (yearBytes (now (text .entry)) (now (pool .entry)) year))) × (now (out .exit) ≡ fitted (labelBy mode suppressed number (authorGiven (now (text .entry)) (now (pool .entry)) author) (yearBytes (now (text .entry)) (now (pool .entry)) year)) (now (out .entry))) ⌝ }
+    ensures { λ r. ⌜ Fitted (labelBy mode suppressed number (authorGiven (now (text .entry)) (now (pool .entry)) author) (yearBytes (now (text .entry)) (now (pool .entry)) year)) (now (out .entry)) r (now (out .exit)) ⌝ }
 {
     if mode == 0 {
         return write_number(number as u64, out);
