@@ -152,7 +152,8 @@ fn write_named<'a>(
     year: Year,
     out: &mut [u8],
 ) -> usize
-    ensures { λ r. ⌜ Fitted (authorYear number (authorGiven (now (text .entry)) (now (pool .entry)) author) (Option·getD (yearBytes (now (text .entry)) (now (pool .entry)) year) [])) (now (out .entry)) r (now (out .exit)) ⌝ }
+    ensures { λ r. ⌜ Fitted (authorYear number (authorGiven (now (text .entry)) (now (pool .entry)) author) (Option·getD (yearBytes (now (text .entry)) (now (pool .entry)) year) []))
+        (now (out .entry)) r (now (out .exit)) ⌝ }
 {
     let name = definition::author_bytes(text, pool, author);
     match year {
@@ -192,7 +193,8 @@ pub fn write_label<'a>(
     year: Year,
     out: &mut [u8],
 ) -> usize
-    ensures { λ r. ⌜ Fitted (labelBy mode suppressed number (authorGiven (now (text .entry)) (now (pool .entry)) author) (yearBytes (now (text .entry)) (now (pool .entry)) year)) (now (out .entry)) r (now (out .exit)) ⌝ }
+    ensures { λ r. ⌜ Fitted (labelBy mode suppressed number (authorGiven (now (text .entry)) (now (pool .entry)) author) (yearBytes (now (text .entry)) (now (pool .entry)) year))
+        (now (out .entry)) r (now (out .exit)) ⌝ }
 {
     if mode == 0 {
         return write_number(number as u64, out);
