@@ -20,7 +20,7 @@ use Rattle.decimal.proofs.Laws.{decimal-length}
 use Rattle.definition_line.specs.Lines.{groupEnd, keyOf}
 use Rattle.standing.specs.GroupRecords.{Placed, itemCount}
 use Rattle.standing.proofs.Swept.{groupsOf, placed-groups}
-use Rattle.sweep.specs.Sweep.{answerLines, nextAt, foundAt, sweepIn, sweepOf}
+use Rattle.sweep.specs.Sweep.{foundGroups, nextAt, foundAt, sweepIn, sweepOf}
 use Rattle.sweep.proofs.Sizes.{size-enough}
 use Rattle.label.specs.Labels.{labelBy, labelText}
 use Rattle.annotation.specs.Refusal.{annotateRefusal}
@@ -31,7 +31,7 @@ use Rattle.annotation.proofs.Counts.{sources-by}
 use Rattle.annotation.proofs.ByRecords.{references-length}
 use Rattle.annotation.specs.Items.{eachItem}
 use Rattle.histories.specs.Said.{itemLabels}
-use Rattle.histories.proofs.SaidSo.{says}
+use Rattle.histories.proofs.Demand2.{demand-2}
 use Rattle.listing_lines.specs.Listing.{listingAreas, listingAnswer, TextRefusalsOnly}
 use Rattle.listing_lines.proofs.Answers.{content-groups}
 use Rattle.records.specs.Widths.{itemWidth, groupWidth}
@@ -42,7 +42,7 @@ unfolding sweepIn
 groups-by text zero at = omega arith
 groups-by text (suc n) at = go (ltb at (length text)) (foundAt text at) (λ k. groups-by text n k)
   where
-    go : (b : Bool) (f : GroupAnswer) → ((k : ℕ) → length (sweepIn n text k) ≤ n) → length (pick b (answerLines f ++ sweepIn n text (nextAt at f)) []) ≤ suc n
+    go : (b : Bool) (f : GroupAnswer) → ((k : ℕ) → length (sweepIn n text k) ≤ n) → length (pick b (foundGroups f ++ sweepIn n text (nextAt at f)) []) ≤ suc n
     go true (Found g) h = omega (arith, h (groupEnd g))
     go true NoGroup h = omega (arith, h (at + 1))
     go false f h = omega arith
@@ -110,7 +110,7 @@ module _ (text : List ℕ) (h : length text ≤ 4096) where
   content = contentOf text 0 all []
 
   enough-items : length (content .items) ≤ itemWidth * length text
-  enough-items = omega (arith, says text 0 all [] .count, size-enough text)
+  enough-items = omega (arith, demand-2 text .1 0 [] .count, size-enough text)
 
   enough-groups : length (content .groups) ≤ groupWidth * length text
   unfolding sweepOf
@@ -127,7 +127,7 @@ module _ (text : List ℕ) (h : length text ≤ 4096) where
       let few : length (tallyOf text 0 all [] .sources) ≤ 4096 = omega (arith, sources-by text 0 all [], size-enough text, h) in
       let g : itemCount (groupsOf (placedOf text all [])) ≡ itemCount all = ap itemCount (placed-groups _ text false 0 all) in
       omega
-      (arith, ap length (says text 0 all [] .labels), labels-by text all [] (tallyOf text 0 all [] .sources) few (placedOf text all []), size-enough text)
+      (arith, ap length (demand-2 text .1 0 [] .labels), labels-by text all [] (tallyOf text 0 all [] .sources) few (placedOf text all []), size-enough text)
 
   room : roomFor content (listingAreas (length text)) ≡ true
   unfolding roomFor listingAreas
