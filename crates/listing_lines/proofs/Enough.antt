@@ -31,7 +31,7 @@ use Rattle.annotation.proofs.Counts.{sources-by}
 use Rattle.annotation.proofs.ByRecords.{references-length}
 use Rattle.annotation.specs.Items.{eachItem}
 use Rattle.histories.specs.Said.{itemLabels}
-use Rattle.histories.proofs.SaidSo.{says}
+use Rattle.histories.proofs.Demand2.{demand-2}
 use Rattle.listing_lines.specs.Listing.{listingAreas, listingAnswer, TextRefusalsOnly}
 use Rattle.listing_lines.proofs.Answers.{content-groups}
 use Rattle.records.specs.Widths.{itemWidth, groupWidth}
@@ -110,7 +110,7 @@ module _ (text : List ℕ) (h : length text ≤ 4096) where
   content = contentOf text 0 all []
 
   enough-items : length (content .items) ≤ itemWidth * length text
-  enough-items = omega (arith, says text 0 all [] .count, size-enough text)
+  enough-items = omega (arith, demand-2 text .1 0 [] .count, size-enough text)
 
   enough-groups : length (content .groups) ≤ groupWidth * length text
   unfolding sweepOf
@@ -127,7 +127,7 @@ module _ (text : List ℕ) (h : length text ≤ 4096) where
       let few : length (tallyOf text 0 all [] .sources) ≤ 4096 = omega (arith, sources-by text 0 all [], size-enough text, h) in
       let g : itemCount (groupsOf (placedOf text all [])) ≡ itemCount all = ap itemCount (placed-groups _ text false 0 all) in
       omega
-      (arith, ap length (says text 0 all [] .labels), labels-by text all [] (tallyOf text 0 all [] .sources) few (placedOf text all []), size-enough text)
+      (arith, ap length (demand-2 text .1 0 [] .labels), labels-by text all [] (tallyOf text 0 all [] .sources) few (placedOf text all []), size-enough text)
 
   room : roomFor content (listingAreas (length text)) ≡ true
   unfolding roomFor listingAreas
