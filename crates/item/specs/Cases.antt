@@ -16,7 +16,7 @@ use Rattle.locator.specs.Locators.{locatorOf, locatorFrom, labelled, valued, va
 use Rattle.item.specs.declared.Parsed.the-variants.{Good, Bad}
 use Rattle.item.specs.declared.Judged.the-variants.{Good as AllGood, Bad as FirstBad}
 use Rattle.item.specs.Items.{itemOf, itemIn, itemAt, locatorStart, prefixEnd, suppresses, winner, wins, keyServes, atSign}
-use Rattle.item.specs.Pieces.{piecesOf, pieces, piecesIn, semicolonAt, itemsStart, integralAt, stretch, parsed, allGood}
+use Rattle.item.specs.Pieces.{piecesOf, pieces, piecesIn, semicolonAt, itemsStart, plusAt, stretch, parsed, allGood}
 use Rattle.item.specs.Judge.{judgedOf, judgedIn, firstBad}
 
 -- "`[x -@a, p. 3]` prefix `x`, suppressed, page, `3`"
@@ -63,26 +63,26 @@ escaped = refl
 
 -- `[+@a;]`: two pieces, the second empty
 two-pieces : piecesOf (ascii "[+@a;]") 0 5 ≡ stretch 2 4 ∷ stretch 5 5 ∷ []
-unfolding piecesOf pieces piecesIn semicolonAt itemsStart integralAt ascii
+unfolding piecesOf pieces piecesIn semicolonAt itemsStart plusAt ascii
 two-pieces = refl
 
 -- "one bad item means none": `[+@a;@b]`, `[@a;b;]`, `[+]`
 both-good : judgedOf (ascii "[+@a;@b]") 0 7 ≡ AllGood 2
-unfolding judgedOf judgedIn firstBad allGood parsed piecesOf pieces piecesIn semicolonAt itemsStart integralAt
+unfolding judgedOf judgedIn firstBad allGood parsed piecesOf pieces piecesIn semicolonAt itemsStart plusAt
     itemOf itemIn itemAt locatorStart prefixEnd suppresses winner wins keyServes atSign
     isFirst isMark isKey runEnd keyEnd
     spaceWidth isWhite trimStart trimEnd escapedAt slashes first lastEnd spanOf ascii
 both-good = refl
 
 second-bad : judgedOf (ascii "[@a;b;]") 0 6 ≡ FirstBad 1
-unfolding judgedOf judgedIn firstBad allGood parsed piecesOf pieces piecesIn semicolonAt itemsStart integralAt
+unfolding judgedOf judgedIn firstBad allGood parsed piecesOf pieces piecesIn semicolonAt itemsStart plusAt
     itemOf itemIn itemAt locatorStart prefixEnd suppresses winner wins keyServes atSign
     isFirst isMark isKey runEnd keyEnd
     spaceWidth isWhite trimStart trimEnd escapedAt slashes first lastEnd spanOf ascii
 second-bad = refl
 
 only-plus : judgedOf (ascii "[+]") 0 2 ≡ FirstBad 0
-unfolding judgedOf judgedIn firstBad allGood parsed piecesOf pieces piecesIn semicolonAt itemsStart integralAt
+unfolding judgedOf judgedIn firstBad allGood parsed piecesOf pieces piecesIn semicolonAt itemsStart plusAt
     itemOf itemIn itemAt locatorStart prefixEnd suppresses winner wins keyServes atSign
     isFirst isMark isKey runEnd keyEnd
     spaceWidth isWhite trimStart trimEnd escapedAt slashes first lastEnd spanOf ascii

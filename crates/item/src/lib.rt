@@ -15,7 +15,7 @@ ghost use Rattle.base.specs.First.{first};
 ghost use Rattle.item.specs.Facts.{ItemInOrder, ItemsInOrder};
 ghost use Rattle.key.specs.Keys.{keyEnd};
 ghost use Rattle.item.specs.Items.{keyServes, wins, winner, suppresses, prefixEnd, itemAt, itemOf, isGood};
-ghost use Rattle.item.specs.Pieces.{semicolonAt, integralAt, itemsStart};
+ghost use Rattle.item.specs.Pieces.{semicolonAt, plusAt, itemsStart};
 ghost use Rattle.item.specs.Judge.{judgedOf};
 
 // The parts of an item; `whole` is the whole locator.
@@ -39,10 +39,10 @@ pub enum Judged {
     Bad { item: usize },
 }
 
-// Whether a `+` right after the bracket at `p` marks all its items integral.
-pub fn is_integral(text: &[u8], p: usize) -> bool
+// Whether a `+` stands right after the bracket at `p`.
+fn has_plus(text: &[u8], p: usize) -> bool
     requires { ⌜ p < length (now text) ⌝ }
-    ensures { λ r. ⌜ r ≡ integralAt (now (text .entry)) p ⌝ }
+    ensures { λ r. ⌜ r ≡ plusAt (now (text .entry)) p ⌝ }
 {
     byte_at(text, p + 1) == 43
 }
@@ -52,7 +52,7 @@ pub fn items_start(text: &[u8], p: usize) -> usize
     requires { ⌜ p < length (now text) ⌝ }
     ensures { λ r. ⌜ r ≡ itemsStart (now (text .entry)) p ⌝ }
 {
-    if is_integral(text, p) { p + 2 } else { p + 1 }
+    if has_plus(text, p) { p + 2 } else { p + 1 }
 }
 
 // Where the piece that begins at `from` ends: at the first `;`, escaped or nested too, or at the later of `from` and `end`.

@@ -89,16 +89,16 @@ module _ (text groups otherGroups items otherItems : List ℕ) (h : SameGroups g
 -- one item and one group -------------------------------------------------------------------------------------------------------------
 
 -- the record of an item, after `k` others
-module _ (text before : List ℕ) (integral : Bool) (i : Item) (after : List ℕ) (k : ℕ) (h : length before ≡ itemWidth * k) where
-  pub key-at : keyIn text (before ++ (unnumberedRecord integral i ++ after)) k ≡ keyOf text i
+module _ (text before : List ℕ) (i : Item) (after : List ℕ) (k : ℕ) (h : length before ≡ itemWidth * k) where
+  pub key-at : keyIn text (before ++ (unnumberedRecord i ++ after)) k ≡ keyOf text i
   unfolding keyIn unnumberedRecord itemRecord
   key-at =
-      let here : List ℕ = unnumberedRecord integral i ++ after in
+      let here : List ℕ = unnumberedRecord i ++ after in
       rw (item-field before here k 2 h, item-field before here k 3 h)
 
-  pub suppressed-at : suppressedIn (before ++ (unnumberedRecord integral i ++ after)) k ≡ i .suppressed
+  pub suppressed-at : suppressedIn (before ++ (unnumberedRecord i ++ after)) k ≡ i .suppressed
   unfolding suppressedIn unnumberedRecord itemRecord marksOf
-  suppressed-at = rw (item-field before (unnumberedRecord integral i ++ after) k 11 h) (go (i .suppressed) integral)
+  suppressed-at = rw (item-field before (unnumberedRecord i ++ after) k 11 h) (go (i .suppressed))
     where
       go : (s b : Bool) → eqb ((pick s 1 0 + pick b 2 0) % 2) 1 ≡ s
       go true true = refl
@@ -106,12 +106,12 @@ module _ (text before : List ℕ) (integral : Bool) (i : Item) (after : List ℕ
       go false true = refl
       go false false = refl
 
-  bare-at : bareIn (before ++ (unnumberedRecord integral i ++ after)) k ≡ bareItem i
+  bare-at : bareIn (before ++ (unnumberedRecord i ++ after)) k ≡ bareItem i
   unfolding bareIn bareItem unnumberedRecord itemRecord marksOf
   bare-at =
-      let here : List ℕ = unnumberedRecord integral i ++ after in
+      let here : List ℕ = unnumberedRecord i ++ after in
       rw (item-field before here k 1 h, item-field before here k 5 h, item-field before here k 11 h)
-      (ap (λ (b : Bool). eqb (i .prefix .len) 0 && eqb (i .whole .len) 0 && b) (go (i .suppressed) integral))
+      (ap (λ (b : Bool). eqb (i .prefix .len) 0 && eqb (i .whole .len) 0 && b) (go (i .suppressed)))
     where
       go : (s b : Bool) → eqb ((pick s 1 0 + pick b 2 0) % 2) 0 ≡ not s
       go true true = refl
@@ -120,25 +120,25 @@ module _ (text before : List ℕ) (integral : Bool) (i : Item) (after : List ℕ
       go false false = refl
 
 -- "a group of one item, no prefix, no locator, not suppressed", and its key
-one-key : (text key before : List ℕ) (integral : Bool) (is : List Item) (after : List ℕ) (k : ℕ) (s c : Bool) → length before ≡ itemWidth * k
-    → (s && eqb (length is) 1 && bareIn (before ++ (recordsIn integral is ++ after)) k && c)
-    && same (keyIn text (before ++ (recordsIn integral is ++ after)) k) key
+one-key : (text key before : List ℕ) (is : List Item) (after : List ℕ) (k : ℕ) (s c : Bool) → length before ≡ itemWidth * k
+    → (s && eqb (length is) 1 && bareIn (before ++ (recordsIn is ++ after)) k && c)
+    && same (keyIn text (before ++ (recordsIn is ++ after)) k) key
     ≡ (s && onlyKey is && c) && same (definedKey text is) key
 unfolding onlyKey definedKey flatMap
-one-key text key before integral [] after k true c h = refl
-one-key text key before integral [] after k false c h = refl
-one-key text key before integral (i ∷ []) after k s c h =
-    rw (append-assoc (unnumberedRecord integral i) [] after, key-at text before integral i ([] ++ after) k h, bare-at text before integral i ([] ++ after) k h)
+one-key text key before [] after k true c h = refl
+one-key text key before [] after k false c h = refl
+one-key text key before (i ∷ []) after k s c h =
+    rw (append-assoc (unnumberedRecord i) [] after, key-at text before i ([] ++ after) k h, bare-at text before i ([] ++ after) k h)
     (go s)
   where
     go : (t : Bool) → (t && true && bareItem i && c) && same (keyOf text i) key ≡ (t && bareItem i && c) && same (keyOf text i) key
     go true = refl
     go false = refl
-one-key text key before integral (i ∷ j ∷ more) after k s c h = rw (ne-eqb (suc (suc (length more))) 1 (λ e. omega arith)) (go s)
+one-key text key before (i ∷ j ∷ more) after k s c h = rw (ne-eqb (suc (suc (length more))) 1 (λ e. omega arith)) (go s)
   where
     go : (t : Bool)
-        → (t && false && bareIn (before ++ (recordsIn integral (i ∷ j ∷ more) ++ after)) k && c)
-        && same (keyIn text (before ++ (recordsIn integral (i ∷ j ∷ more) ++ after)) k) key
+        → (t && false && bareIn (before ++ (recordsIn (i ∷ j ∷ more) ++ after)) k && c)
+        && same (keyIn text (before ++ (recordsIn (i ∷ j ∷ more) ++ after)) k) key
         ≡ (t && false && c) && same (keyOf text i) key
     go true = refl
     go false = refl
@@ -199,7 +199,7 @@ module _ (groups items : List ℕ) (g k : ℕ) (p : Placed) (ps : List Placed) (
   unfolding definesKeyIn definesIn definesKey defines flatMap recordsOf
   group-defines text key h =
       rw (group-at, item-count-lies, first-item-lies, group-close h, l .iis, append-assoc (recordsOf (p .group)) (itemRecords (groupsOf ps)) ia)
-      (one-key text key ib (p .group .integral) (p .group .items) (itemRecords (groupsOf ps) ++ ia) k
+      (one-key text key ib (p .group .items) (itemRecords (groupsOf ps) ++ ia) k
       (startsLine text (p .group .at)) (colonAfter text (p .group .close)) (l .icount))
 
 -- where the next group begins

@@ -18,7 +18,7 @@ groupField groups g c = getD groups (groupWidth * g + c) 0
 unfoldable pub keyIn : List ℕ → List ℕ → ℕ → List ℕ
 keyIn text items k = part text (itemField items k item-key) (itemField items k item-key + itemField items k item-key-length)
 
--- "marks (1 suppressed, 2 integral, added)"
+-- the mark of suppression
 unfoldable pub suppressedIn : List ℕ → ℕ → Bool
 suppressedIn items k = eqb (itemField items k item-marks % 2) 1
 
