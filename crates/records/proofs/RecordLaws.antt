@@ -53,11 +53,11 @@ unfolding putAt
 marks-put row marks = refl
 
 module _ {a : Bool} where
-  pub marks-suppressed : a ≡ true → 1 ≡ pick a 1 0
-  marks-suppressed p = rw p
+  pub marks-suppressed : a ≡ true → _≡_ {A = ℕ} 1 (pick a 1 0)
+  marks-suppressed p = rw p refl
 
-  pub marks-none : a ≡ false → 0 ≡ pick a 1 0
-  marks-none p = rw p
+  pub marks-none : a ≡ false → _≡_ {A = ℕ} 0 (pick a 1 0)
+  marks-none p = rw p refl
 
 -- numbers put one after another: the pairs of an item, those of its locator with the code, and all of them with the marks
 module _ (row : List ℕ) {r₁ r₂ : List ℕ} where

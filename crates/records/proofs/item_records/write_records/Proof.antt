@@ -26,7 +26,6 @@ write-records-spec =
     μ-loop
     (λ c κs. search needs)
     (λ c κs. search needs)
-    (λ c κs. search needs)
     (λ c. (search piece-laws, search (piece-laws, needs), search needs, search (writing-laws, needs)))
     (λ c. search needs)
     (λ c. search needs)
