@@ -17,20 +17,23 @@
  *     citations_source_text  writes the text of an entry of a pool
  *
  * AREAS. A call works in areas that the caller lends: a pointer and a length. A length counts ELEMENTS of the pointer's type, not bytes
- * and not records: room for two item records is a length of 32. The caller owns every area and may free it or use it again as soon as the
- * call has returned; the library keeps no pointer and no state.
+ * and not records: room for two item records is a length of 2 * CITATIONS_ITEM_RECORD. The caller owns every area and may free it or use
+ * it again as soon as the call has returned; the library keeps no pointer and no state.
  *   - `text` and `pool` are only read. They may be the same memory.
  *   - Any other two areas of one call must not overlap, nor overlap text or pool.
  *   - Every pointer is aligned for its type and not null, also where the length is 0: pass the address of any object then.
  *   - An area of length n has n elements that may be read and, where the pointer is not to const, written. They are set before the call,
- *     `answer` too, to any values (calloc or `= {0}` will do): the library may read what it has not written.
- * Beyond these rules no argument is wrong: every call returns, with an answer or with one of ten refusals. No two threads may use an area
- * at the same time while one of them writes it; calls on areas of their own may run at the same time.
+ *     to any values (calloc or `= {0}` will do), `answer` to CITATIONS_NO_ANSWER: the library may read what it has not written.
+ * Beyond these rules no argument is wrong: every call returns, with an answer or with a refusal. No two threads may use an area at the same
+ * time while one of them writes it; calls on areas of their own may run at the same time.
  *
  * ANSWERS. Each call has an area `answer` of uint32_t. Its first element is the number, 0 (CITATIONS_ACCEPTED) or a refusal, and the
  * values follow at the places that are named below for each call. On a refusal all values are 0, except the note. `answer` must have at
- * least the length that is named below (CITATIONS_..._ANSWER): with a shorter one the call does nothing at all, and nothing tells so. What
- * `answer` has beyond that length stays as it was.
+ * least the length that is named below (CITATIONS_..._ANSWER): with a shorter one the call does nothing at all. What `answer` has beyond that
+ * length stays as it was. So that a call that did nothing does not read as accepted, set the first element to CITATIONS_NO_ANSWER, which is
+ * no call's number, before each call:
+ *
+ *     uint32_t answer[CITATIONS_LOOK_UP_ANSWER] = {CITATIONS_NO_ANSWER};
  *
  * INDEX, BRACKET RECORDS AND NOTE. Look-ups and annotations may need an index of the text's brackets. The caller lends room for it: `index`
  * and `records`, each at least as long as the text has bytes (else refusal 9, whether or not an index is needed). The note says whether
@@ -79,6 +82,40 @@
 #ifdef __cplusplus
 extern "C" {
 #endif
+
+/*
+ * THE VERSION of this header, N. It is raised with each change of what a call, a record, an answer or a number means. The archive has one name
+ * that carries its version, citations_version_N, and every object that is compiled with this header refers to that name. So an object and an
+ * archive of two versions do not link, and the linker says
+ *
+ *     undefined reference to `citations_version_N'
+ *
+ * with the object's N. Then compile it again with the archive's own header (or link the archive, where it was left out).
+ */
+#define CITATIONS_VERSION 1
+
+#define CITATIONS_JOINED(name, version) name##version
+#define CITATIONS_VERSIONED(name, version) CITATIONS_JOINED(name, version)
+
+/* citations_version_N: answers N. */
+uint32_t CITATIONS_VERSIONED(citations_version_, CITATIONS_VERSION)(void);
+
+/* The reference to that name: a pointer that nothing reads, kept in each object whatever the compiler and the linker leave out. */
+#if defined(__has_attribute)
+#if __has_attribute(retain)
+#define CITATIONS_KEPT __attribute__((used, retain))
+#endif
+#endif
+#ifndef CITATIONS_KEPT
+#define CITATIONS_KEPT __attribute__((used))
+#endif
+static uint32_t (*const citations_version_needed)(void) CITATIONS_KEPT = CITATIONS_VERSIONED(citations_version_, CITATIONS_VERSION);
+#undef CITATIONS_KEPT
+#undef CITATIONS_VERSIONED
+#undef CITATIONS_JOINED
+
+/* What the first element of `answer` is set to before a call; it stays where `answer` is too short. */
+#define CITATIONS_NO_ANSWER 0xFFFFFFFFu
 
 /*
  * Limits: a longer text is refused by 1, a longer pool by 7, labels above their limit by 10. A source text is at most three bytes longer than
@@ -252,9 +289,9 @@ enum citations_annotate_answer {
  *   references             one element a source. Accepted: the sources' numbers in reference order.
  *   labels                 one element a label byte. Accepted: the labels one after the other, in item order, with nothing between.
  *
- * Areas that are always long enough, with n from citations_size: items 16 * n, groups 5 * n, references n, labels CITATIONS_LABELS_MAX; only
- * labels above that many bytes are still refused by 10, whatever is lent. If one of the four is too short the call answers 10 and fills all
- * four with zeros, over their whole length; any other refusal leaves them as they were.
+ * Areas that are always long enough, with n from citations_size: items CITATIONS_ITEM_RECORD * n, groups CITATIONS_GROUP_RECORD * n,
+ * references n, labels CITATIONS_LABELS_MAX; only labels above that many bytes are still refused by 10, whatever is lent. If one of the four
+ * is too short the call answers 10 and fills all four with zeros, over their whole length; any other refusal leaves them as they were.
  *
  * Refusals, in this order: 1, 2, 6, 7, 9, 10.
  */

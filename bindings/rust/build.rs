@@ -6,6 +6,13 @@ use std::path::{Path, PathBuf};
 fn main() {
     println!("cargo:rerun-if-env-changed=CITATIONS_LIB_DIR");
     println!("cargo:rerun-if-changed=build.rs");
+    let of_target = |what: &str| env::var(format!("CARGO_CFG_TARGET_{what}")).unwrap_or_default();
+    if of_target("ARCH") != "x86_64" || of_target("OS") != "linux" {
+        stop(&[
+            &format!("the proved library is for x86-64 Linux alone, and the target is {}", env::var("TARGET").unwrap_or_default()),
+            "the kit that compiles it, Rattle, has no other target; build with --target x86_64-unknown-linux-gnu.",
+        ]);
+    }
     let folder = match env::var_os("CITATIONS_LIB_DIR") {
         Some(folder) => from_start(Path::new(&folder)),
         None => PathBuf::from(env::var_os("CARGO_MANIFEST_DIR").unwrap()).join("../../target/staticlib"),
@@ -30,8 +37,16 @@ fn from_start(folder: &Path) -> PathBuf {
 }
 
 fn missing(archive: &Path) -> ! {
-    eprintln!("citations: the proved library is missing: no file {}", archive.display());
-    eprintln!("citations: write it with `rt staticlib exports` in the repository's root,");
-    eprintln!("citations: or set CITATIONS_LIB_DIR to the folder that holds libexports.a.");
+    stop(&[
+        &format!("the proved library is missing: no file {}", archive.display()),
+        "write it with `rt staticlib exports` in the repository's root,",
+        "or set CITATIONS_LIB_DIR to the folder that holds libexports.a.",
+    ])
+}
+
+fn stop(lines: &[&str]) -> ! {
+    for line in lines {
+        eprintln!("citations: {line}");
+    }
     std::process::exit(1)
 }

@@ -3,6 +3,9 @@
  * The index that the first look-up may build is kept, with its note, for the calls after it.
  *
  *     cc -std=c99 -Iinclude examples/c/main.c target/staticlib/libexports.a -o main && ./main < examples/c/entry.txt
+ *
+ * Status: 0 the text is annotated; 1 the text is refused, and the number is printed (a bracket that is no group refuses only its look-up); 2 the
+ * program could not work: it was given an argument, or there was no input, no memory or no output.
  */
 #include <stdio.h>
 #include <stdlib.h>
@@ -24,21 +27,29 @@ static uint16_t *references;
 static uint8_t labels[CITATIONS_LABELS_MAX];
 static size_t room; /* item records that the text can need */
 
+enum status { ANNOTATED = 0, REFUSED = 1, FAILED = 2 };
+
+static void fail(const char *why)
+{
+    fprintf(stderr, "%s\n", why);
+    exit(FAILED);
+}
+
 /* An area of n elements; never null, even for n = 0. */
 static void *area(size_t n, size_t element)
 {
     void *p = calloc(n == 0 ? 1 : n, element);
-    if (p == NULL) {
-        fputs("no memory\n", stderr);
-        exit(2);
-    }
+    if (p == NULL)
+        fail("no memory");
     return p;
 }
 
-static int refused(const char *call, uint32_t number)
+static enum status refused(const char *call, uint32_t number)
 {
+    if (number == CITATIONS_NO_ANSWER)
+        fail("an answer area is too short: the call did nothing");
     printf("%s: refused %u\n", call, (unsigned)number);
-    return 1;
+    return REFUSED;
 }
 
 /* Prints the part of `bytes` that the pair at `pair` names. */
@@ -49,7 +60,7 @@ static void part(const uint8_t *bytes, const uint16_t *pair)
 
 static void look_up(size_t at)
 {
-    uint32_t answer[CITATIONS_LOOK_UP_ANSWER] = {0};
+    uint32_t answer[CITATIONS_LOOK_UP_ANSWER] = {CITATIONS_NO_ANSWER};
     unsigned given = note;
 
     citations_look_up(text, length, at, note, index_area, length, records, length,
@@ -79,9 +90,9 @@ static void print_item(const uint16_t *group, const uint16_t *item)
     printf("'\n");
 }
 
-static int annotate(void)
+static enum status annotate(void)
 {
-    uint32_t answer[CITATIONS_ANNOTATE_ANSWER] = {0};
+    uint32_t answer[CITATIONS_ANNOTATE_ANSWER] = {CITATIONS_NO_ANSWER};
     size_t g, i;
 
     citations_annotate(text, length, CITATIONS_BY_AUTHOR_YEAR, text, 0 /* no pool */, note, index_area, length, records, length,
@@ -104,16 +115,16 @@ static int annotate(void)
     for (i = 0; i < answer[CITATIONS_ANNOTATE_SOURCES]; i++)
         printf(" %u", (unsigned)references[i]);
     printf("\n");
-    return 0;
+    return ANNOTATED;
 }
 
-int main(void)
+/* The calls on the text that was read. */
+static enum status run(void)
 {
-    uint32_t size[CITATIONS_SIZE_ANSWER] = {0};
+    uint32_t size[CITATIONS_SIZE_ANSWER] = {CITATIONS_NO_ANSWER};
     const uint8_t *bracket;
-    int status;
+    enum status status;
 
-    length = fread(text, 1, sizeof text, stdin);
     citations_size(text, length, size, CITATIONS_SIZE_ANSWER);
     if (size[CITATIONS_SIZE_NUMBER] != CITATIONS_ACCEPTED)
         return refused("size", size[CITATIONS_SIZE_NUMBER]);
@@ -137,5 +148,21 @@ int main(void)
     free(items);
     free(groups);
     free(references);
+    return status;
+}
+
+int main(int count, char **arguments)
+{
+    enum status status;
+
+    (void)arguments;
+    if (count > 1)
+        fail("it takes no argument: the text comes from standard input");
+    length = fread(text, 1, sizeof text, stdin);
+    if (ferror(stdin))
+        fail("the input cannot be read");
+    status = run();
+    if (fflush(stdout) != 0)
+        fail("the output cannot be written");
     return status;
 }

@@ -1,48 +1,68 @@
 //! Reads a text from standard input, looks its first bracket up twice, annotates it by author and year, and prints its items.
-//! It prints what examples/c/main.c prints.
+//! It prints what examples/c/main.c prints, and ends with its status: 0 annotated, 1 refused, 2 where it could not work.
 //!
 //!     cargo run --example annotate < ../../examples/c/entry.txt
 
+use std::env;
 use std::io::{self, Read, Write};
+use std::process::ExitCode;
 
-use citations::{Annotated, GroupRecord, Index, ItemRecord, Mode, Refusal, Span};
+use citations::{Annotated, GroupRecord, Index, ItemRecord, Mode, Refusal, Span, Standing};
 
-fn main() -> io::Result<()> {
-    let mut text = Vec::new();
-    io::stdin().read_to_end(&mut text)?;
-    let mut out = io::stdout().lock();
+const ANNOTATED: u8 = 0;
+const REFUSED: u8 = 1;
+const FAILED: u8 = 2;
 
-    let mut index = match Index::new(&text) {
-        Ok(index) => index,
-        Err(refusal) => return refused(&mut out, "size", refusal),
-    };
-    if let Some(at) = text.iter().position(|&byte| byte == b'[') {
-        look_up(&mut out, &mut index, at)?;
-        look_up(&mut out, &mut index, at)?;
+fn main() -> ExitCode {
+    if env::args_os().len() > 1 {
+        eprintln!("it takes no argument: the text comes from standard input");
+        return ExitCode::from(FAILED);
     }
-    match index.annotate(Mode::AuthorYear, &[]) {
-        Ok(annotated) => print(&mut out, &text, &annotated),
-        Err(refusal) => refused(&mut out, "annotation", refusal),
+    match run(&mut io::stdout().lock()) {
+        Ok(status) => ExitCode::from(status),
+        Err(error) => {
+            eprintln!("the input cannot be read, or the output not written: {error}");
+            ExitCode::from(FAILED)
+        }
     }
 }
 
-fn refused(out: &mut impl Write, call: &str, refusal: Refusal) -> io::Result<()> {
-    writeln!(out, "{call}: refused {}", refusal.number())
+fn run(out: &mut impl Write) -> io::Result<u8> {
+    let mut text = Vec::new();
+    io::stdin().read_to_end(&mut text)?;
+    let bracket = text.iter().position(|&byte| byte == b'[');
+    let mut index = match Index::new(text) {
+        Ok(index) => index,
+        Err(refusal) => return refused(out, "size", refusal),
+    };
+    if let Some(at) = bracket {
+        look_up(out, &mut index, at)?;
+        look_up(out, &mut index, at)?;
+    }
+    match index.annotate(Mode::AuthorYear, &[]) {
+        Ok(annotated) => print(out, index.text(), &annotated),
+        Err(refusal) => refused(out, "annotation", refusal),
+    }
+}
+
+fn refused(out: &mut impl Write, call: &str, refusal: Refusal) -> io::Result<u8> {
+    writeln!(out, "{call}: refused {}", refusal.number())?;
+    Ok(REFUSED)
 }
 
 /// The index keeps what the first look-up built.
-fn look_up(out: &mut impl Write, index: &mut Index<'_>, at: usize) -> io::Result<()> {
+fn look_up(out: &mut impl Write, index: &mut Index<Vec<u8>>, at: usize) -> io::Result<()> {
     let given = index.note();
     match index.look_up(at) {
         Ok(group) => {
             let (close, items) = (group.close(), group.items().len());
             writeln!(out, "look-up at {at}: close {close}, items {items}, note {given} then {}", index.note())
         }
-        Err(refusal) => refused(out, "look-up", refusal),
+        Err(refusal) => refused(out, "look-up", refusal).map(|_| ()),
     }
 }
 
-fn print(out: &mut impl Write, text: &[u8], annotated: &Annotated) -> io::Result<()> {
+fn print(out: &mut impl Write, text: &[u8], annotated: &Annotated) -> io::Result<u8> {
     let (groups, items) = (annotated.groups().len(), annotated.items().len());
     let (sources, label_bytes) = (annotated.references().len(), annotated.labels().len());
     writeln!(out, "groups {groups} items {items} sources {sources} label bytes {label_bytes}")?;
@@ -55,7 +75,8 @@ fn print(out: &mut impl Write, text: &[u8], annotated: &Annotated) -> io::Result
     for number in annotated.references() {
         write!(out, " {number}")?;
     }
-    writeln!(out)
+    writeln!(out)?;
+    Ok(ANNOTATED)
 }
 
 fn print_item(out: &mut impl Write, text: &[u8], annotated: &Annotated, group: GroupRecord<'_>, item: ItemRecord<'_>) -> io::Result<()> {
@@ -63,9 +84,9 @@ fn print_item(out: &mut impl Write, text: &[u8], annotated: &Annotated, group: G
     let part = |span: Option<Span>| span.map_or(String::new(), |span| shown(span.of(text)));
     let Span { offset, length } = group.span();
     let standing = match group.standing() {
-        citations::Standing::InDefinition => "definition",
-        citations::Standing::Undefined => "undefined",
-        citations::Standing::Numbered => "numbered",
+        Standing::InDefinition => "definition",
+        Standing::Undefined => "undefined",
+        Standing::Numbered => "numbered",
     };
     let locator = item.locator();
     writeln!(

@@ -1,4 +1,4 @@
-//! The five calls over lent slices.
+//! The calls over lent slices.
 
 use crate::raw::{self, Lent};
 use crate::{Bracket, Locator, Refusal, Refused};
@@ -35,13 +35,13 @@ pub struct AnnotationCounts {
 /// Refusals, in this order: 1, 2, 3, 4, 9, 5, 10.
 ///
 /// ```
-/// use citations::{item_records, look_up, Bracket, NOT_BUILT};
+/// use citations::{item_record, look_up, Bracket, NOT_BUILT};
 ///
 /// let text = b"[x -@a, p. 3]";
 /// let (mut index, mut records, mut items) = ([0; 13], [Bracket::default(); 13], [0; 32]);
 /// let found = look_up(text, 0, NOT_BUILT, &mut index, &mut records, &mut items)?;
 /// assert_eq!((found.close, found.items), (12, 1));
-/// let item = item_records(&items[..16]).next().unwrap();
+/// let item = item_record(&items, 0).unwrap();
 /// assert_eq!(item.key().of(text), b"a");
 /// # Ok::<(), citations::Refused>(())
 /// ```
@@ -53,13 +53,15 @@ pub fn look_up(
     records: &mut [Bracket],
     items: &mut [u16],
 ) -> Result<LookedUp, Refused> {
-    let mut answer = [0; raw::LOOK_UP];
+    let mut answer = [raw::NO_ANSWER; raw::LOOK_UP];
     let mut lent = Lent { index, records, items, groups: &mut [], references: &mut [], labels: &mut [] };
     raw::look_up(text, at, note, &mut lent, &mut answer);
-    let [number, close, items, note] = answer;
-    let note = note as u8;
-    match Refusal::of(number) {
-        None => Ok(LookedUp { close: close as usize, items: items as usize, note }),
+    let note = answer[raw::LOOK_UP_NOTE] as u8;
+    match Refusal::of(answer[raw::NUMBER]) {
+        None => {
+            let (close, items) = (answer[raw::LOOK_UP_CLOSE], answer[raw::LOOK_UP_ITEMS]);
+            Ok(LookedUp { close: close as usize, items: items as usize, note })
+        }
         Some(refusal) => Err(Refused { refusal, note }),
     }
 }
@@ -82,16 +84,15 @@ pub fn annotate(
     references: &mut [u16],
     labels: &mut [u8],
 ) -> Result<AnnotationCounts, Refused> {
-    let mut answer = [0; raw::ANNOTATION];
+    let mut answer = [raw::NO_ANSWER; raw::ANNOTATION];
     raw::annotate(text, mode, pool, note, &mut Lent { index, records, items, groups, references, labels }, &mut answer);
-    let [number, groups, items, sources, label_bytes, note] = answer;
-    let note = note as u8;
-    match Refusal::of(number) {
+    let note = answer[raw::ANNOTATION_NOTE] as u8;
+    match Refusal::of(answer[raw::NUMBER]) {
         None => Ok(AnnotationCounts {
-            groups: groups as usize,
-            items: items as usize,
-            sources: sources as usize,
-            label_bytes: label_bytes as usize,
+            groups: answer[raw::ANNOTATION_GROUPS] as usize,
+            items: answer[raw::ANNOTATION_ITEMS] as usize,
+            sources: answer[raw::ANNOTATION_SOURCES] as usize,
+            label_bytes: answer[raw::ANNOTATION_LABEL_BYTES] as usize,
             note,
         }),
         Some(refusal) => Err(Refused { refusal, note }),
@@ -102,11 +103,10 @@ pub fn annotate(
 ///
 /// Refusals, in this order: 1, 2.
 pub fn size(text: &[u8]) -> Result<usize, Refusal> {
-    let mut answer = [0; raw::SIZE];
+    let mut answer = [raw::NO_ANSWER; raw::SIZE];
     raw::size(text, &mut answer);
-    let [number, records] = answer;
-    match Refusal::of(number) {
-        None => Ok(records as usize),
+    match Refusal::of(answer[raw::NUMBER]) {
+        None => Ok(answer[raw::SIZE_RECORDS] as usize),
         Some(refusal) => Err(refusal),
     }
 }
@@ -126,12 +126,12 @@ pub fn size(text: &[u8]) -> Result<usize, Refusal> {
 /// # Ok::<(), citations::Refusal>(())
 /// ```
 pub fn locator(text: &[u8]) -> Result<Locator, Refusal> {
-    let mut answer = [0; raw::LOCATOR];
+    let mut answer = [raw::NO_ANSWER; raw::LOCATOR];
     raw::locator(text, &mut answer);
-    let [number, code, value, value_length, suffix, suffix_length] = answer;
-    match Refusal::of(number) {
-        // A text's offsets and lengths fit 16 bits.
-        None => Ok(Locator::of(code as u16, [value as u16, value_length as u16], [suffix as u16, suffix_length as u16])),
+    // A text's offsets and lengths fit 16 bits.
+    let pair = |at: usize| [answer[at] as u16, answer[at + 1] as u16];
+    match Refusal::of(answer[raw::NUMBER]) {
+        None => Ok(Locator::of(answer[raw::LOCATOR_LABEL_CODE] as u16, pair(raw::LOCATOR_VALUE), pair(raw::LOCATOR_SUFFIX))),
         Some(refusal) => Err(refusal),
     }
 }
@@ -141,11 +141,10 @@ pub fn locator(text: &[u8]) -> Result<Locator, Refusal> {
 ///
 /// Refusals, in this order: 7, 8, 10.
 pub fn source_text(pool: &[u8], entry: usize, area: &mut [u8]) -> Result<usize, Refusal> {
-    let mut answer = [0; raw::SOURCE_TEXT];
+    let mut answer = [raw::NO_ANSWER; raw::SOURCE_TEXT];
     raw::source_text(pool, entry, area, &mut answer);
-    let [number, bytes] = answer;
-    match Refusal::of(number) {
-        None => Ok(bytes as usize),
+    match Refusal::of(answer[raw::NUMBER]) {
+        None => Ok(answer[raw::SOURCE_TEXT_BYTES] as usize),
         Some(refusal) => Err(refusal),
     }
 }

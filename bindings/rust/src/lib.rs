@@ -1,4 +1,4 @@
-//! Bracketed citations, from text to numbered sources: a binding of the proved library's five calls, with no dependency.
+//! Bracketed citations, from text to numbered sources: a binding of the proved library's calls, with no dependency.
 //!
 //! A text is UTF-8 bytes. A *group* is a bracket such as `[see @ant, p. 3; -@bee]`: items with a key each, parted by `;`. Keys are defined
 //! by definition lines of the text, `[@ant]: {author=Ant year=1901} ..`, or by a pool of sources ([`pool`]).
@@ -6,13 +6,15 @@
 //! # Two layers
 //!
 //! The **owned layer** is the one to start with. An [`Index`] is a text with the index that its calls keep; [`Index::look_up`] reads the
-//! group at a bracket, and [`Index::annotate`] gives an [`Annotated`] with all groups, items, labels and the order of the sources.
+//! group at a bracket, and [`Index::annotate`] gives an [`Annotated`] with all groups, items, labels and the order of the sources. It is there
+//! with the feature `alloc`, which is on by default; the crate needs no more of the standard library than `core` and, with it, `alloc`.
 //!
-//! ```
+#![cfg_attr(feature = "alloc", doc = "```")]
+#![cfg_attr(not(feature = "alloc"), doc = "```ignore")]
 //! use citations::{Index, Mode};
 //!
 //! let text = "See [@a, p. 12; -@b].\n[@a]: {author=Ant year=1901} Ant.\n[@b]: {author=Bee year=1902} Bee.\n";
-//! let annotated = Index::new(text.as_bytes())?.annotate(Mode::AuthorYear, &[])?;
+//! let annotated = Index::new(text)?.annotate(Mode::AuthorYear, &[])?;
 //! let labels: Vec<_> = annotated.items().filter_map(|item| annotated.label(item)).collect();
 //! assert_eq!(labels, [&b"Ant 1901"[..], b"1902"]);
 //! # Ok::<(), citations::Refusal>(())
@@ -45,21 +47,32 @@
 //!
 //! The build script looks for `libexports.a` in the repository's `target/staticlib`, where `rt staticlib exports` writes it, or in the
 //! folder that the environment variable `CITATIONS_LIB_DIR` names; a relative one is seen from the folder in which cargo is started (the
-//! shell's `PWD`). The archive is for x86-64 Linux.
+//! shell's `PWD`). The archive is for x86-64 Linux, and has a name that carries its version ([`raw::version`]): with one of another version
+//! nothing links.
+#![no_std]
 #![warn(missing_docs)]
 #![deny(unsafe_code)]
 
+#[cfg(feature = "alloc")]
+extern crate alloc;
+
 mod calls;
+#[cfg(feature = "alloc")]
 mod owned;
+#[cfg(feature = "alloc")]
 pub mod pool;
 pub mod raw;
 mod records;
 mod refusal;
 
 pub use calls::{annotate, locator, look_up, size, source_text, AnnotationCounts, LookedUp};
-pub use owned::{source_text_of, Annotated, Group, Index, Mode};
+#[cfg(feature = "alloc")]
+pub use owned::{source_text_of, Annotated, Group, Index};
 pub use raw::Bracket;
-pub use records::{group_records, item_records, GroupRecord, ItemRecord, Locator, LocatorLabel, Span, Standing, GROUP_RECORD, ITEM_RECORD};
+pub use records::{
+    group_record, group_records, item_record, item_records, GroupRecord, ItemRecord, Locator, LocatorLabel, Mode, Span, Standing,
+    GROUP_RECORD, ITEM_RECORD,
+};
 pub use refusal::{Refusal, Refused};
 
 /// The most bytes that a text may have; a longer one is refused by [`Refusal::TextTooLong`].

@@ -1,28 +1,34 @@
-//! The owned layer: a text with the index that its calls keep, and an annotation with areas of its own.
+//! The owned layer: a text with the index that its calls keep, and groups and annotations with areas of their own.
 
-use std::ops::Range;
+use alloc::vec;
+use alloc::vec::Vec;
+use core::ops::Range;
 
 use crate::{
-    annotate, group_records, item_records, look_up, size, source_text, Bracket, GroupRecord, ItemRecord, Refusal, BUILT, GROUP_RECORD,
-    ITEM_RECORD, LABELS_MAX, NOT_BUILT, POOL_MAX, SOURCE_TEXT_MORE,
+    annotate, group_record, group_records, item_record, item_records, look_up, size, source_text, Bracket, GroupRecord, ItemRecord, Mode,
+    Refusal, BUILT, GROUP_RECORD, ITEM_RECORD, LABELS_MAX, NOT_BUILT, POOL_MAX, SOURCE_TEXT_MORE,
 };
-
-/// How an annotation labels its items and orders the sources.
-#[derive(Clone, Copy, Debug, PartialEq, Eq, Hash)]
-#[repr(u8)]
-pub enum Mode {
-    /// By number.
-    Number = 0,
-    /// By author and year, or the number where there is neither; the sources by author, or by key where no author is given.
-    AuthorYear = 1,
-}
 
 /// A text with its index: the areas and the note that its look-ups and annotations keep from call to call.
 ///
-/// The index is built at most once, by the first call that needs it. It changes no answer.
+/// The text is whatever has bytes: borrowed (`&[u8]`, `&str`) or owned (`Vec<u8>`, `String`), which lets an index live as long as it is wanted. The
+/// index is built at most once, by the first call that needs it. It changes no answer.
+///
+/// ```
+/// use citations::Index;
+///
+/// fn opened() -> Result<Index<String>, citations::Refusal> {
+///     Index::new(String::from("[@a] and [@b]"))
+/// }
+///
+/// let mut index = opened()?;
+/// let (first, second) = (index.look_up(0)?, index.look_up(9)?); // both are held
+/// assert_eq!((first.close(), second.close()), (3, 12));
+/// # Ok::<(), citations::Refusal>(())
+/// ```
 #[derive(Clone, Debug)]
-pub struct Index<'t> {
-    text: &'t [u8],
+pub struct Index<T> {
+    text: T,
     note: u8,
     entries: Vec<u16>,
     records: Vec<Bracket>,
@@ -30,22 +36,28 @@ pub struct Index<'t> {
     room: usize,
 }
 
-impl<'t> Index<'t> {
+impl<T: AsRef<[u8]>> Index<T> {
     /// A text whose index is not built. Refusals, in this order: 1, 2.
-    pub fn new(text: &'t [u8]) -> Result<Index<'t>, Refusal> {
-        let room = size(text)?;
+    pub fn new(text: T) -> Result<Index<T>, Refusal> {
+        let bytes = text.as_ref();
+        let (length, room) = (bytes.len(), size(bytes)?);
         Ok(Index {
             text,
             note: NOT_BUILT,
-            entries: vec![0; text.len()],
-            records: vec![Bracket::default(); text.len()],
+            entries: vec![0; length],
+            records: vec![Bracket::default(); length],
             items: vec![0; ITEM_RECORD * room],
             room,
         })
     }
 
-    /// The text.
-    pub fn text(&self) -> &'t [u8] {
+    /// The text's bytes.
+    pub fn text(&self) -> &[u8] {
+        self.text.as_ref()
+    }
+
+    /// The text, as it was given.
+    pub fn into_text(self) -> T {
         self.text
     }
 
@@ -61,14 +73,14 @@ impl<'t> Index<'t> {
     }
 
     /// The group at the bracket at `at`. Refusals, in this order: 3, 4, 5.
-    pub fn look_up(&mut self, at: usize) -> Result<Group<'_>, Refusal> {
-        let answer = look_up(self.text, at, self.note, &mut self.entries, &mut self.records, &mut self.items);
+    pub fn look_up(&mut self, at: usize) -> Result<Group, Refusal> {
+        let answer = look_up(self.text.as_ref(), at, self.note, &mut self.entries, &mut self.records, &mut self.items);
         self.note = match answer {
             Ok(found) => found.note,
             Err(refused) => refused.note,
         };
         let found = answer?;
-        Ok(Group { close: found.close, items: &self.items[..ITEM_RECORD * found.items] })
+        Ok(Group { close: found.close, items: self.items[..ITEM_RECORD * found.items].to_vec() })
     }
 
     /// All groups of the text. An empty pool is no pool. Refusals, in this order: 7, and 10 for labels above
@@ -79,7 +91,15 @@ impl<'t> Index<'t> {
         let mut references = vec![0; self.room];
         let mut labels = vec![0; LABELS_MAX];
         let answer = annotate(
-            self.text, mode as u8, pool, self.note, &mut self.entries, &mut self.records, &mut items, &mut groups, &mut references,
+            self.text.as_ref(),
+            mode as u8,
+            pool,
+            self.note,
+            &mut self.entries,
+            &mut self.records,
+            &mut items,
+            &mut groups,
+            &mut references,
             &mut labels,
         );
         self.note = match answer {
@@ -100,22 +120,27 @@ fn cut<T>(area: &mut Vec<T>, length: usize) {
     area.shrink_to_fit();
 }
 
-/// A group that was looked up.
-#[derive(Clone, Copy, Debug, PartialEq, Eq)]
-pub struct Group<'a> {
+/// A group that was looked up, with its items.
+#[derive(Clone, Debug, PartialEq, Eq)]
+pub struct Group {
     close: usize,
-    items: &'a [u16],
+    items: Vec<u16>,
 }
 
-impl<'a> Group<'a> {
+impl Group {
     /// The place of the group's `]`.
-    pub fn close(self) -> usize {
+    pub fn close(&self) -> usize {
         self.close
     }
 
     /// Its items, in the order of the text, without numbers, uses and labels.
-    pub fn items(self) -> impl ExactSizeIterator<Item = ItemRecord<'a>> {
-        item_records(self.items)
+    pub fn items(&self) -> impl ExactSizeIterator<Item = ItemRecord<'_>> {
+        item_records(&self.items)
+    }
+
+    /// Its item number `i`, from 0.
+    pub fn item(&self, i: usize) -> Option<ItemRecord<'_>> {
+        item_record(&self.items, i)
     }
 }
 
@@ -139,6 +164,21 @@ impl Annotated {
         item_records(&self.items)
     }
 
+    /// The group number `i`, from 0.
+    pub fn group(&self, i: usize) -> Option<GroupRecord<'_>> {
+        group_record(&self.groups, i)
+    }
+
+    /// The item number `i`, from 0.
+    pub fn item(&self, i: usize) -> Option<ItemRecord<'_>> {
+        item_record(&self.items, i)
+    }
+
+    /// The first item of the source of this number, from 1: the one that gave it its number. It is searched for from the first item on.
+    pub fn first_item_of(&self, source: u16) -> Option<ItemRecord<'_>> {
+        self.items().find(|item| item.number() == Some(source))
+    }
+
     /// The items of a group of this annotation.
     ///
     /// # Panics
@@ -149,7 +189,7 @@ impl Annotated {
         item_records(&self.items[ITEM_RECORD * start..ITEM_RECORD * end])
     }
 
-    /// The numbers of the sources, in reference order.
+    /// The numbers of the sources, in reference order. [`first_item_of`](Annotated::first_item_of) has the key of each.
     pub fn references(&self) -> &[u16] {
         &self.references
     }

@@ -3,6 +3,8 @@
 //! A pool has at most [`POOL_MAX`] bytes, numbers little-endian: a `u16` N, then N pairs of `u16` (offset and length of each
 //! entry), then the entries end to end. An entry is a list of fields: tag byte, `u16` length, bytes.
 
+use alloc::vec::Vec;
+
 use crate::POOL_MAX;
 
 /// A source. A field that is given and empty is not the same as one that is missing.
@@ -48,21 +50,31 @@ pub fn encode(entries: &[Entry<'_>]) -> Option<Vec<u8>> {
     (pairs.len() <= POOL_MAX).then_some(pairs)
 }
 
+// The tags of an entry's fields.
+const ID: u8 = 1;
+const NAME: u8 = 2;
+const FAMILY: u8 = 3;
+const GIVEN: u8 = 4;
+const LITERAL: u8 = 5;
+const YEAR: u8 = 6;
+const DATE: u8 = 7;
+const TITLE: u8 = 8;
+
 fn number(n: usize) -> Option<[u8; 2]> {
     Some(u16::try_from(n).ok()?.to_le_bytes())
 }
 
 fn write_entry(out: &mut Vec<u8>, entry: &Entry<'_>) -> Option<()> {
-    write_field(out, 1, Some(entry.id.as_bytes()))?;
+    write_field(out, ID, Some(entry.id.as_bytes()))?;
     for name in entry.names {
-        write_field(out, 2, Some(b""))?;
-        write_field(out, 3, name.family.map(str::as_bytes))?;
-        write_field(out, 4, name.given.map(str::as_bytes))?;
-        write_field(out, 5, name.literal.map(str::as_bytes))?;
+        write_field(out, NAME, Some(b""))?;
+        write_field(out, FAMILY, name.family.map(str::as_bytes))?;
+        write_field(out, GIVEN, name.given.map(str::as_bytes))?;
+        write_field(out, LITERAL, name.literal.map(str::as_bytes))?;
     }
-    write_field(out, 6, entry.year.map(i64::to_le_bytes).as_ref().map(|bytes| &bytes[..]))?;
-    write_field(out, 7, entry.date.map(str::as_bytes))?;
-    write_field(out, 8, entry.title.map(str::as_bytes))
+    write_field(out, YEAR, entry.year.map(i64::to_le_bytes).as_ref().map(|bytes| &bytes[..]))?;
+    write_field(out, DATE, entry.date.map(str::as_bytes))?;
+    write_field(out, TITLE, entry.title.map(str::as_bytes))
 }
 
 fn write_field(out: &mut Vec<u8>, tag: u8, bytes: Option<&[u8]>) -> Option<()> {

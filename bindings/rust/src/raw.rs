@@ -10,7 +10,8 @@
 //! `Bracket` has the layout of the header's struct: `repr(C)`, four `u16`.
 #![allow(unsafe_code)]
 
-use crate::{GROUP_RECORD, ITEM_RECORD, LABELS_MAX};
+#[cfg(feature = "alloc")]
+pub use ample::Ample;
 
 /// A bracket record: room in which the library keeps an open bracket while it builds an index.
 ///
@@ -28,16 +29,53 @@ pub struct Bracket {
     pub bad: u16,
 }
 
-/// How many numbers the answer of a look-up has: number, close, item count, note.
+/// What the first number of an answer is set to before a call. A call with an answer that is too short does nothing, and this stays; no call
+/// answers it.
+pub const NO_ANSWER: u32 = u32::MAX;
+
+/// The place of the number in every answer: 0 for accepted, or a refusal.
+pub const NUMBER: usize = 0;
+
+/// How many numbers the answer of a look-up has.
 pub const LOOK_UP: usize = 4;
-/// That of an annotation: number, groups, items, sources, label bytes, note.
+/// The place of the close in it.
+pub const LOOK_UP_CLOSE: usize = 1;
+/// The place of the item count in it.
+pub const LOOK_UP_ITEMS: usize = 2;
+/// The place of the note in it.
+pub const LOOK_UP_NOTE: usize = 3;
+
+/// How many numbers the answer of an annotation has.
 pub const ANNOTATION: usize = 6;
-/// That of a size call: number, records.
+/// The place of the count of groups in it.
+pub const ANNOTATION_GROUPS: usize = 1;
+/// The place of the count of items in it.
+pub const ANNOTATION_ITEMS: usize = 2;
+/// The place of the count of sources in it.
+pub const ANNOTATION_SOURCES: usize = 3;
+/// The place of the count of label bytes in it.
+pub const ANNOTATION_LABEL_BYTES: usize = 4;
+/// The place of the note in it.
+pub const ANNOTATION_NOTE: usize = 5;
+
+/// How many numbers the answer of a size call has.
 pub const SIZE: usize = 2;
-/// That of a locator call: number, label code, value pair, suffix pair.
+/// The place of the count of records in it.
+pub const SIZE_RECORDS: usize = 1;
+
+/// How many numbers the answer of a locator call has.
 pub const LOCATOR: usize = 6;
-/// That of a source text call: number, bytes.
+/// The place of the label code in it.
+pub const LOCATOR_LABEL_CODE: usize = 1;
+/// The place of the value in it, a pair: offset, then length.
+pub const LOCATOR_VALUE: usize = 2;
+/// The place of the suffix in it, a pair.
+pub const LOCATOR_SUFFIX: usize = 4;
+
+/// How many numbers the answer of a source text call has.
 pub const SOURCE_TEXT: usize = 2;
+/// The place of the count of bytes in it.
+pub const SOURCE_TEXT_BYTES: usize = 1;
 
 /// What an annotation is lent. A look-up is lent the first three.
 pub struct Lent<'a> {
@@ -55,50 +93,61 @@ pub struct Lent<'a> {
     pub labels: &'a mut [u8],
 }
 
-/// How many bytes of a text an item has at least: its `@`, a key of one byte, and the `;` or `]` behind it.
-const ITEM_BYTES: usize = 3;
+#[cfg(feature = "alloc")]
+mod ample {
+    use alloc::vec;
+    use alloc::vec::Vec;
 
-/// Areas that are long enough for every look-up and annotation of a text of at most so many bytes; labels above
-/// [`LABELS_MAX`](crate::LABELS_MAX) bytes are refused all the same.
-pub struct Ample {
-    index: Vec<u16>,
-    records: Vec<Bracket>,
-    items: Vec<u16>,
-    groups: Vec<u16>,
-    references: Vec<u16>,
-    labels: Vec<u8>,
-}
+    use super::{Bracket, Lent};
+    use crate::{GROUP_RECORD, ITEM_RECORD, LABELS_MAX};
 
-impl Ample {
-    /// Those for texts of at most `bytes` bytes, with room for as many items as the size call would say.
-    #[must_use]
-    pub fn new(bytes: usize) -> Ample {
-        let most = bytes / ITEM_BYTES;
-        Ample {
-            index: vec![0; bytes],
-            records: vec![Bracket::default(); bytes],
-            items: vec![0; ITEM_RECORD * most],
-            groups: vec![0; GROUP_RECORD * most],
-            references: vec![0; most],
-            labels: vec![0; LABELS_MAX],
-        }
+    /// How many bytes of a text an item has at least: its `@`, a key of one byte, and the `;` or `]` behind it.
+    const ITEM_BYTES: usize = 3;
+
+    /// Areas that are long enough for every look-up and annotation of a text of at most so many bytes; labels above
+    /// [`LABELS_MAX`](crate::LABELS_MAX) bytes are refused all the same.
+    pub struct Ample {
+        index: Vec<u16>,
+        records: Vec<Bracket>,
+        items: Vec<u16>,
+        groups: Vec<u16>,
+        references: Vec<u16>,
+        labels: Vec<u8>,
     }
 
-    /// What a text of `bytes` bytes is lent of them: of the index and the bracket records as many as it has bytes, or all.
-    pub fn lent(&mut self, bytes: usize) -> Lent<'_> {
-        let bytes = bytes.min(self.index.len());
-        Lent {
-            index: &mut self.index[..bytes],
-            records: &mut self.records[..bytes],
-            items: &mut self.items,
-            groups: &mut self.groups,
-            references: &mut self.references,
-            labels: &mut self.labels,
+    impl Ample {
+        /// Those for texts of at most `bytes` bytes, with room for as many items as the size call would say.
+        #[must_use]
+        pub fn new(bytes: usize) -> Ample {
+            let most = bytes / ITEM_BYTES;
+            Ample {
+                index: vec![0; bytes],
+                records: vec![Bracket::default(); bytes],
+                items: vec![0; ITEM_RECORD * most],
+                groups: vec![0; GROUP_RECORD * most],
+                references: vec![0; most],
+                labels: vec![0; LABELS_MAX],
+            }
+        }
+
+        /// What a text of `bytes` bytes is lent of them: of the index and the bracket records as many as it has bytes, or all.
+        pub fn lent(&mut self, bytes: usize) -> Lent<'_> {
+            let bytes = bytes.min(self.index.len());
+            Lent {
+                index: &mut self.index[..bytes],
+                records: &mut self.records[..bytes],
+                items: &mut self.items,
+                groups: &mut self.groups,
+                references: &mut self.references,
+                labels: &mut self.labels,
+            }
         }
     }
 }
 
 extern "C" {
+    // CITATIONS_VERSION of the header that this file follows; the archive has the name of its own version alone.
+    fn citations_version_1() -> u32;
     fn citations_look_up(
         text: *const u8,
         text_length: usize,
@@ -146,6 +195,17 @@ extern "C" {
         answer: *mut u32,
         answer_length: usize,
     );
+}
+
+// The reference by which a binary and an archive of two versions do not link.
+#[used]
+static VERSION_NEEDED: unsafe extern "C" fn() -> u32 = citations_version_1;
+
+/// The version of the library's calls and of their records, answers and numbers: `CITATIONS_VERSION` of include/citations.h. What is built with
+/// this crate links with an archive of this version alone.
+pub fn version() -> u32 {
+    // SAFETY: it takes nothing and answers its number.
+    unsafe { citations_version_1() }
 }
 
 /// The group at the bracket at `at`. With an `answer` shorter than [`LOOK_UP`] nothing is done.

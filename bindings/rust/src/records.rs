@@ -1,7 +1,7 @@
-//! Typed views of the records that the calls write into areas of `u16`.
+//! Typed views of the records that the calls write into areas of `u16`, and names for their codes and for the mode.
 
-use std::fmt;
-use std::ops::Range;
+use core::fmt;
+use core::ops::Range;
 
 /// How many `u16` an item record has.
 pub const ITEM_RECORD: usize = 16;
@@ -22,6 +22,12 @@ const LABEL: usize = 14;
 
 const SUPPRESSED: u16 = 1;
 const INTEGRAL: u16 = 2;
+
+// Where the fields of a group record begin.
+const GROUP: usize = 0;
+const FIRST_ITEM: usize = 2;
+const ITEM_COUNT: usize = 3;
+const STANDING: usize = 4;
 
 /// A part of a text or of the label bytes: offset and length in bytes.
 #[derive(Clone, Copy, Debug, PartialEq, Eq, Hash)]
@@ -78,7 +84,7 @@ pub enum LocatorLabel {
 }
 
 impl LocatorLabel {
-    /// All sixteen, in the order of their codes.
+    /// All of them, in the order of their codes.
     pub const ALL: [LocatorLabel; 16] = [
         LocatorLabel::SubVerbo,
         LocatorLabel::Paragraph,
@@ -98,14 +104,14 @@ impl LocatorLabel {
         LocatorLabel::Book,
     ];
 
-    /// Its code, 1 to 16.
+    /// Its code, from 1.
     pub fn code(self) -> u16 {
         self as u16
     }
 
     /// The label of a code; none for 0, and for a number that is no code.
     pub fn of(code: u16) -> Option<LocatorLabel> {
-        Self::ALL.get(usize::from(code).checked_sub(1)?).copied()
+        Self::ALL.into_iter().find(|label| label.code() == code)
     }
 }
 
@@ -252,6 +258,16 @@ impl fmt::Debug for ItemRecord<'_> {
     }
 }
 
+/// How an annotation labels its items and orders the sources.
+#[derive(Clone, Copy, Debug, PartialEq, Eq, Hash)]
+#[repr(u8)]
+pub enum Mode {
+    /// By number.
+    Number = 0,
+    /// By author and year, or the number where there is neither; the sources by author, or by key where no author is given.
+    AuthorYear = 1,
+}
+
 /// The standing of a group.
 #[derive(Clone, Copy, Debug, PartialEq, Eq, Hash)]
 #[repr(u16)]
@@ -276,22 +292,22 @@ impl<'a> GroupRecord<'a> {
 
     /// The group in the text, with both brackets.
     pub fn span(self) -> Span {
-        Span { offset: self.0[0], length: self.0[1] }
+        Span { offset: self.0[GROUP], length: self.0[GROUP + 1] }
     }
 
     /// Which items are its own, counted from 0.
     pub fn items(self) -> Range<usize> {
-        let first = usize::from(self.0[2]);
-        first..first + usize::from(self.0[3])
+        let first = usize::from(self.0[FIRST_ITEM]);
+        first..first + usize::from(self.0[ITEM_COUNT])
     }
 
     /// Its standing.
     ///
     /// # Panics
     ///
-    /// Where the record's last number is no standing; a record that a call wrote has one.
+    /// Where the record's number for it is no standing; a record that a call wrote has one.
     pub fn standing(self) -> Standing {
-        match self.0[4] {
+        match self.0[STANDING] {
             0 => Standing::InDefinition,
             1 => Standing::Undefined,
             2 => Standing::Numbered,
@@ -308,13 +324,27 @@ impl<'a> From<&'a [u16; GROUP_RECORD]> for GroupRecord<'a> {
 
 impl fmt::Debug for GroupRecord<'_> {
     fn fmt(&self, f: &mut fmt::Formatter<'_>) -> fmt::Result {
-        f.debug_struct("GroupRecord").field("span", &self.span()).field("items", &self.items()).field("standing", &self.0[4]).finish()
+        f.debug_struct("GroupRecord")
+            .field("span", &self.span())
+            .field("items", &self.items())
+            .field("standing", &self.0[STANDING])
+            .finish()
     }
 }
 
 /// Views of the item records of an area: those of the first `n` items are `item_records(&items[..ITEM_RECORD * n])`.
 pub fn item_records(area: &[u16]) -> impl ExactSizeIterator<Item = ItemRecord<'_>> {
     area.chunks_exact(ITEM_RECORD).map(|numbers| ItemRecord(numbers.try_into().unwrap()))
+}
+
+/// A view of the item record number `i` of an area, from 0; none where the area has no more than `i`.
+pub fn item_record(area: &[u16], i: usize) -> Option<ItemRecord<'_>> {
+    area.chunks_exact(ITEM_RECORD).nth(i).map(|numbers| ItemRecord(numbers.try_into().unwrap()))
+}
+
+/// A view of the group record number `i` of an area, from 0; none where the area has no more than `i`.
+pub fn group_record(area: &[u16], i: usize) -> Option<GroupRecord<'_>> {
+    area.chunks_exact(GROUP_RECORD).nth(i).map(|numbers| GroupRecord(numbers.try_into().unwrap()))
 }
 
 /// Views of the group records of an area: those of the first `n` groups are `group_records(&groups[..GROUP_RECORD * n])`.

@@ -1,11 +1,12 @@
-//! The ten refusals.
+//! The refusals.
 
-use std::error::Error;
-use std::fmt;
+use core::error::Error;
+use core::fmt;
 
-/// Why a call was refused: the ten numbers, [`Refusal::number`].
+/// Why a call was refused; each has its number, [`Refusal::number`].
 #[derive(Clone, Copy, Debug, PartialEq, Eq, Hash)]
 #[repr(u8)]
+#[non_exhaustive]
 pub enum Refusal {
     /// 1: the text has more than [`TEXT_MAX`](crate::TEXT_MAX) bytes.
     TextTooLong = 1,
@@ -29,9 +30,12 @@ pub enum Refusal {
     AreaTooShort = 10,
 }
 
+// The number of an answer that is no refusal.
+const ACCEPTED: u32 = 0;
+
 impl Refusal {
-    /// All ten, in the order of their numbers.
-    pub const ALL: [Refusal; 10] = [
+    /// All of them, in the order of their numbers, which need not follow each other without a gap.
+    pub const ALL: &'static [Refusal] = &[
         Refusal::TextTooLong,
         Refusal::TextNotUtf8,
         Refusal::NoBracket,
@@ -44,7 +48,7 @@ impl Refusal {
         Refusal::AreaTooShort,
     ];
 
-    /// The number, 1 to 10.
+    /// The number, from 1.
     pub fn number(self) -> u8 {
         self as u8
     }
@@ -53,12 +57,14 @@ impl Refusal {
     ///
     /// # Panics
     ///
-    /// The library answers 0 to 10 and no other number.
+    /// Where the number is no other one that the library answers. An answer that was not given
+    /// ([`NO_ANSWER`](crate::raw::NO_ANSWER)) is none either.
     pub(crate) fn of(number: u32) -> Option<Refusal> {
-        if number == 0 {
+        if number == ACCEPTED {
             return None;
         }
-        Some(Self::ALL[number as usize - 1])
+        let refusal = Self::ALL.iter().find(|refusal| u32::from(refusal.number()) == number);
+        Some(*refusal.unwrap_or_else(|| panic!("no number of an answer: {number}")))
     }
 }
 

@@ -1,4 +1,5 @@
 //! A kept index and a fresh one give the same answers, and the owned layer gives those of the lent calls.
+#![cfg(feature = "alloc")]
 
 mod common;
 
@@ -111,7 +112,9 @@ fn the_owned_layer_gives_the_lent_answers() {
                     assert_eq!((group.close(), group.items().len()), (found.close, found.items));
                     for (i, item) in group.items().enumerate() {
                         assert_eq!(item.numbers()[..], areas.items[16 * i..16 * (i + 1)]);
+                        assert_eq!(group.item(i), Some(item));
                     }
+                    assert_eq!(group.item(found.items), None);
                 }
                 Err(refusal) => assert_eq!(refusal, answer.unwrap_err().refusal),
             }
@@ -124,7 +127,34 @@ fn the_owned_layer_gives_the_lent_answers() {
         assert_eq!((annotated.groups().len(), annotated.items().len()), (counts.groups, counts.items));
         let labels: Vec<u8> = annotated.items().filter_map(|item| annotated.label(item)).flatten().copied().collect();
         assert_eq!(labels, annotated.labels());
+        assert!((0..counts.groups).map(|i| annotated.group(i)).eq(annotated.groups().map(Some)));
+        assert!((0..counts.items).map(|i| annotated.item(i)).eq(annotated.items().map(Some)));
+        assert_eq!((annotated.group(counts.groups), annotated.item(counts.items)), (None, None));
+        for source in 1..=counts.sources as u16 {
+            let first = annotated.first_item_of(source).unwrap();
+            let before = annotated.items().take_while(|item| *item != first);
+            assert_eq!(before.filter_map(|item| item.number()).max().unwrap_or(0), source - 1);
+        }
+        assert_eq!(annotated.first_item_of(counts.sources as u16 + 1), None);
     }
+}
+
+// A text of each kind, and two groups of one index at once.
+#[test]
+fn an_index_has_its_text_or_borrows_it() {
+    fn closes<T: AsRef<[u8]>>(mut index: Index<T>) -> T {
+        let (first, second) = (index.look_up(0).unwrap(), index.look_up(5).unwrap());
+        assert_eq!((first.close(), second.close()), (3, 11));
+        let keys = [&first, &second].map(|group| group.item(0).unwrap().key().of(index.text()));
+        assert_eq!(keys, [&b"a"[..], b"bcd"]);
+        index.into_text()
+    }
+    let text = "[@a] [@bcd ]";
+    assert_eq!(closes(Index::new(text).unwrap()), text);
+    assert_eq!(closes(Index::new(text.as_bytes()).unwrap()), text.as_bytes());
+    assert_eq!(closes(Index::new(text.to_string()).unwrap()), text);
+    assert_eq!(closes(Index::new(text.as_bytes().to_vec()).unwrap()), text.as_bytes());
+    assert_eq!(closes(Index::new(std::borrow::Cow::from(text.as_bytes())).unwrap()), text.as_bytes());
 }
 
 #[test]

@@ -1,4 +1,4 @@
-//! Document 01's examples, its ten refusals and its listing, through the lent calls.
+//! Document 01's examples, its refusals and its listing, through the lent calls.
 
 mod common;
 
@@ -147,7 +147,7 @@ fn a_good_index_and_no_bracket_records_are_refused() {
     assert_eq!(areas.annotate(b"a", 0, b"", BUILT), Err(refused));
 }
 
-// The ten refusals, each by the example of document 01's table.
+// The refusals, each by the example of document 01's table.
 
 #[test]
 fn refusal_1() {
@@ -271,8 +271,22 @@ fn refusals_5_and_10_keep_a_built_index() {
 
 #[test]
 fn numbers_of_refusals() {
-    for (i, refusal) in Refusal::ALL.iter().enumerate() {
-        assert_eq!(usize::from(refusal.number()), i + 1);
+    // document 01's table
+    let numbers = [
+        (1, Refusal::TextTooLong),
+        (2, Refusal::TextNotUtf8),
+        (3, Refusal::NoBracket),
+        (4, Refusal::BracketEscaped),
+        (5, Refusal::NoGroup),
+        (6, Refusal::BadMode),
+        (7, Refusal::BadPool),
+        (8, Refusal::NoEntry),
+        (9, Refusal::IndexTooShort),
+        (10, Refusal::AreaTooShort),
+    ];
+    assert!(Refusal::ALL.iter().eq(numbers.iter().map(|(_, refusal)| refusal)));
+    for (number, refusal) in numbers {
+        assert_eq!(refusal.number(), number);
         assert!(!refusal.to_string().is_empty());
     }
 }

@@ -15,8 +15,8 @@ use Rattle.base.proofs.Searches.{first-from, first-by, first-out, first-stop, f
 use Rattle.base.proofs.Lasts.{last-end-from, last-end-by, last-end-out, last-end-stop, last-end-more}
 use Rattle.base.proofs.Parts.{part-is, part-length, take-part, drop-part}
 use Rattle.white.specs.White.{isWhite}
-use Rattle.white.specs.Bytes.{isInk}
-use Rattle.white.proofs.Whites.{ink-plain}
+use Rattle.white.specs.Bytes.{isAsciiGraphic}
+use Rattle.white.proofs.Whites.{graphic-plain}
 use Rattle.text.specs.Trim.{trimStart}
 use Rattle.text.proofs.Trims.{start-from, start-plain}
 use Rattle.attributes.specs.declared.Value.the-variants.{Given, Missing}
@@ -40,10 +40,10 @@ module _ (s : List ℕ) (i : ℕ) {w : ℕ} (p : w ≡ first (λ k. isWhite s k)
   pub word-more : {b : Bool} → i < length s → b ≡ isWhite s i → b ≡ false → w ≡ first (λ k. isWhite s k) (length s - (i + 1)) (i + 1)
   word-more h q t = first-more (λ k. isWhite s k) i (length s) p h (sym q ∙ t)
 
-  pub word-ink : {b : Bool} → i < length s → b ≡ isInk (byteAt s i) → b ≡ true → w ≡ first (λ k. isWhite s k) (length s - (i + 1)) (i + 1)
-  word-ink h q t = word-more h (sym (ink-plain s i (sym q ∙ t))) refl
+  pub word-graphic : {b : Bool} → i < length s → b ≡ isAsciiGraphic (byteAt s i) → b ≡ true → w ≡ first (λ k. isWhite s k) (length s - (i + 1)) (i + 1)
+  word-graphic h q t = word-more h (sym (graphic-plain s i (sym q ∙ t))) refl
 
-pub ruleset word-laws = (word-start, word-out, word-stop, word-more, word-ink)
+pub ruleset word-laws = (word-start, word-out, word-stop, word-more, word-graphic)
 
 -- bytes stripped from the end ------------------------------------------------------------------------------------------------------
 

@@ -1,6 +1,6 @@
 // The attributes of a definition line (`attr_value`): words `name=value` parted by white space.
 use base::Span;
-use base::bytes;
+use base::slices;
 ghost use mathlib.Core.Path.{_≡_};
 ghost use Prim.Native.Nat.{_+_, _-_, _≤_};
 ghost use lib.ListN.{length};
@@ -21,7 +21,7 @@ fn word_end(attributes: &[u8], from: usize) -> usize
 {
     let mut i = from;
     while i < attributes.len() {
-        if white::is_ink(attributes[i]) {
+        if white::is_ascii_graphic(attributes[i]) {
             i += 1;
         } else if text::is_white_at(attributes, i) {
             return i;
@@ -54,9 +54,9 @@ fn bare_value(attributes: &[u8], a: usize, e: usize) -> Span
     ensures { λ r. ⌜ bytesOf (now (attributes .entry)) r ≡ bare (part (now (attributes .entry)) a e) ⌝ }
     ensures within { λ r. ⌜ r .at + r .len ≤ length (now (attributes .entry)) ⌝ }
 {
-    let from = bytes::skip_byte(attributes, b'"', a, e);
+    let from = slices::skip_byte(attributes, b'"', a, e);
     let to = end_without(attributes, b'"', from, e);
-    let start = bytes::skip_byte(attributes, b'\'', from, to);
+    let start = slices::skip_byte(attributes, b'\'', from, to);
     let end = end_without(attributes, b'\'', start, to);
     Span {
         at: start,
@@ -69,7 +69,7 @@ fn is_name(attributes: &[u8], a: usize, e: usize, key: &[u8]) -> bool
     requires { ⌜ (a ≤ e) × (e ≤ length (now attributes)) ⌝ }
     ensures { λ r. ⌜ r ≡ same (part (now (attributes .entry)) a e) (now (key .entry)) ⌝ }
 {
-    bytes::is_same(&attributes[a..e], key)
+    slices::is_same(&attributes[a..e], key)
 }
 
 // The value of the first word `key=value`. A word without `=` before it ends the search.
@@ -84,7 +84,7 @@ pub fn attr_value(attributes: &[u8], key: &[u8]) -> Value
             return Value::Missing;
         }
         let end = word_end(attributes, start);
-        let equals = bytes::find_byte(attributes, b'=', start, end);
+        let equals = slices::find_byte(attributes, b'=', start, end);
         if end <= equals {
             return Value::Missing;
         }

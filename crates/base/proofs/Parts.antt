@@ -3,13 +3,23 @@ use Prim.Native.Nat.{ℕ, _+_, _-_, _≤_, _<_}
 use native.Mathlib.Omega.{arith}
 use mathlib.Core.Path.{_≡_, refl, sym, _∙_, ap}
 use mathlib.Core.List.{List, []}
+use mathlib.Core.Bool.{Bool, true, false}
 use lib.ListN.{length, take, drop, length-take, length-drop, List·getD-eq-default}
 use lib.Seq.{take-take, take-all, getD-take, getD-drop, ext-getD}
-use borrow.Author.Tests.{le-leb, lt-leb}
+use lib.Dec.{ltb}
+use borrow.Author.Tests.{le-leb, lt-leb, ltb-true, ltb-false}
 use Rattle.base.specs.Lists.{byteAt, part}
 
 pub byte-past : (s : List ℕ) (i : ℕ) → length s ≤ i → 0 ≡ byteAt s i
 byte-past s i h = sym (List·getD-eq-default s 0 h)
+
+-- a byte that is not 0 is there
+pub byte-there : (s : List ℕ) (i : ℕ) → 0 < byteAt s i → i < length s
+byte-there s i h = go (ltb i (length s)) refl
+  where
+    go : (t : Bool) → ltb i (length s) ≡ t → i < length s
+    go true q = ltb-true i (length s) q
+    go false q = let z = byte-past s i (ltb-false i (length s) q) in absurd (omega arith)
 
 module _ (s : List ℕ) (a e : ℕ) (l : a ≤ e) (h : e ≤ length s) where
   pub part-is : part s a e ≡ take (e - a) (drop a s)

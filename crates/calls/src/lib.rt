@@ -1,13 +1,5 @@
-// The five calls. Each takes any arguments, and answers by an enum whose numbers and values a definition gives (specs/Values of its crate).
-// Layouts: a pair is offset and length, 0 0 where the part is missing. Item record, 16 u16: pairs for prefix, key, locator, value, suffix; label
-// code; marks (1 suppressed, 2 integral, added); number; use; label pair. Group record, 5 u16: pair, first item, item count, standing (0 in a
-// definition line, 1 a key undefined, 2 numbered). Reference record, one u16 a source. Index: one u16 a text byte, the place of a bracket's
-// close or 0. Note: 1 for built, all else for not built.
-// Ten numbers: 1 text above 65,535 bytes; 2 text not UTF-8; 3 no `[` at the position, or past the end; 4 bracket escaped; 5 no group at this
-// bracket; 6 mode not 0 or 1; 7 pool breaks its layout; 8 entry number N or more, or no pool; 9 index or bracket records fewer than text
-// bytes; 10 answer longer than its area, or labels above 65,535 bytes.
-// A refusal returns its number and the note as it was given, and touches nothing; but 5 and 10 keep an index built on the way, with its note,
-// and 10 from annotation fills its four answer areas with zeros.
+// The public calls. Each takes any arguments, and answers by an enum whose numbers and values a definition gives (specs/Values of its crate).
+// The layouts of records and areas, the note, the refusals and what each leaves behind are in include/citations.h, the manual of these calls.
 pub use annotation::answer::Annotation;
 pub use index::Bracket;
 pub use lookup::LocatorAnswer;

@@ -26,7 +26,7 @@ DefinedIn pool n (Line g) = g < n
 DefinedIn pool n (EntryOf i) = i < countOf pool
 DefinedIn pool n Nothing = Unit {0}
 
--- "The last definition line of a key wins; else the first pool entry with that id": what the key is defined by
+-- what the key is defined by: the last line of it among the records, else the first entry with its id
 unfoldable pub foundIn : List ℕ → List ℕ → List ℕ → ℕ → List ℕ → List ℕ → Defined
 foundIn text groups items n pool key =
     pick (ltb (lineIn text groups items n key) n)

@@ -15,7 +15,7 @@ use Rattle.definition.specs.Defs.{entryDefines}
 unfoldable pub entryHas : List ℕ → List ℕ → ℕ → Bool
 entryHas pool key i = entryDefines key (entryAt pool i)
 
--- "the first pool entry with that id": its number; the count of entries where there is none
+-- the number of the first entry that defines the key; the count of entries where there is none
 unfoldable pub entryIn : List ℕ → List ℕ → ℕ
 entryIn pool key = first (entryHas pool key) (countOf pool) 0
 

@@ -10,8 +10,7 @@ use Rattle.definition.specs.Defs.{Def, lineDef}
 use Rattle.records.specs.Records.{groupField, keyIn, bareIn, closeOfRecord, nextIn}
 use Rattle.records.specs.Widths.{group-place, group-count, group-first}
 
--- group record `g` starts a definition line: "starts .. with a group of one item, no prefix, no locator, not suppressed; then `:` and at
--- least one space"
+-- group record `g` starts a definition line
 unfoldable pub definesIn : List ℕ → List ℕ → List ℕ → ℕ → Bool
 definesIn text groups items g =
     startsLine text (groupField groups g group-place) && eqb (groupField groups g group-count) 1 && bareIn items (groupField groups g group-first)
@@ -21,7 +20,7 @@ definesIn text groups items g =
 unfoldable pub definesKeyIn : List ℕ → List ℕ → List ℕ → List ℕ → ℕ → Bool
 definesKeyIn text groups items key g = definesIn text groups items g && same (keyIn text items (groupField groups g group-first)) key
 
--- "The last definition line of a key wins": its group number among the first `n`; `n` where there is none
+-- the last definition line of the key: its group number among the first `n`; `n` where there is none
 unfoldable pub lineIn : List ℕ → List ℕ → List ℕ → ℕ → List ℕ → ℕ
 lineIn text groups items n key = last (definesKeyIn text groups items key) n n
 

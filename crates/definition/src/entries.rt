@@ -27,9 +27,9 @@ pub fn entry_id(pool: &[u8], i: usize) -> &[u8]
         Found::At { part } => {
             let start = part.at;
             let len = part.len;
-            base::bytes::part_of(pool, start, len)
+            base::slices::part_of(pool, start, len)
         }
-        Found::Missing => base::bytes::part_of(pool, 0, 0),
+        Found::Missing => base::slices::part_of(pool, 0, 0),
     }
 }
 
@@ -42,7 +42,7 @@ fn has_id(pool: &[u8], i: usize, key: &[u8]) -> bool
     if own.len() == 0 {
         return false;
     }
-    base::bytes::is_same(own, key)
+    base::slices::is_same(own, key)
 }
 
 // The number of the first entry with the id `key`; the count of entries where none has it.

@@ -58,7 +58,7 @@ fn defines_key_in(text: &[u8], groups: &[u16], items: &[u16], g: usize, key: &[u
     if colon(text, records::close_of_record(groups, g)) {
         let k = records::group_field(groups, g, records::GROUP_FIRST);
         let own = records::key_in(text, items, k);
-        if base::bytes::is_same(own, key) {
+        if base::slices::is_same(own, key) {
             defines_in(text, groups, items, g)
         } else {
             false

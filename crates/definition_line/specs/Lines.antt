@@ -26,7 +26,7 @@ startsLine text at = eqb at 0 || eqb (byteAt text (at - 1)) 10
 
 -- "no prefix, no locator, not suppressed"; a part that is there has a byte or more
 unfoldable pub bareItem : Item → Bool
-bareItem i = eqb (i .prefix .len) 0 && eqb (i .whole .len) 0 && not (i .suppressed)
+bareItem i = eqb (i .prefix .len) 0 && eqb (i .locator .len) 0 && not (i .suppressed)
 
 -- "a group of one item, no prefix, no locator, not suppressed"
 unfoldable pub onlyKey : List Item → Bool

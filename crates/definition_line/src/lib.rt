@@ -1,6 +1,6 @@
 // Definition lines: where they begin, and where their attributes lie.
 use base::Span;
-use base::bytes;
+use base::slices;
 ghost use mathlib.Core.Path.{_≡_};
 ghost use Prim.Native.Nat.{_+_, _≤_, _<_};
 ghost use lib.ListN.{length};
@@ -13,7 +13,7 @@ pub fn break_at(text: &[u8], a: usize, e: usize) -> usize
     requires { ⌜ e ≤ length (now text) ⌝ }
     ensures { λ r. ⌜ r ≡ breakAt (now (text .entry)) a e ⌝ }
 {
-    bytes::find_byte(text, b'\n', a, e)
+    slices::find_byte(text, b'\n', a, e)
 }
 
 // The first `}` or LF from `a` up to `e`, or `e`.
@@ -57,7 +57,7 @@ fn after_spaces(text: &[u8], close: usize) -> usize
     requires { ⌜ close < length (now text) ⌝ }
     ensures { λ r. ⌜ r ≡ afterSpaces (now (text .entry)) close ⌝ }
 {
-    bytes::skip_byte(text, b' ', close + 2, text.len())
+    slices::skip_byte(text, b' ', close + 2, text.len())
 }
 
 // Where the attributes of a definition line lie, whose first group closes at `close`, the group after that one beginning at `next`. Without

@@ -1,4 +1,4 @@
-// The five calls for C and Rust, under the names of include/citations.h. A slice is a pointer and a length in elements.
+// The public calls for C and Rust, under the names of include/citations.h. A slice is a pointer and a length in elements.
 // `answer` gets the number (0 accepted), then the values in the paper's order; a call with a shorter one does nothing.
 use index::Bracket;
 ghost use mathlib.Core.Path.{_≡_};
@@ -106,4 +106,13 @@ pub extern "C" fn citations_source_text(
     if answers::has_room(answer, 2) {
         answers::write_source_text(calls::source_text(pool, entry, area), answer);
     }
+}
+
+// CITATIONS_VERSION of include/citations.h. What is compiled against that header refers to this name, so it links with no archive of another
+// version. The number stands in the name too, and both are raised together.
+#[no_mangle]
+pub extern "C" fn citations_version_1() -> u32
+    ensures { λ r. ⌜ r ≡ 1 ⌝ }
+{
+    1
 }

@@ -14,10 +14,10 @@ use Rattle.base.proofs.Picks.{pick-not}
 use Rattle.base.proofs.Lasts.{last-end-stop, last-end-some, last-end-none}
 use Rattle.base.proofs.Searches.{first-out, first-stop, first-more, first-from, first-by, first-fails}
 use Rattle.white.specs.White.{isWhite}
-use Rattle.white.specs.Bytes.{isInk}
+use Rattle.white.specs.Bytes.{isAsciiGraphic}
 use Rattle.text.specs.Trim.{trimEnd}
 use Rattle.text.proofs.Trims.{end-by}
-use Rattle.white.proofs.Whites.{ink-plain}
+use Rattle.white.proofs.Whites.{graphic-plain}
 use Rattle.index.specs.declared.Bracket.{Bracket}
 use Rattle.index.specs.declared.Reads.{Reads}
 use Rattle.index.specs.declared.Scan.{Scan}
@@ -39,15 +39,15 @@ read-past s i r h = rw (ne-eqb _ 59 (ordinary-ne 59 refl h), ne-eqb _ 64 (ordina
 
 -- content ---------------------------------------------------------------------------------------------------------------------------
 
-pub content-here : (s : List ℕ) (i k : ℕ) {b : Bool} → b ≡ isInk (byteAt s i) → b ≡ true → i + 1 ≡ pick (isWhite s i) k (i + 1)
-content-here s i k p t = rw (ink-plain s i (sym p ∙ t))
+pub content-here : (s : List ℕ) (i k : ℕ) {b : Bool} → b ≡ isAsciiGraphic (byteAt s i) → b ≡ true → i + 1 ≡ pick (isWhite s i) k (i + 1)
+content-here s i k p t = rw (graphic-plain s i (sym p ∙ t))
 
 pub end-fits : (s : List ℕ) (a e : ℕ) {x : ℕ} → x ≡ trimEnd s a e → a < e → e ≤ length s → length s ≤ 65535 → x < 65536
 end-fits s a e p h l m = omega (arith, end-by s a e)
 
 module _ (s : List ℕ) (a e : ℕ) (k : ℕ) where
-  pub content-ink : {b : Bool} → a < e → b ≡ isInk (byteAt s (e - 1)) → b ≡ true → e ≡ contentIn s a (e - a) k
-  content-ink h p t = last-end-stop (λ i. not (isWhite s i)) a e k refl h (ap not (ink-plain s (e - 1) (sym p ∙ t)))
+  pub content-graphic : {b : Bool} → a < e → b ≡ isAsciiGraphic (byteAt s (e - 1)) → b ≡ true → e ≡ contentIn s a (e - a) k
+  content-graphic h p t = last-end-stop (λ i. not (isWhite s i)) a e k refl h (ap not (graphic-plain s (e - 1) (sym p ∙ t)))
 
   pub content-some : {x : ℕ} → x ≡ trimEnd s a e → a < x → x ≡ contentIn s a (e - a) k
   unfolding trimEnd
@@ -157,7 +157,7 @@ fill-all x area n m e h l = let z : n ≡ m = omega arith in rw (← z) e
 pub ruleset passing-laws = (
   content-here,
   end-fits,
-  content-ink,
+  content-graphic,
   content-some,
   content-none,
   ordinary-out,

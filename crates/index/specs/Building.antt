@@ -6,7 +6,7 @@ use lib.ListN.{length}
 use Rattle.index.specs.declared.Bracket.{Bracket}
 use Rattle.index.specs.Built.{builtIndex, builtRecords, indexAfter, recordsAfter}
 
--- a build can be had: no "index or bracket records fewer than text bytes", `n` and `m` of them being lent, and every place fits a u16
+-- a build can be had: `n` index entries and `m` bracket records are enough for the text, and every place fits a u16
 pub record Enough (s : List ℕ) (n m : ℕ) : Type 0 where
   pub short : length s ≤ 65535
   pub wide : length s ≤ n

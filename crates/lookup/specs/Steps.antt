@@ -31,7 +31,7 @@ abbrev pub CanFinish : List ℕ → ℕ → Prepared → Type 0
 CanFinish s at (NotReady number) = Unit {0}
 CanFinish s at (Ready l) = (length s ≤ 65535) × (at < length s) × LookInside s at l
 
--- the answer from what the bracket gives: "5 no group at this bracket", "10 answer longer than its area"
+-- the answer from what the bracket gives: 5, 10, or accepted
 unfoldable pub answered : GroupAnswer → ℕ → List ℕ → LookUp
 answered (Found g) note items = pick (ltb (length items) (recordsLength g)) (Refused 10 note) (Accepted (g .close) (length (g .items)) note)
 answered NoGroup note items = Refused 5 note

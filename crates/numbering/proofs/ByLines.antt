@@ -111,7 +111,7 @@ module _ (text before : List ℕ) (i : Item) (after : List ℕ) (k : ℕ) (h : l
   bare-at =
       let here : List ℕ = unnumberedRecord i ++ after in
       rw (item-field before here k 1 h, item-field before here k 5 h, item-field before here k 11 h)
-      (ap (λ (b : Bool). eqb (i .prefix .len) 0 && eqb (i .whole .len) 0 && b) (go (i .suppressed)))
+      (ap (λ (b : Bool). eqb (i .prefix .len) 0 && eqb (i .locator .len) 0 && b) (go (i .suppressed)))
     where
       go : (s b : Bool) → eqb ((pick s 1 0 + pick b 2 0) % 2) 0 ≡ not s
       go true true = refl

@@ -1,5 +1,4 @@
--- Theorems: numbers, uses and labels as the code writes them into the records, record by record,
--- for the theorem `NumbersAgree` of the crate annotation.
+-- Follows the code; nothing to believe: numbers, uses and labels as the code writes them into the records, record by record.
 use Prim.Native.Nat.{ℕ, zero, suc, _+_, _*_}
 use mathlib.Core.List.{List, [], _++_}
 use mathlib.Core.Bool.{Bool, true, _&&_, not}
@@ -78,7 +77,7 @@ module _ (text : List ℕ) (mode : ℕ) (pool : List ℕ) (n : ℕ) where
     labels = t .labels;
   }
 
-  -- "A group with any undefined key gets no number, use or label", and none in a definition line does
+  -- a group with an undefined key gets no number, use or label, and none in a definition line does
   unfoldable pub isNumbered : Numbered → ℕ → Bool
   isNumbered t g =
       not (eqb (groupField (t .groups) g group-standing) 0)

@@ -61,7 +61,7 @@ fn key_by<'a>(
             )
         }
         Defined::Entry { number } => definition::entries::entry_id(pool, number),
-        Defined::Nothing => base::bytes::part_of(text, 0, 0),
+        Defined::Nothing => base::slices::part_of(text, 0, 0),
     }
 }
 

@@ -3,3 +3,4 @@ pub mod FieldLaws
 pub mod LayoutLaws
 pub mod ReaderLaws
 pub mod PoolLaws
+pub mod Shapes

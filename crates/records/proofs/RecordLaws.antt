@@ -72,8 +72,8 @@ module _ (row : List ℕ) {r₁ r₂ : List ℕ} where
   locator-is l e₂ e₁ c w v = rw (e₂, e₁, c, w, v) refl
 
   pub record-is : (it : Item) {r₃ : List ℕ} {marks : ℕ} → r₃ ≡ putAt item-marks (marks ∷ 0 ∷ 0 ∷ 0 ∷ 0 ∷ []) r₂
-      → r₂ ≡ putAt item-value (pairOf (valueOf (it .locator)) ++ pairOf (suffixOf (it .locator)) ++ (codeOf (it .locator) ∷ [])) r₁
-      → r₁ ≡ putAt item-prefix (pairOf (it .prefix) ++ pairOf (it .key) ++ pairOf (it .whole)) row
+      → r₂ ≡ putAt item-value (pairOf (valueOf (it .parts)) ++ pairOf (suffixOf (it .parts)) ++ (codeOf (it .parts) ∷ [])) r₁
+      → r₁ ≡ putAt item-prefix (pairOf (it .prefix) ++ pairOf (it .key) ++ pairOf (it .locator)) row
       → marks ≡ pick (it .suppressed) 1 0 → itemWidth ≤ length row → r₃ ≡ written (unnumberedRecord it) row
   unfolding unnumberedRecord itemRecord marksOf putAt
   record-is it e₃ e₂ e₁ m h = rw (e₃, e₂, e₁, m) (put-written (unnumberedRecord it) row (rw record-length h))
@@ -96,8 +96,8 @@ item-narrow s a e {it = it} q g h k =
     record {
       prefix = narrow-within l (w .0);
       key = narrow-within l (w .1 .0);
-      whole = narrow-within l (w .1 .1 .0);
-      locator = record { value = narrow-within l (w .1 .1 .1 .0); suffix = narrow-within l (w .1 .1 .1 .1 .0) };
+      locator = narrow-within l (w .1 .1 .0);
+      parts = record { value = narrow-within l (w .1 .1 .1 .0); suffix = narrow-within l (w .1 .1 .1 .1 .0) };
     }
 
 module _ (s : List ℕ) (a e : ℕ) (row : List ℕ) {r : Parsed} (q : r ≡ itemOf s a e) where

@@ -17,8 +17,8 @@ marksOf it = pick (it .suppressed) 1 0
 -- the record of an item with its number, its use and its label
 unfoldable pub itemRecord : Item → ℕ → ℕ → Span → List ℕ
 itemRecord it number use-index label =
-    pairOf (it .prefix) ++ pairOf (it .key) ++ pairOf (it .whole) ++ pairOf (valueOf (it .locator)) ++ pairOf (suffixOf (it .locator))
-    ++ (codeOf (it .locator) ∷ marksOf it ∷ number ∷ use-index ∷ pairOf label)
+    pairOf (it .prefix) ++ pairOf (it .key) ++ pairOf (it .locator) ++ pairOf (valueOf (it .parts)) ++ pairOf (suffixOf (it .parts))
+    ++ (codeOf (it .parts) ∷ marksOf it ∷ number ∷ use-index ∷ pairOf label)
 
 -- "The last four are 0 where not numbered or only looked up."
 unfoldable pub unnumberedRecord : Item → List ℕ

@@ -3,3 +3,4 @@ pub mod Records
 pub mod ItemRecords
 pub mod Fields
 pub mod Writing
+pub mod Facts

@@ -14,19 +14,19 @@ use Rattle.records.specs.Fields.{itemField}
 unfoldable pub groupField : List ℕ → ℕ → ℕ → ℕ
 groupField groups g c = getD groups (groupWidth * g + c) 0
 
--- "pairs for prefix, key (without `@`), locator": the bytes of the key of item record `k`
+-- the bytes of the key of item record `k`
 unfoldable pub keyIn : List ℕ → List ℕ → ℕ → List ℕ
 keyIn text items k = part text (itemField items k item-key) (itemField items k item-key + itemField items k item-key-length)
 
--- the mark of suppression
+-- item record `k` is marked as suppressed
 unfoldable pub suppressedIn : List ℕ → ℕ → Bool
 suppressedIn items k = eqb (itemField items k item-marks % 2) 1
 
--- "no prefix, no locator, not suppressed"
+-- item record `k` has no prefix and no locator, and is not suppressed
 unfoldable pub bareIn : List ℕ → ℕ → Bool
 bareIn items k = eqb (itemField items k item-prefix-length) 0 && eqb (itemField items k item-locator-length) 0 && eqb (itemField items k item-marks % 2) 0
 
--- "pair, first item, item count": the place of the close of group record `g`
+-- the place of the close of group record `g`
 unfoldable pub closeOfRecord : List ℕ → ℕ → ℕ
 closeOfRecord groups g = groupField groups g group-place + groupField groups g group-length - 1
 

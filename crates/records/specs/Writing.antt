@@ -40,8 +40,8 @@ pub record NarrowLocator (l : Locator) : Type 0 where
 pub record NarrowItem (it : Item) : Type 0 where
   pub prefix : Narrow (it .prefix)
   pub key : Narrow (it .key)
-  pub whole : Narrow (it .whole)
-  pub locator : NarrowLocator (it .locator)
+  pub locator : Narrow (it .locator)
+  pub parts : NarrowLocator (it .parts)
 
 -- the records of the group at `p` with its close at `c` can be written: all its items are good, and there is room for them
 pub record Writable (s : List ℕ) (p c : ℕ) (items : List ℕ) : Type 0 where

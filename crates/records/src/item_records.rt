@@ -40,18 +40,18 @@ fn marks(suppressed: bool) -> u16
     if suppressed { 1 } else { 0 }
 }
 
-// The pairs of the prefix, the key and the whole locator.
+// The pairs of the prefix, the key and the locator.
 fn write_parts(row: &mut [u16], item: Item)
     requires { ⌜ (itemWidth ≤ length (now row)) × NarrowItem item ⌝ }
-    ensures { λ _. ⌜ Put item-prefix (pairOf (item .prefix) ++ pairOf (item .key) ++ pairOf (item .whole))
+    ensures { λ _. ⌜ Put item-prefix (pairOf (item .prefix) ++ pairOf (item .key) ++ pairOf (item .locator))
         (now (row .entry)) (now (row .exit)) ⌝ }
 {
     let prefix = item.prefix;
     let key = item.key;
-    let whole = item.whole;
+    let locator = item.locator;
     write_pair(row, crate::ITEM_PREFIX, prefix);
     write_pair(row, crate::ITEM_KEY, key);
-    write_pair(row, crate::ITEM_LOCATOR, whole);
+    write_pair(row, crate::ITEM_LOCATOR, locator);
 }
 
 // What the locator says: the pairs of value and suffix, and the label code.
@@ -85,7 +85,7 @@ fn write_record(item: Item, row: &mut [u16])
     requires { ⌜ (itemWidth ≤ length (now row)) × NarrowItem item ⌝ }
     ensures { λ _. ⌜ now (row .exit) ≡ written (unnumberedRecord item) (now (row .entry)) ⌝ }
 {
-    let l = item.locator;
+    let l = item.parts;
     write_parts(row, item);
     write_locator(row, l);
     write_marks(row, marks(item.suppressed));

@@ -4,6 +4,7 @@ pub mod item_records;
 ghost use mathlib.Core.Path.{_≡_};
 ghost use Prim.Native.Nat.{_<_};
 ghost use lib.ListN.{getD, set};
+ghost use Rattle.records.specs.Facts.{ItemPlaces};
 ghost use Rattle.records.specs.Records.{groupField, keyIn, suppressedIn, bareIn, closeOfRecord, nextIn};
 ghost use Rattle.records.specs.Fields.{itemField};
 
@@ -99,7 +100,7 @@ pub fn key_in<'a>(text: &'a [u8], items: &[u16], k: usize) -> &'a [u8]
 {
     let at = item_field(items, k, ITEM_KEY);
     let len = item_field(items, k, ITEM_KEY_LENGTH);
-    base::bytes::part_of(text, at, len)
+    base::slices::part_of(text, at, len)
 }
 
 // Whether item record `k` is marked as suppressed.
@@ -116,9 +117,9 @@ pub fn bare_in(items: &[u16], k: usize) -> bool
     ensures { λ r. ⌜ r ≡ bareIn (now (items .entry)) k ⌝ }
 {
     let prefix = item_field(items, k, ITEM_PREFIX_LENGTH);
-    let whole = item_field(items, k, ITEM_LOCATOR_LENGTH);
+    let locator = item_field(items, k, ITEM_LOCATOR_LENGTH);
     let marks = item_field(items, k, ITEM_MARKS);
-    (prefix == 0) & (whole == 0) & (marks % 2 == 0)
+    (prefix == 0) & (locator == 0) & (marks % 2 == 0)
 }
 
 // The place of the close of group record `g`.
@@ -141,3 +142,8 @@ pub fn next_in(text: &[u8], groups: &[u16], n: usize, g: usize) -> usize
         text.len()
     }
 }
+
+// The theorem of specs/Facts. The function does nothing; its contract states it.
+pub fn theorems()
+    ensures item_places { λ _. ⌜ ItemPlaces ⌝ }
+{}

@@ -59,10 +59,10 @@ pub fn is_locator_answer(answer: LocatorAnswer, body: &[u8]) -> bool {
 
 // Whether an item has the record that `body` begins with: pairs of prefix, key and locator, value and suffix, label code, marks.
 fn is_item(item: Item, body: &[u8]) -> bool {
-    let l = item.locator;
+    let l = item.parts;
     is_pair(item.prefix, body)
         & is_pair(item.key, after(body, 4))
-        & is_pair(item.whole, after(body, 8))
+        & is_pair(item.locator, after(body, 8))
         & is_located(l, after(body, 12))
         & (number(body, 20) == code(l))
         & (number(body, 22) == flag(item.suppressed))

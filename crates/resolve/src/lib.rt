@@ -1,6 +1,6 @@
 // Which byte closes a bracket, with an index and a note, whatever they hold, and the group that it then gives (`match_citation`).
 // Where only an index can tell, the look asks for a build, and the close is read after it.
-use base::bytes::byte_at;
+use base::slices::byte_at;
 use close::Close;
 use close::close_bracket;
 use item::Judged;

@@ -1,8 +1,10 @@
 -- Cases: the layout and the text of pools of one entry.
 use mathlib.Core.Path.{_≡_, refl}
-use mathlib.Core.List.{List, [], _∷_}
+use mathlib.Core.List.{List, [], _∷_, _++_, map}
 use mathlib.Core.Bool.{true}
+use mathlib.Core.Option.{some}
 use Prim.Native.Nat.{ℕ}
+use Rattle.base.specs.Ascii.{ascii}
 use Rattle.base.specs.Fold.{fold}
 use Rattle.base.specs.Lists.{part, written}
 use Rattle.utf8.specs.Utf8.{utf8, utf8In, charWidth}
@@ -54,3 +56,24 @@ zero-byte = refl
 no-pool : sourceTextCall [] 0 [] ≡ sourceRefused 8 []
 unfolding wellFormed laidOut sourceTextCall leAt entriesGood
 no-pool = refl
+
+-- "Family with an empty given name gives `Ant, `": one entry, id `a`, family `Ant`, given empty; the text adds its stop
+abbrev empty-given : List ℕ
+empty-given = 1 ∷ 0 ∷ 6 ∷ 0 ∷ 16 ∷ 0 ∷ 1 ∷ 1 ∷ 0 ∷ 97 ∷ 2 ∷ 0 ∷ 0 ∷ 3 ∷ 3 ∷ 0 ∷ 65 ∷ 110 ∷ 116 ∷ 4 ∷ 0 ∷ 0 ∷ []
+
+ant-name : map nameOf (entryAt empty-given 0 .names) ≡ ascii "Ant, " ∷ []
+unfolding leAt entryAt entryOf fieldsOf fieldsIn fieldAt fieldEnd part fieldWith namesIn nameAt nameAfter inName yearIn nameOf nameBy familyPart givenPart ascii
+ant-name = refl
+
+ant-text : sourceTextCall empty-given 0 (7 ∷ 7 ∷ 7 ∷ 7 ∷ 7 ∷ 7 ∷ 7 ∷ []) ≡ record { number = 0; bytes = 6; area = ascii "Ant, ." ++ (7 ∷ []) }
+unfolding wellFormed laidOut entriesGood goodFrom fill fillIn fieldsOf fieldsIn fieldsGood fieldAt fieldEnd follows contentGood utf8 utf8In charWidth part leAt sourceTextCall sourceWritten entryAt entryOf fieldWith namesIn nameAt nameAfter inName yearIn signedOf sourceTextOf bodyOf headOf namesOf addName nameOf nameBy familyPart givenPart beside yearOf yearBy inParens ended signedDecimal decimal lastDigits countIn fold written ascii
+ant-text = refl
+
+-- "Year -44 is `-44`": its eight bytes, and the year of the entry above
+year-bytes : signedDecimal (signedOf 8 (leAt 8 (212 ∷ 255 ∷ 255 ∷ 255 ∷ 255 ∷ 255 ∷ 255 ∷ 255 ∷ []) 0)) ≡ ascii "-44"
+unfolding leAt signedOf signedDecimal decimal lastDigits countIn ascii
+year-bytes = refl
+
+ants-year : yearOf (entryAt ants 0) ≡ some (ascii "-44")
+unfolding leAt entryAt entryOf fieldsOf fieldsIn fieldAt fieldEnd part fieldWith namesIn nameAt nameAfter inName yearIn yearOf yearBy signedOf signedDecimal decimal lastDigits countIn ascii
+ants-year = refl

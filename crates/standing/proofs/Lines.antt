@@ -87,7 +87,7 @@ module _ (s : List ℕ) (p c n : ℕ) (h : GroupFrom s p c n) where
 
   module _ {a : ℕ} {r : Parsed} (e : n ≡ 1) (i : a ≡ itemsStart s p) (q : r ≡ itemOf s a c) where
     pub only-good : {it : Item} → r ≡ Good it
-        → (eqb (it .prefix .len) 0 && eqb (it .whole .len) 0 && not (it .suppressed)) ≡ onlyKey (itemsOf s p c)
+        → (eqb (it .prefix .len) 0 && eqb (it .locator .len) 0 && not (it .suppressed)) ≡ onlyKey (itemsOf s p c)
     unfolding onlyKey bareItem
     only-good {it} g = let z : itemOf s (itemsStart s p) c ≡ Good it = cc in rw (only-one e, z)
 

@@ -21,7 +21,7 @@ fn is_only_key(text: &[u8], at: usize, close: usize, count: usize) -> bool
     if count == 1 {
         let parsed = parse_item(text, items_start(text, at), close);
         match parsed {
-            Parsed::Good(it) => (it.prefix.len == 0) & (it.whole.len == 0) & !it.suppressed,
+            Parsed::Good(it) => (it.prefix.len == 0) & (it.locator.len == 0) & !it.suppressed,
             Parsed::Bad => false,
         }
     } else {

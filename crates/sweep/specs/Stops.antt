@@ -1,4 +1,4 @@
--- Theorems: the sweep as the code runs it, for `SweepInTwo`: with one note and one index up to a bracket that wants a build,
+-- Follows the code; nothing to believe: the sweep as the code runs it: with one note and one index up to a bracket that wants a build,
 -- and on from there after the build.
 use Prim.Native.Nat.{ℕ, zero, suc}
 use mathlib.Core.Path.{_≡_}

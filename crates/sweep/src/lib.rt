@@ -3,7 +3,7 @@ pub mod group_records;
 
 use crate::group_records::SweepState;
 use crate::group_records::record_group;
-use base::bytes::find_byte;
+use base::slices::find_byte;
 use close::Close;
 use resolve::Look;
 use resolve::Matched;

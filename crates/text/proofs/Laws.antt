@@ -5,8 +5,8 @@ use native.Mathlib.Omega.{arith}
 use mathlib.Core.Path.{_≡_, refl, sym, _∙_, ap}
 use mathlib.Core.List.{List}
 use mathlib.Core.Bool.{Bool, true, false, _&&_, not}
-use lib.Dec.{eqb}
-use borrow.Author.Tests.{eq-eqb, ne-eqb, eqb-true, eqb-false}
+use lib.Dec.{eqb, ltb}
+use borrow.Author.Tests.{eq-eqb, ne-eqb, eqb-true, eqb-false, lt-ltb, le-ltb}
 use Rattle.base.specs.Pick.{pick}
 use Rattle.base.specs.Lists.{byteAt}
 use Rattle.base.proofs.Searches.{first-out, first-stop, first-more}
@@ -90,4 +90,16 @@ module _ (s : List ℕ) (a i : ℕ) {w : ℕ} (p : w ≡ trimEnd s a i) where
   unfolding trimEnd
   end-more h q t = last-end-more (λ k. not (isWhite s k)) a i a p h (ap not (sym q ∙ t))
 
-pub ruleset trim-laws = (start-out, start-stop, start-more, end-out, end-stop, end-more)
+-- a byte is white where a trimmed stretch of this byte alone begins after it
+pub white-one : (s : List ℕ) (i : ℕ) {k : ℕ} → k ≡ trimStart s i (i + 1) → ltb i k ≡ isWhite s i
+white-one s i {k} p = go (isWhite s i) refl
+  where
+    go : (t : Bool) → isWhite s i ≡ t → ltb i k ≡ t
+    go true q = let r = start-out s (i + 1) (i + 1) (start-more s i (i + 1) p (omega arith) (sym q) refl) (omega arith) in lt-ltb i k (omega arith)
+    go false q = let r = start-stop s i (i + 1) p (omega arith) (sym q) refl in le-ltb i k (omega arith)
+
+-- with the bound 0 nothing is trimmed off the start
+pub end-alone : (s : List ℕ) (a e : ℕ) {r : ℕ} → r ≡ trimEnd s (trimStart s a 0) e → r ≡ trimEnd s a e
+end-alone s a e p = let q = start-out s a 0 refl (omega arith) in p ∙ rw (← q)
+
+pub ruleset trim-laws = (start-out, start-stop, start-more, end-out, end-stop, end-more, white-one, end-alone)

@@ -2,10 +2,9 @@
 // The borrow checker does not cover a struct that holds a reference, so each function here is one call of a covered function over the slice, and is
 // proved by a walk of its MIR. Callers use the functions of the crate's root, which take the text and a place.
 ghost use mathlib.Core.Path.{_≡_};
-ghost use Prim.Native.Nat.{_≤_, _<_};
+ghost use Prim.Native.Nat.{_≤_};
 ghost use lib.ListN.{length};
 ghost use Rattle.text.specs.Escape.{escapedAt};
-ghost use Rattle.white.specs.White.{isWhite};
 ghost use Rattle.text.specs.Trim.{trimStart, trimEnd};
 
 // "Escape and white space are read by a reader that keeps the text and a position."
@@ -20,14 +19,6 @@ pub fn is_escaped<'a>(r: Reader<'a>) -> bool
     ensures { λ b. ⌜ b ≡ escapedAt (now (r .entry .text)) (r .entry .at) ⌝ }
 {
     crate::odd_slashes(r.text, r.at)
-}
-
-// Whether the byte at the reader's place is part of a White_Space character.
-pub fn is_white<'a>(r: Reader<'a>) -> bool
-    requires { ⌜ r .at < length (now (r .text)) ⌝ }
-    ensures { λ b. ⌜ b ≡ isWhite (now (r .entry .text)) (r .entry .at) ⌝ }
-{
-    white::is_white_byte(r.text, r.at)
 }
 
 // The reader moved on to the first byte before `end` that is not white, or to `end`; it stays where it is if that is past `end`.
@@ -48,6 +39,6 @@ pub fn skip_white_back<'a>(r: Reader<'a>, start: usize) -> Reader<'a>
 {
     Reader {
         text: r.text,
-        at: crate::last_not_white(r.text, start, r.at),
+        at: crate::last_not_white(r.text, r.at, start),
     }
 }

@@ -23,7 +23,7 @@ usedAt text items key j = ltb 0 (itemField items j item-number) && same (keyIn t
 unfoldable pub sameUse : List ℕ → List ℕ → ℕ → ℕ → Bool
 sameUse text items k j = usedAt text items (keyIn text items k) j
 
--- "Maps become searches over item records": the last such record before `k`; `k` where there is none
+-- the last such record before `k`; `k` where there is none
 unfoldable pub lastUse : List ℕ → List ℕ → ℕ → ℕ
 lastUse text items k = last (sameUse text items k) k k
 
@@ -54,7 +54,7 @@ useIn text items pooled k =
 unfoldable pub sourcesIn : List ℕ → List ℕ → ℕ → ℕ → ℕ
 sourcesIn text items sources k = pick (ltb (lastUse text items k) k) sources (sources + 1)
 
--- "number; use; label pair into the label bytes": the last four numbers of item record `k`
+-- number, use and label pair of item record `k`, its last four numbers
 unfoldable pub setLast : List ℕ → ℕ → ℕ → ℕ → ℕ → ℕ → List ℕ
 setLast items k number use-index at len =
     set

@@ -21,7 +21,7 @@ pub fn is_use(text: &[u8], items: &[u16], j: usize, key: &[u8]) -> bool
     if number == 0 {
         return false;
     }
-    base::bytes::is_same(records::key_in(text, items, j), key)
+    base::slices::is_same(records::key_in(text, items, j), key)
 }
 
 // The last item record before `k` that is numbered and has the key of record `k`; `k` where there is none.
@@ -51,7 +51,7 @@ fn is_alike(text: &[u8], items: &[u16], number: usize, mark: usize, key: &[u8], 
     if records::item_field(items, j, records::ITEM_MARKS) % 2 != mark {
         return false;
     }
-    base::bytes::is_same(records::key_in(text, items, j), key)
+    base::slices::is_same(records::key_in(text, items, j), key)
 }
 
 // The last item record before `k` that has the number `number`, and the mark of suppression and the key of record `k`: it has the label of

@@ -1,10 +1,11 @@
 // UTF-8: which texts are well-formed, and what refuses a text by itself: its length, or that it is not UTF-8.
 // A run of ASCII is gone over 64 bytes at a time.
-use base::bytes::byte_at;
+use base::slices::byte_at;
 ghost use mathlib.Core.Path.{_≡_};
 ghost use Prim.Native.Nat.{_+_, _≤_, _<_};
 ghost use lib.ListN.{length};
 ghost use Rattle.base.specs.Pick.{pick};
+ghost use Rattle.utf8.specs.Facts.{EncodedIsUtf8, Utf8IsEncoded};
 ghost use Rattle.utf8.specs.Blocks.{allAscii, asciiStep};
 ghost use Rattle.utf8.specs.Refusal.{textRefusal};
 ghost use Rattle.utf8.specs.Utf8.{twoBytes, threeBytes, fourBytes, charWidth, utf8};
@@ -127,3 +128,9 @@ pub fn text_refusal(text: &[u8]) -> u8
     }
     2
 }
+
+// The theorems of specs/Facts. The function does nothing; its contract states them.
+pub fn theorems()
+    ensures encoded_is_utf8 { λ _. ⌜ EncodedIsUtf8 ⌝ }
+    ensures utf8_is_encoded { λ _. ⌜ Utf8IsEncoded ⌝ }
+{}

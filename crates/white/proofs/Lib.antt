@@ -1,2 +1,3 @@
 pub mod Whites
 pub mod Laws
+pub mod Points

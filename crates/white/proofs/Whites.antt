@@ -11,7 +11,7 @@ use Rattle.base.specs.Pick.{pick}
 use Rattle.base.specs.Lists.{byteAt}
 use Rattle.base.proofs.Bools.{and-left, and-right, split}
 use Rattle.white.specs.White.{whiteOne, whiteTwo, whiteThree, spaceWidth, isWhite}
-use Rattle.white.specs.Bytes.{isInk}
+use Rattle.white.specs.Bytes.{isAsciiGraphic}
 
 -- the width by the bytes
 unfoldable pub widthBy : ℕ → ℕ → ℕ → ℕ
@@ -88,9 +88,9 @@ white-ascii s i h = go (whiteOne (byteAt s i)) refl
     go true q = rw q
     go false q = plain s i h q
 
--- an ink byte is no white space
-pub ink-plain : (s : List ℕ) (i : ℕ) → isInk (byteAt s i) ≡ true → isWhite s i ≡ false
-ink-plain s i h =
+-- an ASCII graphic character is no white space
+pub graphic-plain : (s : List ℕ) (i : ℕ) → isAsciiGraphic (byteAt s i) ≡ true → isWhite s i ≡ false
+graphic-plain s i h =
     let l = leb-true 33 (byteAt s i) (and-left (leb 33 (byteAt s i)) _ h) in
-    let u = leb-true (byteAt s i) 127 (and-right (leb 33 (byteAt s i)) _ h) in
+    let u = leb-true (byteAt s i) 126 (and-right (leb 33 (byteAt s i)) _ h) in
     plain s i (omega arith) (simp (lt-leb (byteAt s i) 13 (omega arith), ne-eqb (byteAt s i) 32 (omega arith), and-false))

@@ -3,6 +3,6 @@ use Prim.Native.Nat.{ℕ}
 use mathlib.Core.Bool.{Bool}
 use Rattle.base.specs.Lists.{within}
 
--- an ASCII byte that is no white space, control characters aside
-abbrev pub isInk : ℕ → Bool
-isInk b = within 33 127 b
+-- an ASCII graphic character, `!` to `~`
+abbrev pub isAsciiGraphic : ℕ → Bool
+isAsciiGraphic b = within 33 126 b

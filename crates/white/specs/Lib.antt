@@ -1,2 +1,3 @@
 pub mod White
 pub mod Bytes
+pub mod Facts

@@ -6,15 +6,15 @@ use lib.Dec.{eqb, ltb}
 use Rattle.base.specs.Pick.{pick}
 use Rattle.base.specs.Lists.{byteAt, within}
 
--- U+0009 to U+000D, U+0020
+-- a White_Space character of one byte: U+0009 to U+000D, U+0020
 abbrev pub whiteOne : ℕ → Bool
 whiteOne a = within 0x09 0x0D a || eqb a 0x20
 
--- U+0085, U+00A0
+-- a White_Space character of two bytes: U+0085, U+00A0
 abbrev pub whiteTwo : ℕ → ℕ → Bool
 whiteTwo a b = eqb a 0xC2 && (eqb b 0x85 || eqb b 0xA0)
 
--- U+1680; U+2000 to U+200A, U+2028, U+2029, U+202F; U+205F; U+3000
+-- a White_Space character of three bytes: U+1680; U+2000 to U+200A, U+2028, U+2029, U+202F; U+205F; U+3000
 abbrev pub whiteThree : ℕ → ℕ → ℕ → Bool
 whiteThree a b c =
     eqb a 0xE1 && eqb b 0x9A && eqb c 0x80

@@ -1,17 +1,18 @@
 // White space: the 25 White_Space characters of Unicode, as UTF-8.
 // A byte is white where it is the first, the second or the third byte of one.
-use base::bytes::byte_at;
+use base::slices::byte_at;
 ghost use mathlib.Core.Path.{_≡_};
 ghost use Prim.Native.Nat.{_-_, _<_};
 ghost use lib.ListN.{length};
+ghost use Rattle.white.specs.Facts.{WhiteSpaces25, WhiteHasWidth, WidthIsWhite, BytesAreWhite, WhiteIsByte};
 ghost use Rattle.white.specs.White.{whiteOne, whiteTwo, whiteThree, spaceWidth, isWhite};
-ghost use Rattle.white.specs.Bytes.{isInk};
+ghost use Rattle.white.specs.Bytes.{isAsciiGraphic};
 
-// Whether the byte is ASCII and no white space, control characters aside: what can be said without a look at the bytes around it.
-pub fn is_ink(b: u8) -> bool
-    ensures { λ r. ⌜ r ≡ isInk b ⌝ }
+// Whether the byte is an ASCII graphic character, `!` to `~`. Such a byte is no white space, whatever stands around it.
+pub fn is_ascii_graphic(b: u8) -> bool
+    ensures { λ r. ⌜ r ≡ isAsciiGraphic b ⌝ }
 {
-    (33 <= b) & (b <= 127)
+    (b'!' <= b) & (b <= b'~')
 }
 
 // The place `n` bytes before `at`, or the text's start.
@@ -28,14 +29,14 @@ fn is_white_one(a: u8) -> bool
     (0x09 <= a) & (a <= 0x0D) | (a == 0x20)
 }
 
-// One of two bytes: U+0085, U+00A0.
+// A White_Space character of two bytes: U+0085, U+00A0.
 fn is_white_two(a: u8, b: u8) -> bool
     ensures { λ r. ⌜ r ≡ whiteTwo a b ⌝ }
 {
     (a == 0xC2) & ((b == 0x85) | (b == 0xA0))
 }
 
-// One of three bytes: U+1680; U+2000 to U+200A, U+2028, U+2029, U+202F; U+205F; U+3000.
+// A White_Space character of three bytes: U+1680; U+2000 to U+200A, U+2028, U+2029, U+202F; U+205F; U+3000.
 fn is_white_three(a: u8, b: u8, c: u8) -> bool
     ensures { λ r. ⌜ r ≡ whiteThree a b c ⌝ }
 {
@@ -85,7 +86,8 @@ pub fn is_white_byte(text: &[u8], at: usize) -> bool
     2 < space_width(text, back(at, 2))
 }
 
-// The same, an ASCII byte being decided by itself: short enough for the compiler to put it into a caller's loop.
+// Whether the byte at `at` is part of a White_Space character. An ASCII byte is decided by itself, so that the code is short enough for the compiler to
+// put it into a caller's loop.
 pub fn is_white(text: &[u8], at: usize) -> bool
     requires { ⌜ at < length (now text) ⌝ }
     ensures { λ r. ⌜ r ≡ isWhite (now (text .entry)) at ⌝ }
@@ -97,3 +99,12 @@ pub fn is_white(text: &[u8], at: usize) -> bool
         is_white_byte(text, at)
     }
 }
+
+// The theorems of specs/Facts. The function does nothing; its contract states them.
+pub fn theorems()
+    ensures white_spaces_25 { λ _. ⌜ WhiteSpaces25 ⌝ }
+    ensures white_has_width { λ _. ⌜ WhiteHasWidth ⌝ }
+    ensures width_is_white { λ _. ⌜ WidthIsWhite ⌝ }
+    ensures bytes_are_white { λ _. ⌜ BytesAreWhite ⌝ }
+    ensures white_is_byte { λ _. ⌜ WhiteIsByte ⌝ }
+{}

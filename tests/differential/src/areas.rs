@@ -279,8 +279,8 @@ impl Areas {
     }
 
     fn spoil(&mut self, fault: Fault, call: &Call, lengths: Lengths) {
-        let looks = call.what.kind() < 2;
-        let built = looks && self.answer.content().get(call.what.answer_length() - 1) == Some(&1);
+        let note = call.what.note_place().filter(|_| call.what.answer_length() <= lengths.answer);
+        let built = note.is_some_and(|place| self.answer.content()[place] == 1);
         match fault {
             Fault::Before(area) => self.spoil_at(area, |_| -1, call, lengths),
             Fault::Last(area) => self.spoil_at(area, |length| length as isize - 1, call, lengths),
@@ -290,8 +290,10 @@ impl Areas {
                 let first = self.index.content().iter().copied().find(|close| *close > 0).unwrap_or(0);
                 self.index.lend(lengths.index).iter_mut().filter(|close| **close > 0).for_each(|close| *close = first);
             }
-            Fault::NoteAlone if looks && lengths.answer >= call.what.answer_length() => {
-                self.answer.lend(call.what.answer_length())[call.what.answer_length() - 1] = 1;
+            Fault::NoteAlone => {
+                if let Some(place) = note {
+                    self.answer.lend_all()[place] = 1;
+                }
             }
             _ => {}
         }
@@ -299,7 +301,7 @@ impl Areas {
 
     fn spoil_at(&mut self, area: &str, at: impl Fn(usize) -> isize, call: &Call, lengths: Lengths) {
         let annotates = matches!(call.what, What::Annotate { .. });
-        let looks = call.what.kind() < 2;
+        let looks = call.what.note_place().is_some();
         match area {
             "text" => self.text.spoil(at(self.text.content().len()), |x| x ^ 1),
             "pool" => self.pool.spoil(at(self.pool.content().len()), |x| x ^ 1),

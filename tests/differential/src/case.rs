@@ -3,6 +3,8 @@
 
 use std::fmt::Write;
 
+use citations::raw;
+
 #[derive(Clone, PartialEq)]
 pub struct Case {
     pub text: Vec<u8>,
@@ -96,8 +98,22 @@ impl What {
 
     /// How many numbers the call's answer has.
     pub fn answer_length(&self) -> usize {
-        [citations::raw::LOOK_UP, citations::raw::ANNOTATION, citations::raw::SIZE, citations::raw::LOCATOR, citations::raw::SOURCE_TEXT]
-            [self.kind()]
+        match self {
+            What::LookUp { .. } => raw::LOOK_UP,
+            What::Annotate { .. } => raw::ANNOTATION,
+            What::Size => raw::SIZE,
+            What::Locator => raw::LOCATOR,
+            What::SourceText { .. } => raw::SOURCE_TEXT,
+        }
+    }
+
+    /// The place of the note in the call's answer, where the call is given an index with a note.
+    pub fn note_place(&self) -> Option<usize> {
+        match self {
+            What::LookUp { .. } => Some(raw::LOOK_UP_NOTE),
+            What::Annotate { .. } => Some(raw::ANNOTATION_NOTE),
+            What::Size | What::Locator | What::SourceText { .. } => None,
+        }
     }
 
     /// The pool, where the call has one.

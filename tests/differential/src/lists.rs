@@ -42,12 +42,10 @@ impl Lists {
         shared.labels.expect(fresh.labels.content());
         let mut answer = fresh.answer.content().to_vec();
         let mut after = note;
-        let has_note = matches!(call.what, What::LookUp { .. } | What::Annotate { .. });
-        let length = call.what.answer_length();
-        if has_note && length <= lengths.answer {
+        if let Some(place) = call.what.note_place().filter(|_| call.what.answer_length() <= lengths.answer) {
             // 1 where a call has built the index, else as it was given
-            after = if shared.answer.content()[length - 1] == 1 { 1 } else { note };
-            answer[length - 1] = u32::from(after);
+            after = if shared.answer.content()[place] == 1 { 1 } else { note };
+            answer[place] = u32::from(after);
         }
         shared.answer.expect(&answer);
         after
@@ -79,9 +77,9 @@ impl Runner for Lists {
         }
         let silent = lengths.answer < call.what.answer_length();
         let answer = self.shared.answer.content();
-        let number = if silent { 0 } else { answer[0] as usize };
+        let number = if silent { 0 } else { answer[raw::NUMBER] as usize };
         let sources = match call.what {
-            What::Annotate { .. } if !silent && number == 0 => answer[3] as usize,
+            What::Annotate { .. } if !silent && number == 0 => answer[raw::ANNOTATION_SOURCES] as usize,
             _ => 0,
         };
         Ok(Done { kind: call.what.kind(), number, built: after != note, silent, stray: false, sources, note: after })
@@ -109,22 +107,27 @@ fn accept_answer(areas: &mut Areas) {
 
 // What the call needs; some where it is refused.
 fn need_of(ample: &mut Ample, text: &[u8], call: &Call) -> Need {
-    let mut answer = [0; 6];
+    let mut answer = vec![raw::NO_ANSWER; call.what.answer_length()];
     let mut lent = ample.lent(text.len());
     let usual = (call.seed % 40) as usize;
     let mut need = Need { items: usual, groups: usual, references: usual, labels: usual };
     match &call.what {
         What::LookUp { at } => {
             raw::look_up(text, *at, 0, &mut lent, &mut answer);
-            if answer[0] == 0 {
-                need.items = ITEM_RECORD * answer[2] as usize;
+            if answer[raw::NUMBER] == 0 {
+                need.items = ITEM_RECORD * answer[raw::LOOK_UP_ITEMS] as usize;
             }
         }
         What::Annotate { mode, pool } => {
             raw::annotate(text, *mode, pool, 0, &mut lent, &mut answer);
-            if answer[0] == 0 {
-                let [_, groups, items, references, labels, _] = answer.map(|n| n as usize);
-                need = Need { items: ITEM_RECORD * items, groups: GROUP_RECORD * groups, references, labels };
+            if answer[raw::NUMBER] == 0 {
+                let count = |place: usize| answer[place] as usize;
+                need = Need {
+                    items: ITEM_RECORD * count(raw::ANNOTATION_ITEMS),
+                    groups: GROUP_RECORD * count(raw::ANNOTATION_GROUPS),
+                    references: count(raw::ANNOTATION_SOURCES),
+                    labels: count(raw::ANNOTATION_LABEL_BYTES),
+                };
             }
         }
         _ => {}

@@ -1,5 +1,7 @@
 //! What comes of a call, and how many of each sort there were.
 
+use std::collections::BTreeMap;
+
 use crate::areas::{Areas, Wrong};
 use crate::case::KINDS;
 
@@ -55,10 +57,10 @@ const SOURCES: [usize; 3] = [10, 100, 1_000];
 pub struct Counts {
     pub cases: u64,
     pub calls: u64,
-    numbers: [[u64; 11]; 5],
-    built: [u64; 5],
-    silent: [u64; 5],
-    stray: [u64; 5],
+    numbers: [BTreeMap<usize, u64>; KINDS.len()],
+    built: [u64; KINDS.len()],
+    silent: [u64; KINDS.len()],
+    stray: [u64; KINDS.len()],
     sources: [u64; SOURCES.len()],
 }
 
@@ -70,7 +72,7 @@ impl Counts {
             self.silent[done.kind] += 1;
             return;
         }
-        self.numbers[done.kind][done.number] += 1;
+        *self.numbers[done.kind].entry(done.number).or_default() += 1;
         self.built[done.kind] += u64::from(done.built);
         for (count, least) in self.sources.iter_mut().zip(SOURCES) {
             *count += u64::from(done.sources >= least);
@@ -81,8 +83,8 @@ impl Counts {
         self.cases += other.cases;
         self.calls += other.calls;
         for kind in 0..KINDS.len() {
-            for number in 0..11 {
-                self.numbers[kind][number] += other.numbers[kind][number];
+            for (number, count) in &other.numbers[kind] {
+                *self.numbers[kind].entry(*number).or_default() += count;
             }
             self.built[kind] += other.built[kind];
             self.silent[kind] += other.silent[kind];
@@ -98,12 +100,12 @@ impl Counts {
         let mut out = String::new();
         for (kind, name) in KINDS.iter().enumerate() {
             let row = &self.numbers[kind];
-            let all = row.iter().sum::<u64>() + self.silent[kind];
+            let all = row.values().sum::<u64>() + self.silent[kind];
             if all == 0 {
                 continue;
             }
-            out.push_str(&format!("  {name:12}{:>13}: accepted {}", grouped(all), grouped(row[0])));
-            for (number, count) in row.iter().enumerate().skip(1).filter(|(_, count)| **count > 0) {
+            out.push_str(&format!("  {name:12}{:>13}: accepted {}", grouped(all), grouped(row.get(&0).copied().unwrap_or(0))));
+            for (number, count) in row.iter().filter(|(number, _)| **number != 0) {
                 out.push_str(&format!("; {number}: {}", grouped(*count)));
             }
             let sorts = [

@@ -105,8 +105,8 @@ impl Comparison {
         let areas = &mut self.areas;
         let mut numbers: Vec<u32> = vec![answer.number as u32];
         numbers.extend(answer.values.iter().map(|&value| value as u32));
-        if matches!(call.what, What::LookUp { .. } | What::Annotate { .. }) {
-            numbers.push(u32::from(note));
+        if let Some(place) = call.what.note_place() {
+            numbers.insert(place, u32::from(note));
         }
         areas.answer.expect(&numbers);
         if answer.builds {
@@ -166,7 +166,7 @@ impl Runner for Comparison {
                 number: answer.number,
                 built: answer.builds,
                 silent,
-                stray: case.note == 1 && call.what.kind() < 2,
+                stray: case.note == 1 && call.what.note_place().is_some(),
                 sources: answer.sources(&call.what),
                 note: note_after,
             }),

@@ -1,4 +1,4 @@
--- `index::content_after` meets its contract. A byte that is ink is no white space; else a law for each way. Assumes nothing.
+-- `index::content_after` meets its contract. A byte that is an ASCII graphic character is no white space; else a law for each way. Assumes nothing.
 use borrow.Author.Needs.{needs}
 use Rattle.index.proofs.Laws.{laws}
 use Rattle.index.proofs.Passing.{passing-laws}

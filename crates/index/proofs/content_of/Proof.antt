@@ -1,4 +1,4 @@
--- `index::content_of` meets its contract. A last byte that is ink is no white space; else the content ends where the trimmed stretch does, if anything is left of it. Assumes nothing.
+-- `index::content_of` meets its contract. A last byte that is an ASCII graphic character is no white space; else the content ends where the trimmed stretch does, if anything is left of it. Assumes nothing.
 use borrow.Author.Needs.{needs}
 use Rattle.index.proofs.Passing.{passing-laws}
 use Rattle.index.proofs.content_of.Statement.{statement}

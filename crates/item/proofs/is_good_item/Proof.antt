@@ -6,5 +6,4 @@ use Rattle.item.proofs.is_good_item.Tie as tie
 
 pub is-good-item-spec : {M : Type 1} → statement M
 is-good-item-spec =
-    tie.close
-    (tie.spec (λ c κs. search needs) (λ c. search (laws, needs)) (λ c κs. search needs) (λ c κs. search (laws, needs)) (λ c. search (laws, needs)))
+    tie.close (tie.spec (λ c κs. search needs) (λ c. search (laws, needs)) (λ c κs. search (laws, needs)) (λ c. search (laws, needs)))

@@ -10,7 +10,6 @@ parse-item-spec =
     (tie.spec
     (λ c κs. search needs)
     (λ c. search (laws, needs))
-    (λ c κs. search needs)
     (λ c κs. search (laws, needs))
     (λ c κs. search (laws, needs))
     (λ c. search (laws, needs))

@@ -9,10 +9,10 @@ use Rattle.text.proofs.last_not_white.Statement.{statement}
 use Rattle.text.proofs.last_not_white.Tie as tie
 
 abbrev Inv-loop : tie.InvT-loop
-Inv-loop text a e i₀ i = (i ≤ e) × (trimEnd text a e ≡ trimEnd text a i)
+Inv-loop text e a i₀ i = (i ≤ e) × (trimEnd text a e ≡ trimEnd text a i)
 
 abbrev μ-loop : tie.MeasureT-loop
-μ-loop text a e i₀ i = i - a
+μ-loop text e a i₀ i = i - a
 
 pub last-not-white-spec : {M : Type 1} → statement M
 last-not-white-spec =

@@ -1,8 +1,8 @@
--- `base::bytes::part_of` meets its contract. Assumes nothing.
+-- `base::slices::part_of` meets its contract. Assumes nothing.
 use borrow.Author.Needs.{needs}
 use Rattle.base.proofs.Parts.{part-laws}
-use Rattle.base.proofs.bytes.part_of.Statement.{statement}
-use Rattle.base.proofs.bytes.part_of.Tie as tie
+use Rattle.base.proofs.slices.part_of.Statement.{statement}
+use Rattle.base.proofs.slices.part_of.Tie as tie
 
 pub part-of-spec : {M : Type 1} → statement M
 part-of-spec =

@@ -1,0 +1,2 @@
+/* An object that includes the header and uses nothing of it. */
+#include "citations.h"
