@@ -1,5 +1,5 @@
 -- Definitions from the records: they depend on no number, use, label or standing, and are those of the paper.
-use Prim.Native.Nat.{ℕ, suc, _+_, _-_, _*_, _%_, _<_}
+use Prim.Native.Nat.{ℕ, suc, _+_, _-_, _*_, _<_}
 use native.Mathlib.Omega.{arith}
 use mathlib.Core.Path.{_≡_, refl, sym, _∙_, ap}
 use mathlib.Core.List.{List, [], _∷_, _++_, flatMap, append-assoc}
@@ -15,7 +15,7 @@ use Rattle.base.specs.Sorted.{Each}
 use Rattle.item.specs.declared.Item.{Item}
 use Rattle.item.specs.Group.{Group}
 use Rattle.records.specs.ItemRecords.{marksOf, itemRecord, unnumberedRecord, recordsIn, recordsOf, recordsLength}
-use Rattle.records.specs.Widths.{itemWidth, group-first, group-place, group-length, group-count, group-standing}
+use Rattle.records.specs.Widths.{itemWidth, group-first, group-place, group-length, group-count, group-standing, item-marks, item-prefix-length, item-locator-length}
 use Rattle.records.proofs.RecordLaws.{records-length}
 use Rattle.pool.specs.Layout.{countOf, entryAt, entriesOf}
 use Rattle.standing.specs.GroupRecords.{Placed, groupRecord, groupRecords, placedBy, itemRecords}
@@ -98,26 +98,17 @@ module _ (text before : List ℕ) (i : Item) (after : List ℕ) (k : ℕ) (h : l
 
   pub suppressed-at : suppressedIn (before ++ (unnumberedRecord i ++ after)) k ≡ i .suppressed
   unfolding suppressedIn unnumberedRecord itemRecord marksOf
-  suppressed-at = rw (item-field before (unnumberedRecord i ++ after) k 11 h) (go (i .suppressed))
+  suppressed-at = rw (item-field before (unnumberedRecord i ++ after) k item-marks h) (go (i .suppressed))
     where
-      go : (s b : Bool) → eqb ((pick s 1 0 + pick b 2 0) % 2) 1 ≡ s
-      go true true = refl
-      go true false = refl
-      go false true = refl
-      go false false = refl
+      go : (s : Bool) → eqb (pick s 1 0) 1 ≡ s
+      go true = refl
+      go false = refl
 
   bare-at : bareIn (before ++ (unnumberedRecord i ++ after)) k ≡ bareItem i
   unfolding bareIn bareItem unnumberedRecord itemRecord marksOf
   bare-at =
       let here : List ℕ = unnumberedRecord i ++ after in
-      rw (item-field before here k 1 h, item-field before here k 5 h, item-field before here k 11 h)
-      (ap (λ (b : Bool). eqb (i .prefix .len) 0 && eqb (i .locator .len) 0 && b) (go (i .suppressed)))
-    where
-      go : (s b : Bool) → eqb ((pick s 1 0 + pick b 2 0) % 2) 0 ≡ not s
-      go true true = refl
-      go true false = refl
-      go false true = refl
-      go false false = refl
+      rw (suppressed-at, item-field before here k item-prefix-length h, item-field before here k item-locator-length h)
 
 -- "a group of one item, no prefix, no locator, not suppressed", and its key
 one-key : (text key before : List ℕ) (is : List Item) (after : List ℕ) (k : ℕ) (s c : Bool) → length before ≡ itemWidth * k

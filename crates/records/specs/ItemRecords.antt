@@ -10,7 +10,7 @@ use Rattle.item.specs.declared.Item.{Item}
 use Rattle.item.specs.Group.{Group}
 use Rattle.records.specs.Widths.{itemWidth}
 
--- "marks (1 suppressed"; of "2 integral, added" document 02, W10: "mark 2 is no longer set"
+-- "marks (1 suppressed ..", and document 02, W10: "mark 2 is no longer set"
 unfoldable pub marksOf : Item → ℕ
 marksOf it = pick (it .suppressed) 1 0
 

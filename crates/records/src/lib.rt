@@ -108,7 +108,7 @@ pub fn suppressed_in(items: &[u16], k: usize) -> bool
     requires { ⌜ k < 4294967296 ⌝ }
     ensures { λ r. ⌜ r ≡ suppressedIn (now (items .entry)) k ⌝ }
 {
-    item_field(items, k, ITEM_MARKS) % 2 == 1
+    item_field(items, k, ITEM_MARKS) == 1
 }
 
 // Whether it has no prefix, no locator, and is not suppressed.
@@ -118,8 +118,8 @@ pub fn bare_in(items: &[u16], k: usize) -> bool
 {
     let prefix = item_field(items, k, ITEM_PREFIX_LENGTH);
     let locator = item_field(items, k, ITEM_LOCATOR_LENGTH);
-    let marks = item_field(items, k, ITEM_MARKS);
-    (prefix == 0) & (locator == 0) & (marks % 2 == 0)
+    let suppressed = suppressed_in(items, k);
+    (prefix == 0) & (locator == 0) & !suppressed
 }
 
 // The place of the close of group record `g`.
