@@ -25,8 +25,8 @@ abbrev pub movedItem : ℕ → Item → Item
 movedItem d it = record {
   prefix = movedSpan d (it .prefix);
   key = movedSpan d (it .key);
-  whole = movedSpan d (it .whole);
-  locator = movedLocator d (it .locator);
+  locator = movedSpan d (it .locator);
+  parts = movedLocator d (it .parts);
   suppressed = it .suppressed;
 }
 
