@@ -13,7 +13,7 @@ ghost use mathlib.Core.Path.{_≡_};
 ghost use Prim.Native.Nat.{_+_, _-_, _≤_, _<_};
 ghost use lib.ListN.{length};
 ghost use Rattle.base.specs.First.{first};
-ghost use Rattle.item.specs.Facts.{ItemInOrder, ItemsInOrder, ItemLocal, PiecesLocal};
+ghost use Rattle.item.specs.Facts.{ItemInOrder, ItemsInOrder, ItemLocal, PiecesLocal, PlusPassed};
 ghost use Rattle.key.specs.Keys.{keyEnd};
 ghost use Rattle.item.specs.Items.{keyServes, wins, winner, suppresses, prefixEnd, itemAt, itemOf, isGood};
 ghost use Rattle.item.specs.Pieces.{semicolonAt, plusAt, itemsStart};
@@ -219,4 +219,5 @@ pub fn theorems()
     ensures items_in_order { λ _. ⌜ ItemsInOrder ⌝ }
     ensures item_local { λ _. ⌜ ItemLocal ⌝ }
     ensures pieces_local { λ _. ⌜ PiecesLocal ⌝ }
+    ensures plus_passed { λ _. ⌜ PlusPassed ⌝ }
 {}

@@ -1,6 +1,7 @@
--- Theorems: what stands where in an item record.
+-- Theorems: what stands where in an item record, and its mark.
 use Prim.Native.Nat.{ℕ}
 use mathlib.Core.Path.{_≡_}
+use mathlib.Core.Bool.{true, false}
 use lib.ListN.{length, getD}
 use Rattle.base.specs.declared.Span.{Span}
 use Rattle.locator.specs.Answers.{codeOf, valueOf, suffixOf}
@@ -29,3 +30,10 @@ pub record PlacesOf (it : Item) (number use-index : ℕ) (label : Span) : Type 0
 -- THEOREM: so it is for every item, number, use and label
 abbrev pub ItemPlaces : Type 0
 ItemPlaces = (it : Item) (number use-index : ℕ) (label : Span) → PlacesOf it number use-index label
+
+-- THEOREM, document 02, W10: "mark 2 is no longer set". The mark in a record is 1 where the item is suppressed, and 0 where it is not.
+abbrev pub MarksBelow : Type 0
+MarksBelow =
+    (it : Item) (number use-index : ℕ) (label : Span)
+    → (it .suppressed ≡ true → getD (itemRecord it number use-index label) item-marks 0 ≡ 1)
+    × (it .suppressed ≡ false → getD (itemRecord it number use-index label) item-marks 0 ≡ 0)

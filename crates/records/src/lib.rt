@@ -4,7 +4,7 @@ pub mod item_records;
 ghost use mathlib.Core.Path.{_≡_};
 ghost use Prim.Native.Nat.{_<_};
 ghost use lib.ListN.{getD, set};
-ghost use Rattle.records.specs.Facts.{ItemPlaces};
+ghost use Rattle.records.specs.Facts.{ItemPlaces, MarksBelow};
 ghost use Rattle.records.specs.Records.{groupField, keyIn, suppressedIn, bareIn, closeOfRecord, nextIn};
 ghost use Rattle.records.specs.Fields.{itemField};
 
@@ -143,7 +143,8 @@ pub fn next_in(text: &[u8], groups: &[u16], n: usize, g: usize) -> usize
     }
 }
 
-// The theorem of specs/Facts. The function does nothing; its contract states it.
+// The theorems of specs/Facts. The function does nothing; its contract states them.
 pub fn theorems()
     ensures item_places { λ _. ⌜ ItemPlaces ⌝ }
+    ensures marks_below { λ _. ⌜ MarksBelow ⌝ }
 {}
