@@ -5,8 +5,8 @@ use mathlib.Core.Path.{_≡_, refl, sym, _∙_, ap}
 use mathlib.Core.List.{List, _++_}
 use mathlib.Core.Bool.{Bool, true, false, _&&_, and-false, true≢false}
 use lib.ListN.{length, drop}
-use lib.Dec.{eqb, leb}
-use borrow.Author.Tests.{eq-eqb, ne-eqb, eqb-true, eqb-false, le-leb, lt-leb, leb-true, leb-false}
+use lib.Dec.{leb}
+use borrow.Author.Tests.{eq-eqb, ne-eqb, le-leb, lt-leb, leb-true, leb-false}
 use Rattle.base.specs.Pick.{pick}
 use Rattle.base.specs.Lists.{written}
 use Rattle.index.specs.declared.Bracket.{Bracket}
@@ -26,11 +26,12 @@ use Rattle.numbering.proofs.LabelledLaws.{swept-unnumbered}
 use Rattle.order.specs.References.{SourcesKnown}
 use Rattle.annotation.specs.declared.answer.Annotation.{Annotation}
 use Rattle.annotation.specs.declared.answer.Annotation.the-variants.{Accepted, Refused}
-use Rattle.annotation.specs.declared.preparation.Begun.{Begun}
+use Rattle.annotation.specs.declared.preparation.Prepared.{Prepared}
+use Rattle.annotation.specs.declared.preparation.Prepared.the-variants.{Refused as NotReady, Ready}
 use Rattle.annotation.specs.Content.{Areas, areas, contentOf}
 use Rattle.annotation.specs.Refusal.{annotateRefusal}
 use Rattle.annotation.specs.Call.{annotateRefused, roomFor, contentWritten, zeroFilled, annotateGives, answerOf, AnnotateRan, annotateRan, annotateSwept, annotateRun, zeros}
-use Rattle.annotation.specs.Halves.{Zeroed, Done, BegunBy}
+use Rattle.annotation.specs.Halves.{Zeroed, Done, RefusedBefore, SweptBefore, PreparedBy, preparedWants}
 use Rattle.annotation.specs.Values.{annotationValues, annotationAnswer, annotationNumbers}
 use Rattle.annotation.specs.Steps.{sweptItems, sweptGroups, numberedFrom, Fits, ContentAs}
 use Rattle.annotation.specs.Ordering.{roomThen, referencesThen, Ordered}
@@ -74,8 +75,8 @@ all-after false b c d e h = absurd (true≢false (sym h))
 
 -- two sweeps, and the records numbered ---------------------------------------------------------------------------------------------------
 
-module _ {text : List ℕ} {mode : ℕ} {pool : List ℕ} {note : ℕ} {index₀ : List ℕ} {m : ℕ} {items₀ groups₀ : List ℕ} {p : Begun} {items groups : List ℕ}
-    (b : BegunBy text mode pool note index₀ m items₀ groups₀ p items groups) (records : List Bracket) where
+module _ {text : List ℕ} {mode : ℕ} {pool : List ℕ} {note : ℕ} {index₀ : List ℕ} {m : ℕ} {items₀ groups₀ : List ℕ} {begun : SweepState}
+    {items groups : List ℕ} (b : SweptBefore text mode pool note index₀ m items₀ groups₀ begun items groups) (records : List Bracket) where
   abbrev lent : Lent
   lent = lentOf note index₀ records
 
@@ -86,15 +87,14 @@ module _ {text : List ℕ} {mode : ℕ} {pool : List ℕ} {note : ℕ} {index₀
   content = contentOf text mode all pool
 
   -- after the second sweep
-  module _ (z : p .number ≡ 0) {k : ℕ} (e : k ≡ noteAfter (p .sweep .wants) note) {index : List ℕ}
-      (i : index ≡ indexAfter (p .sweep .wants) text index₀) {s : SweepState} {items' groups' : List ℕ}
-      (t : SweptTo text k index (p .sweep) items groups s items' groups') where
+  module _ {k : ℕ} (e : k ≡ noteAfter (begun .wants) note) {index : List ℕ} (i : index ≡ indexAfter (begun .wants) text index₀)
+      {s : SweepState} {items' groups' : List ℕ} (t : SweptTo text k index begun items groups s items' groups') where
     not-refused : Unrefused text mode pool (length index₀) m
-    not-refused = unrefused text mode pool (length index₀) m (sym (b .refuses) ∙ z)
+    not-refused = unrefused text mode pool (length index₀) m (b .passes)
 
     whole : Recorded text all startState items₀ groups₀ s items' groups'
     unfolding lentAfter
-    whole = swept-whole text lent (b .sweeps z) (rw (e, i) at t)
+    whole = swept-whole text lent (b .sweeps) (rw (e, i) at t)
 
     fits : Fits text all
     fits = swept-fits text lent (not-refused .enough .short)
@@ -173,136 +173,136 @@ module _ {text : List ℕ} {mode : ℕ} {pool : List ℕ} {note : ℕ} {index₀
 
 -- the call as run ----------------------------------------------------------------------------------------------------------------------
 
-module _ {text : List ℕ} {mode : ℕ} {pool : List ℕ} {note : ℕ} {index₀ : List ℕ} {m : ℕ} {items₀ groups₀ : List ℕ} {p : Begun} {items groups : List ℕ}
-    (b : BegunBy text mode pool note index₀ m items₀ groups₀ p items groups) (records : List Bracket) (references labels : List ℕ)
-    (l : length records ≡ m) where
+-- a refusal
+module _ {text : List ℕ} {mode : ℕ} {pool : List ℕ} (note : ℕ) {index₀ : List ℕ} {m : ℕ} {items₀ groups₀ : List ℕ} {number : ℕ}
+    {items groups : List ℕ} (b : RefusedBefore text mode pool index₀ m items₀ groups₀ number items groups) (records : List Bracket)
+    (references labels : List ℕ) (l : length records ≡ m) where
+  ran-refused : annotateRun text mode pool note index₀ records (areas items₀ groups₀ references labels)
+      ≡ annotateRan (annotateRefused number (areas items₀ groups₀ references labels)) (lentOf note index₀ records)
+  unfolding annotateRun
+  ran-refused = rw (l, sym (b .refuses), ne-eqb number 0 (b .some))
+
+  pub done-refused : Done (annotateRun text mode pool note index₀ records (areas items₀ groups₀ references labels)) (Refused number note) items groups references labels
+  unfolding annotateRan annotationAnswer annotationValues annotationNumbers
+  done-refused = record {
+    answer = rw (ran-refused, ne-eqb number 0 (b .some));
+    values = rw ran-refused;
+    item-area = b .item-area ∙ rw ran-refused;
+    group-area = b .group-area ∙ rw ran-refused;
+    reference-area = rw ran-refused;
+    label-area = rw ran-refused;
+  }
+
+-- a sweep
+module _ {text : List ℕ} {mode : ℕ} {pool : List ℕ} {note : ℕ} {index₀ : List ℕ} {m : ℕ} {items₀ groups₀ : List ℕ} {begun : SweepState}
+    {items groups : List ℕ} (b : SweptBefore text mode pool note index₀ m items₀ groups₀ begun items groups) (records : List Bracket)
+    (references labels : List ℕ) (l : length records ≡ m) where
   abbrev held : Areas
   held = areas items₀ groups₀ references labels
 
   abbrev ran : AnnotateRan
   ran = annotateRun text mode pool note index₀ records held
 
-  refusal : annotateRefusal text mode pool (length index₀) (length records) ≡ p .number
-  refusal = rw l (sym (b .refuses))
+  abbrev found : List Group
+  found = all b records
 
-  -- a refusal
-  module _ (n : p .number ≡ 0 → ⊥) where
-    ran-refused : ran ≡ annotateRan (annotateRefused (p .number) held) (lent b records)
-    unfolding annotateRun
-    ran-refused = rw (refusal, ne-eqb (p .number) 0 n)
+  abbrev wanted : Areas
+  wanted = content b records
 
-    pub done-refused : Done ran (Refused (p .number) note) items groups references labels
-    unfolding annotateRan annotationAnswer annotationValues annotationNumbers
-    done-refused = record {
-      answer = rw (ran-refused, ne-eqb (p .number) 0 n);
-      values = rw ran-refused;
-      item-area = b .keeps-items n ∙ rw ran-refused;
-      group-area = b .keeps-groups n ∙ rw ran-refused;
-      reference-area = rw ran-refused;
-      label-area = rw ran-refused;
-    }
+  ran-swept : ran
+      ≡ annotateRan
+      (pick (roomFor wanted held) (annotateGives found wanted held) (annotateRefused 10 (zeroFilled held)))
+      (lentAfter (begun .wants) text (lent b records))
+  unfolding annotateRun annotateSwept answerOf
+  ran-swept = rw (l, eq-eqb (annotateRefusal text mode pool (length index₀) m) 0 (b .passes), swept-lent text (lent b records) (b .sweeps))
 
-  module _ (z : p .number ≡ 0) where
-    abbrev found : List Group
-    found = all b records
+  -- an answer by the room that there is
+  done-by : {k : ℕ} → k ≡ noteAfter (begun .wants) note → (t : Bool) → roomFor wanted held ≡ t
+      → {r : Annotation} {items' groups' references' labels' : List ℕ}
+      → r ≡ pick t (Accepted (length found) (itemCount found) (length (wanted .references)) (length (wanted .labels)) k) (Refused 10 k)
+      → items' ≡ pick t (written (wanted .items) items₀) (zeros items₀)
+      → groups' ≡ pick t (written (wanted .groups) groups₀) (zeros groups₀)
+      → references' ≡ pick t (written (wanted .references) references) (zeros references)
+      → labels' ≡ pick t (written (wanted .labels) labels) (zeros labels)
+      → Done ran r items' groups' references' labels'
+  unfolding annotateRan annotationAnswer annotationValues annotationNumbers annotateGives contentWritten zeroFilled lentAfter
+  done-by e true q v i g f l = record {
+    answer = v ∙ rw (ran-swept, q, e);
+    values = ap annotationValues v ∙ rw (ran-swept, q, e);
+    item-area = i ∙ rw (ran-swept, q);
+    group-area = g ∙ rw (ran-swept, q);
+    reference-area = f ∙ rw (ran-swept, q);
+    label-area = l ∙ rw (ran-swept, q);
+  }
+  done-by e false q v i g f l = record {
+    answer = v ∙ rw (ran-swept, q, e);
+    values = ap annotationValues v ∙ rw (ran-swept, q, e);
+    item-area = i ∙ rw (ran-swept, q);
+    group-area = g ∙ rw (ran-swept, q);
+    reference-area = f ∙ rw (ran-swept, q);
+    label-area = l ∙ rw (ran-swept, q);
+  }
 
-    abbrev wanted : Areas
-    wanted = content b records
+  module _ {k : ℕ} (e : k ≡ noteAfter (begun .wants) note) {index : List ℕ} (i : index ≡ indexAfter (begun .wants) text index₀)
+      {s : SweepState} {items' groups' : List ℕ} (t : SweptTo text k index begun items groups s items' groups') where
+    recorded : Recorded text found startState items₀ groups₀ s items' groups'
+    recorded = whole b records e i t
 
-    ran-swept : ran
-        ≡ annotateRan
-        (pick (roomFor wanted held) (annotateGives found wanted held) (annotateRefused 10 (zeroFilled held)))
-        (lentAfter (p .sweep .wants) text (lent b records))
-    unfolding annotateRun annotateSwept answerOf
-    ran-swept = rw (refusal, eq-eqb (p .number) 0 z, swept-lent text (lent b records) (b .sweeps z))
+    tested : s .fits ≡ (leb (length (wanted .items)) (length items₀) && leb (length (wanted .groups)) (length groups₀))
+    tested = records-fit b records e i t
 
-    -- an answer by the room that there is
-    done-by : {k : ℕ} → k ≡ noteAfter (p .sweep .wants) note → (t : Bool) → roomFor wanted held ≡ t
-        → {r : Annotation} {items' groups' references' labels' : List ℕ}
-        → r ≡ pick t (Accepted (length found) (itemCount found) (length (wanted .references)) (length (wanted .labels)) k) (Refused 10 k)
-        → items' ≡ pick t (written (wanted .items) items₀) (zeros items₀)
-        → groups' ≡ pick t (written (wanted .groups) groups₀) (zeros groups₀)
-        → references' ≡ pick t (written (wanted .references) references) (zeros references)
-        → labels' ≡ pick t (written (wanted .labels) labels) (zeros labels)
-        → Done ran r items' groups' references' labels'
-    unfolding annotateRan annotationAnswer annotationValues annotationNumbers annotateGives contentWritten zeroFilled lentAfter
-    done-by e true q v i g f l = record {
-      answer = v ∙ rw (ran-swept, q, e);
-      values = ap annotationValues v ∙ rw (ran-swept, q, e);
-      item-area = i ∙ rw (ran-swept, q);
-      group-area = g ∙ rw (ran-swept, q);
-      reference-area = f ∙ rw (ran-swept, q);
-      label-area = l ∙ rw (ran-swept, q);
-    }
-    done-by e false q v i g f l = record {
-      answer = v ∙ rw (ran-swept, q, e);
-      values = ap annotationValues v ∙ rw (ran-swept, q, e);
-      item-area = i ∙ rw (ran-swept, q);
-      group-area = g ∙ rw (ran-swept, q);
-      reference-area = f ∙ rw (ran-swept, q);
-      label-area = l ∙ rw (ran-swept, q);
-    }
+    module _ (f : s .fits ≡ false) where
+      no-room : roomFor wanted held ≡ false
+      unfolding roomFor
+      no-room =
+          none-before (leb (length (wanted .items)) (length items₀)) (leb (length (wanted .groups)) (length groups₀))
+          (leb (length (wanted .references)) (length references)) (leb (length (wanted .labels)) (length labels))
+          (leb (length (wanted .labels)) 65535)
+          (sym tested ∙ f)
 
-    module _ {k : ℕ} (e : k ≡ noteAfter (p .sweep .wants) note) {index : List ℕ} (i : index ≡ indexAfter (p .sweep .wants) text index₀)
-        {s : SweepState} {items' groups' : List ℕ} (t : SweptTo text k index (p .sweep) items groups s items' groups') where
-      recorded : Recorded text found startState items₀ groups₀ s items' groups'
-      recorded = whole b records z e i t
+      pub done-few : {r : Annotation} {items'' groups'' references'' labels'' : List ℕ}
+          → Zeroed k items' groups' references labels r items'' groups'' references'' labels''
+          → Done ran r items'' groups'' references'' labels''
+      done-few o =
+          done-by e false no-room (o .refused) (o .item-area ∙ rw (recorded .item-area)) (o .group-area ∙ rw (recorded .group-area))
+          (o .reference-area) (o .label-area)
 
-      tested : s .fits ≡ (leb (length (wanted .items)) (length items₀) && leb (length (wanted .groups)) (length groups₀))
-      tested = records-fit b records z e i t
+    module _ (f : s .fits ≡ true) where
+      room : roomThen (made b records e i t) references labels ≡ roomFor wanted held
+      unfolding roomThen roomFor
+      room =
+          rw
+          (then-labels b records e i t f, then-sources b records e i t f, leb-min (length (wanted .labels)) 65535 (length labels))
+          (all-after (leb (length (wanted .items)) (length items₀)) (leb (length (wanted .groups)) (length groups₀))
+          (leb (length (wanted .references)) (length references)) (leb (length (wanted .labels)) (length labels))
+          (leb (length (wanted .labels)) 65535)
+          (sym tested ∙ f))
 
-      module _ (f : s .fits ≡ false) where
-        no-room : roomFor wanted held ≡ false
-        unfolding roomFor
-        no-room =
-            none-before (leb (length (wanted .items)) (length items₀)) (leb (length (wanted .groups)) (length groups₀))
-            (leb (length (wanted .references)) (length references)) (leb (length (wanted .labels)) (length labels))
-            (leb (length (wanted .labels)) 65535)
-            (sym tested ∙ f)
+      pub done-room : {r : Annotation} {items'' groups'' references'' labels'' : List ℕ}
+          → Ordered text mode pool (s .groups) (s .items) k items' groups' references labels r items'' groups'' references'' labels''
+          → Done ran r items'' groups'' references'' labels''
+      done-room o =
+          done-by e (roomFor wanted held) refl
+          (o .answer
+          ∙ rw (room, then-sources b records e i t f, then-labels b records e i t f, all-groups-count recorded, all-items-count recorded))
+          (o .item-area ∙ rw (room, then-items b records e i t f, recorded .item-area))
+          (o .group-area ∙ rw (room, then-groups b records e i t f, recorded .group-area))
+          (o .reference-area ∙ rw (room, then-ordered b records e i t f))
+          (o .label-area ∙ rw (room, then-labels b records e i t f))
 
-        pub done-few : {r : Annotation} {items'' groups'' references'' labels'' : List ℕ}
-            → Zeroed k items' groups' references labels r items'' groups'' references'' labels''
-            → Done ran r items'' groups'' references'' labels''
-        done-few o =
-            done-by e false no-room (o .refused) (o .item-area ∙ rw (recorded .item-area)) (o .group-area ∙ rw (recorded .group-area))
-            (o .reference-area) (o .label-area)
+-- the index and the bracket records that the call leaves
+module _ (text : List ℕ) (mode : ℕ) (pool : List ℕ) (note : ℕ) (index₀ items₀ groups₀ : List ℕ) (records : List Bracket) (references labels : List ℕ) where
+  abbrev left : AnnotateRan
+  left = annotateRun text mode pool note index₀ records (areas items₀ groups₀ references labels)
 
-      module _ (f : s .fits ≡ true) where
-        room : roomThen (made b records z e i t) references labels ≡ roomFor wanted held
-        unfolding roomThen roomFor
-        room =
-            rw
-            (then-labels b records z e i t f, then-sources b records z e i t f, leb-min (length (wanted .labels)) 65535 (length labels))
-            (all-after (leb (length (wanted .items)) (length items₀)) (leb (length (wanted .groups)) (length groups₀))
-            (leb (length (wanted .references)) (length references)) (leb (length (wanted .labels)) (length labels))
-            (leb (length (wanted .labels)) 65535)
-            (sym tested ∙ f))
+  pub ran-index : (p : Prepared) (items groups : List ℕ) → PreparedBy text mode pool note index₀ (length records) items₀ groups₀ p items groups
+      → left .index ≡ indexAfter (preparedWants p) text index₀
+  unfolding annotateRan lentAfter indexAfter preparedWants
+  ran-index (NotReady number) items groups b = rw (ran-refused note b records references labels refl)
+  ran-index (Ready s) items groups b = rw (ran-swept b records references labels refl)
 
-        pub done-room : {r : Annotation} {items'' groups'' references'' labels'' : List ℕ}
-            → Ordered text mode pool (s .groups) (s .items) k items' groups' references labels r items'' groups'' references'' labels''
-            → Done ran r items'' groups'' references'' labels''
-        done-room o =
-            done-by e (roomFor wanted held) refl
-            (o .answer
-            ∙ rw (room, then-sources b records z e i t f, then-labels b records z e i t f, all-groups-count recorded, all-items-count recorded))
-            (o .item-area ∙ rw (room, then-items b records z e i t f, recorded .item-area))
-            (o .group-area ∙ rw (room, then-groups b records z e i t f, recorded .group-area))
-            (o .reference-area ∙ rw (room, then-ordered b records z e i t f))
-            (o .label-area ∙ rw (room, then-labels b records z e i t f))
-
-  -- the index and the bracket records that the call leaves
-  pub ran-index : ran .index ≡ indexAfter (p .sweep .wants) text index₀
-  unfolding annotateRan lentAfter indexAfter
-  ran-index = go (eqb (p .number) 0) refl
-    where
-      go : (t : Bool) → eqb (p .number) 0 ≡ t → ran .index ≡ indexAfter (p .sweep .wants) text index₀
-      go true q = rw (ran-swept (eqb-true (p .number) 0 q))
-      go false q = let n = eqb-false (p .number) 0 q in rw (ran-refused n, b .no-build n)
-
-  pub ran-records : ran .records ≡ recordsAfter (p .sweep .wants) text records
-  unfolding annotateRan lentAfter recordsAfter
-  ran-records = go (eqb (p .number) 0) refl
-    where
-      go : (t : Bool) → eqb (p .number) 0 ≡ t → ran .records ≡ recordsAfter (p .sweep .wants) text records
-      go true q = rw (ran-swept (eqb-true (p .number) 0 q))
-      go false q = let n = eqb-false (p .number) 0 q in rw (ran-refused n, b .no-build n)
+  pub ran-records : (p : Prepared) (items groups : List ℕ) → PreparedBy text mode pool note index₀ (length records) items₀ groups₀ p items groups
+      → left .records ≡ recordsAfter (preparedWants p) text records
+  unfolding annotateRan lentAfter recordsAfter preparedWants
+  ran-records (NotReady number) items groups b = rw (ran-refused note b records references labels refl)
+  ran-records (Ready s) items groups b = rw (ran-swept b records references labels refl)

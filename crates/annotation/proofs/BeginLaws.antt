@@ -1,68 +1,54 @@
 -- The first half of an annotation, in the form of the code's needs, and what the build after it asks for.
 use Prim.Native.Nat.{ℕ, _≤_}
-use mathlib.Core.Path.{_≡_, refl, sym, _∙_, ap}
+use mathlib.Core.Path.{_≡_, refl, sym, _∙_}
 use mathlib.Core.List.{List}
-use mathlib.Core.Bool.{Bool, true, false, true≢false}
+use mathlib.Core.Bool.{true, false, true≢false}
 use lib.ListN.{length}
-use lib.Dec.{eqb}
-use borrow.Author.Tests.{eqb-true, eqb-false}
 use Rattle.index.specs.Building.{Enough}
 use Rattle.sweep.specs.declared.group_records.SweepState.{SweepState}
 use Rattle.sweep.specs.Stops.{startState, SweptTo}
 use Rattle.sweep.specs.Recording.{Counted}
 use Rattle.sweep.proofs.Laws.{start-counted}
-use Rattle.annotation.specs.declared.preparation.Begun.{Begun}
+use Rattle.annotation.specs.declared.preparation.Prepared.{Prepared}
+use Rattle.annotation.specs.declared.preparation.Prepared.the-variants.{Refused as NotReady, Ready}
 use Rattle.annotation.specs.Refusal.{annotateRefusal}
-use Rattle.annotation.specs.Halves.{BegunBy}
-use Rattle.annotation.proofs.RefusalLaws.{Unrefused, unrefused}
-
-abbrev begun : ℕ → SweepState → Begun
-begun number sweep = record { number = number; sweep = sweep }
+use Rattle.annotation.specs.Halves.{RefusedBefore, SweptBefore, PreparedBy, preparedWants}
+use Rattle.annotation.proofs.RefusalLaws.{unrefused}
 
 module _ (text : List ℕ) (mode : ℕ) (pool : List ℕ) (note : ℕ) (index : List ℕ) (m : ℕ) (items groups : List ℕ) {number : ℕ}
-    (q : number ≡ annotateRefusal text mode pool (length index) m) {s : SweepState} (e : s ≡ startState) where
-  pub begun-refused : (number ≡ 0 → ⊥) → BegunBy text mode pool note index m items groups (begun number s) items groups
-  begun-refused n = record {
-    refuses = q;
-    keeps-items = λ h. refl;
-    keeps-groups = λ h. refl;
-    no-build = λ h. ap (λ (x : SweepState). x .wants) e;
-    sweeps = λ z. absurd (n z);
-    item-area = refl;
-    group-area = refl;
-  }
-
-  pub begun-counted : Counted text s (length items) (length groups)
-  begun-counted = rw e (start-counted text (length items) (length groups))
+    (q : number ≡ annotateRefusal text mode pool (length index) m) where
+  pub prepared-refused : (number ≡ 0 → ⊥) → RefusedBefore text mode pool index m items groups number items groups
+  prepared-refused n = record { refuses = q; some = n; item-area = refl; group-area = refl }
 
   module _ (z : number ≡ 0) where
-    pub begun-short : length text ≤ 65535
-    begun-short = unrefused text mode pool (length index) m (sym q ∙ z) .enough .short
+    pub prepared-short : length text ≤ 65535
+    prepared-short = unrefused text mode pool (length index) m (sym q ∙ z) .enough .short
 
-    pub begun-swept : {t : SweepState} {items' groups' : List ℕ} → SweptTo text note index s items groups t items' groups'
-        → BegunBy text mode pool note index m items groups (begun number t) items' groups'
-    begun-swept o = record {
-      refuses = q;
-      keeps-items = λ h. absurd (h z);
-      keeps-groups = λ h. absurd (h z);
-      no-build = λ h. absurd (h z);
-      sweeps = λ h. rw e at o;
-      item-area = o .records .item-area;
-      group-area = o .records .group-area;
-    }
+    module _ {s : SweepState} (e : s ≡ startState) where
+      pub prepared-counted : Counted text s (length items) (length groups)
+      prepared-counted = rw e (start-counted text (length items) (length groups))
 
-pub ruleset begin-laws = (begun-refused, begun-counted, begun-short, begun-swept)
+      pub prepared-swept : {t : SweepState} {items' groups' : List ℕ} → SweptTo text note index s items groups t items' groups'
+          → SweptBefore text mode pool note index m items groups t items' groups'
+      prepared-swept o = record { passes = sym q ∙ z; sweeps = rw e at o }
+
+-- whether a build is wanted
+module _ {p : Prepared} where
+  pub wants-none : {number : ℕ} → p ≡ NotReady number → false ≡ preparedWants p
+  unfolding preparedWants
+  wants-none e = rw e refl
+
+  pub wants-sweep : {s : SweepState} → p ≡ Ready s → s .wants ≡ preparedWants p
+  unfolding preparedWants
+  wants-sweep e = rw e refl
+
+pub ruleset begin-laws = (prepared-refused, prepared-counted, prepared-short, prepared-swept, wants-none, wants-sweep)
 
 -- what the build asks for ------------------------------------------------------------------------------------------------------------
 
-module _ {text : List ℕ} {mode : ℕ} {pool : List ℕ} {note : ℕ} {index : List ℕ} {m : ℕ} {items₀ groups₀ : List ℕ} {p : Begun} {items groups : List ℕ}
-    (b : BegunBy text mode pool note index m items₀ groups₀ p items groups) where
-  passed : p .number ≡ 0 → Unrefused text mode pool (length index) m
-  passed z = unrefused text mode pool (length index) m (sym (b .refuses) ∙ z)
-
-  pub wanted-enough : p .sweep .wants ≡ true → Enough text (length index) m
-  wanted-enough w = go (eqb (p .number) 0) refl
-    where
-      go : (t : Bool) → eqb (p .number) 0 ≡ t → Enough text (length index) m
-      go true q = passed (eqb-true (p .number) 0 q) .enough
-      go false q = absurd (true≢false (sym w ∙ b .no-build (eqb-false (p .number) 0 q)))
+module _ (text : List ℕ) (mode : ℕ) (pool : List ℕ) (note : ℕ) (index : List ℕ) (m : ℕ) (items₀ groups₀ : List ℕ) where
+  pub wanted-enough : (p : Prepared) (items groups : List ℕ) → PreparedBy text mode pool note index m items₀ groups₀ p items groups
+      → preparedWants p ≡ true → Enough text (length index) m
+  unfolding preparedWants
+  wanted-enough (NotReady number) items groups b w = absurd (true≢false (sym w))
+  wanted-enough (Ready s) items groups b w = unrefused text mode pool (length index) m (b .passes) .enough

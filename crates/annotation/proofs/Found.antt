@@ -8,12 +8,12 @@ use lib.Dec.{ltb}
 use Rattle.base.specs.Pick.{pick}
 use Rattle.base.specs.Sorted.{Each}
 use Rattle.close.specs.declared.Close.{Close}
-use Rattle.close.specs.declared.Close.the-variants.{At, Nothing}
 use Rattle.index.specs.Entries.{opensAt}
-use Rattle.resolve.specs.Groups.{Found, NoGroup, groupAccepted, judge}
+use Rattle.resolve.specs.Groups.{GroupAnswer, NoGroup, judge}
 use Rattle.item.specs.Group.{Group, groupOf}
 use Rattle.resolve.specs.Resolve.{closeAsRun, groupAsRun}
 use Rattle.resolve.specs.Looks.{Inside}
+use Rattle.resolve.proofs.Judges.{judge-either}
 use Rattle.resolve.proofs.Runs.{run-inside}
 use Rattle.sweep.specs.Sweep.{Lent, Swept, swept, foundGroups, nextAt, lentAfter, foundRun, buildsAt, sweepRunIn, sweepRun, foundWith}
 use Rattle.sweep.proofs.Sizes.{size-enough-run}
@@ -27,13 +27,9 @@ each-append P [] ys h k = k
 each-append P (x ∷ xs) ys h k = (h .0, each-append P xs ys (h .1) k)
 
 judged-within : (text : List ℕ) (p : ℕ) (c : Close) → Inside text p c → Each (Within text) (foundGroups (judge text p c))
-unfolding judge groupOf
-judged-within text p (At c) k = go (groupAccepted text p c)
-  where
-    go : (t : Bool) → Each (Within text) (foundGroups (pick t (Found (groupOf text p c)) NoGroup))
-    go true = ((k .0, k .1), tt)
-    go false = tt
-judged-within text p Nothing k = tt
+unfolding groupOf
+judged-within text p d k =
+    judge-either text p (λ (g : GroupAnswer). Each (Within text) (foundGroups g)) d (λ c e f. let i = rw e at k in ((i .0, i .1), tt)) tt
 
 found-within : (text : List ℕ) (p : ℕ) (l : Lent) → Each (Within text) (foundGroups (foundRun text p l))
 unfolding foundWith groupAsRun

@@ -45,9 +45,6 @@ module _ (text : List ℕ) (mode : ℕ) (pool : List ℕ) (n m note : ℕ) (item
     agreed : Agrees made labels k items' groups' labels'
     agreed = h .agrees (and-left (k .fits) _ y)
 
-    pub sources-word : Orderable text pool n m made → k .sources ≤ 65535
-    sources-word o = rw (agreed .sources) (o .few)
-
     pub ordered-room : {references' : List ℕ} → references' ≡ written (referencesIn text pool groups' items' n m mode (k .sources)) references
         → Ordered text mode pool n m note items groups references labels (Accepted n m (k .sources) (k .«label_bytes») note) items' groups' references'
         labels'
@@ -75,12 +72,17 @@ module _ (text : List ℕ) (mode : ℕ) (pool : List ℕ) (n m note : ℕ) (item
       label-area = o .label-area ∙ rw (no-room, l);
     }
 
--- the sources are known in the areas as they are then
-pub sources-are : (text : List ℕ) (mode : ℕ) (pool : List ℕ) (n m : ℕ) (items groups labels : List ℕ) (k : Numbering) (items' groups' labels' : List ℕ) (b : Bool)
-    → Holds (numberAll text mode pool n items groups) (roomOf labels) labels k items' groups' labels'
-    → Orderable text pool n m (numberAll text mode pool n items groups) → (k .fits && b) ≡ true → SourcesKnown text pool groups' items' n m (k .sources)
-sources-are text mode pool n m items groups labels k items' groups' labels' b h o y =
-    let a = h .agrees (and-left (k .fits) b y) in
-    rw (a .sources, a .item-area, a .group-area) (o .known)
+-- the sources are few, and known in the areas as they are then
+module _ (text : List ℕ) (mode : ℕ) (pool : List ℕ) (n m : ℕ) (items groups labels : List ℕ) (k : Numbering) (items' groups' labels' : List ℕ) (b : Bool)
+    (h : Holds (numberAll text mode pool n items groups) (roomOf labels) labels k items' groups' labels')
+    (o : Orderable text pool n m (numberAll text mode pool n items groups)) (y : (k .fits && b) ≡ true) where
+  all-agreed : Agrees (numberAll text mode pool n items groups) labels k items' groups' labels'
+  all-agreed = h .agrees (and-left (k .fits) b y)
 
-pub ruleset order-laws = (references-room, sources-word, sources-are, ordered-room, ordered-few)
+  pub sources-few : k .sources ≤ 65535
+  sources-few = rw (all-agreed .sources) (o .few)
+
+  pub sources-are : SourcesKnown text pool groups' items' n m (k .sources)
+  sources-are = rw (all-agreed .sources, all-agreed .item-area, all-agreed .group-area) (o .known)
+
+pub ruleset order-laws = (references-room, sources-few, sources-are, ordered-room, ordered-few)

@@ -32,21 +32,16 @@ module _ (s : List ℕ) (mode : ℕ) (pool : List ℕ) (n m : ℕ) {r : ℕ} (q 
       unfolding annotateRefusal
       refused-pool f = rw (le-ltb 1 mode h, sym d ∙ f) (accepted-after s q 7 z)
 
-      module _ (t : b ≡ true) where
-        pub refused-index : n < length s → 9 ≡ annotateRefusal s mode pool n m
-        unfolding annotateRefusal tooFew
-        refused-index g = rw (le-ltb 1 mode h, sym d ∙ t, lt-ltb n (length s) g) (accepted-after s q 9 z)
+      module _ (t : b ≡ true) {w : Bool} (k : w ≡ tooFew s n m) where
+        pub refused-few : w ≡ true → 9 ≡ annotateRefusal s mode pool n m
+        unfolding annotateRefusal
+        refused-few f = rw (le-ltb 1 mode h, sym d ∙ t, sym k ∙ f) (accepted-after s q 9 z)
 
-        module _ (g : length s ≤ n) where
-          pub refused-records : m < length s → 9 ≡ annotateRefusal s mode pool n m
-          unfolding annotateRefusal tooFew
-          refused-records k = rw (le-ltb 1 mode h, sym d ∙ t, le-ltb n (length s) g, lt-ltb m (length s) k) (accepted-after s q 9 z)
+        pub refused-not : w ≡ false → 0 ≡ annotateRefusal s mode pool n m
+        unfolding annotateRefusal
+        refused-not f = rw (le-ltb 1 mode h, sym d ∙ t, sym k ∙ f) (accepted-after s q 0 z)
 
-          pub refused-not : length s ≤ m → 0 ≡ annotateRefusal s mode pool n m
-          unfolding annotateRefusal tooFew
-          refused-not k = rw (le-ltb 1 mode h, sym d ∙ t, le-ltb n (length s) g, le-ltb m (length s) k) (accepted-after s q 0 z)
-
-pub ruleset refusal-laws = (refused-text, refused-mode, refused-pool, refused-index, refused-records, refused-not)
+pub ruleset refusal-laws = (refused-text, refused-mode, refused-pool, refused-few, refused-not)
 
 -- Where nothing refuses an annotation before the sweep: a build can be had, the mode is one of the two, and the pool has its layout.
 pub record Unrefused (s : List ℕ) (mode : ℕ) (pool : List ℕ) (n m : ℕ) : Type 0 where

@@ -7,10 +7,12 @@ use Rattle.annotation.specs.declared.answer.Annotation.{Annotation}
 use Rattle.annotation.specs.Call.{AnnotateRan, zeros, annotateRun}
 use Rattle.annotation.specs.Values.{annotationNumbers, annotationAnswer, annotationValues}
 use Rattle.annotation.specs.declared.answer.Annotation.the-variants.{Refused}
-use mathlib.Core.Bool.{false}
+use mathlib.Core.Bool.{Bool, false}
 use lib.ListN.{length}
 use Rattle.sweep.specs.Stops.{startState, SweptTo}
-use Rattle.annotation.specs.declared.preparation.Begun.{Begun}
+use Rattle.sweep.specs.declared.group_records.SweepState.{SweepState}
+use Rattle.annotation.specs.declared.preparation.Prepared.{Prepared}
+use Rattle.annotation.specs.declared.preparation.Prepared.the-variants.{Refused as NotReady, Ready}
 use Rattle.annotation.specs.Refusal.{annotateRefusal}
 use Rattle.index.specs.declared.Bracket.{Bracket}
 use Rattle.index.specs.Built.{indexAfter}
@@ -25,7 +27,7 @@ pub record Done (ran : AnnotateRan) (r : Annotation) (items groups references la
   pub reference-area : references ≡ ran .answer .areas .references
   pub label-area : labels ≡ ran .answer .areas .labels
 
--- 10: all four areas are contentWritten with zeros
+-- 10: all four areas are filled with zeros
 pub record Zeroed (note : ℕ) (items groups references labels : List ℕ) (r : Annotation)
     (items' groups' references' labels' : List ℕ) : Type 0 where
   pub refused : r ≡ Refused 10 note
@@ -34,34 +36,50 @@ pub record Zeroed (note : ℕ) (items groups references labels : List ℕ) (r : 
   pub reference-area : references' ≡ zeros references
   pub label-area : labels' ≡ zeros labels
 
--- Before the build: of a call that is given this index, `m` bracket records and these two areas, the refusal or the sweep so far, and what
--- the two areas are then. A refusal leaves them as they were, and wants no build.
-pub record BegunBy (text : List ℕ) (mode : ℕ) (pool : List ℕ) (note : ℕ) (index : List ℕ) (m : ℕ) (items groups : List ℕ) (p : Begun)
-    (items' groups' : List ℕ) : Type 0 where
-  pub refuses : p .number ≡ annotateRefusal text mode pool (length index) m
-  pub keeps-items : (p .number ≡ 0 → ⊥) → items' ≡ items
-  pub keeps-groups : (p .number ≡ 0 → ⊥) → groups' ≡ groups
-  pub no-build : (p .number ≡ 0 → ⊥) → p .sweep .wants ≡ false
-  pub sweeps : p .number ≡ 0 → SweptTo text note index startState items groups (p .sweep) items' groups'
-  pub item-area : length items' ≡ length items
-  pub group-area : length groups' ≡ length groups
+-- In what follows a call is given this index, `m` bracket records and these two areas; `items'` and `groups'` are what they are at the build.
 
--- what the second half asks for: the first half began with some index, areas and count of bracket records lent, and the index was built
--- where it wanted that
-pub record Continues (text : List ℕ) (mode : ℕ) (pool : List ℕ) (note : ℕ) (p : Begun) (index items groups : List ℕ) : Type 0 where
+-- refused before the sweep: both areas stay as they were
+pub record RefusedBefore (text : List ℕ) (mode : ℕ) (pool index : List ℕ) (m : ℕ) (items groups : List ℕ) (number : ℕ)
+    (items' groups' : List ℕ) : Type 0 where
+  pub refuses : number ≡ annotateRefusal text mode pool (length index) m
+  pub some : number ≡ 0 → ⊥
+  pub item-area : items' ≡ items
+  pub group-area : groups' ≡ groups
+
+-- not refused: the sweep so far, and what it left in the two areas
+pub record SweptBefore (text : List ℕ) (mode : ℕ) (pool : List ℕ) (note : ℕ) (index : List ℕ) (m : ℕ) (items groups : List ℕ) (s : SweepState)
+    (items' groups' : List ℕ) : Type 0 where
+  pub passes : annotateRefusal text mode pool (length index) m ≡ 0
+  pub sweeps : SweptTo text note index startState items groups s items' groups'
+
+-- before the build: the refusal, or the sweep so far
+abbrev pub PreparedBy : List ℕ → ℕ → List ℕ → ℕ → List ℕ → ℕ → List ℕ → List ℕ → Prepared → List ℕ → List ℕ → Type 0
+PreparedBy text mode pool note index m items groups (NotReady number) items' groups' =
+    RefusedBefore text mode pool index m items groups number items' groups'
+PreparedBy text mode pool note index m items groups (Ready s) items' groups' =
+    SweptBefore text mode pool note index m items groups s items' groups'
+
+-- the prepared annotation asks for a build
+unfoldable pub preparedWants : Prepared → Bool
+preparedWants (NotReady number) = false
+preparedWants (Ready s) = s .wants
+
+-- what the second half asks for of the first: it was given some index, areas and count of bracket records, and the index was built where it
+-- asked for that
+pub record CanFinish (text : List ℕ) (mode : ℕ) (pool : List ℕ) (note : ℕ) (p : Prepared) (index items groups : List ℕ) : Type 0 where
   pub index₀ : List ℕ
   pub lent : ℕ
   pub items₀ : List ℕ
   pub groups₀ : List ℕ
-  pub begun : BegunBy text mode pool note index₀ lent items₀ groups₀ p items groups
-  pub built : index ≡ indexAfter (p .sweep .wants) text index₀
+  pub prepared : PreparedBy text mode pool note index₀ lent items₀ groups₀ p items groups
+  pub built : index ≡ indexAfter (preparedWants p) text index₀
 
--- After the build: whatever the call was given, the answer is that of the call as run, if the first half began so and the index was built
--- where that wanted it.
-pub record Finished (text : List ℕ) (mode : ℕ) (pool : List ℕ) (note : ℕ) (p : Begun) (index items groups references labels : List ℕ)
+-- After the build: whatever the call was given, the answer is that of the call as run, if the first half prepared it so and the index was
+-- built where that asked for it.
+pub record Finished (text : List ℕ) (mode : ℕ) (pool : List ℕ) (note : ℕ) (p : Prepared) (index items groups references labels : List ℕ)
     (r : Annotation) (items' groups' references' labels' : List ℕ) : Type 0 where
   pub gives : (index₀ : List ℕ) (records : List Bracket) (m : ℕ) (items₀ groups₀ : List ℕ)
-      → BegunBy text mode pool note index₀ m items₀ groups₀ p items groups
+      → PreparedBy text mode pool note index₀ m items₀ groups₀ p items groups
       → length records ≡ m
-      → index ≡ indexAfter (p .sweep .wants) text index₀
+      → index ≡ indexAfter (preparedWants p) text index₀
       → Done (annotateRun text mode pool note index₀ records (areas items₀ groups₀ references labels)) r items' groups' references' labels'

@@ -2,6 +2,7 @@
 // or 10 where the labels or the references have no room.
 use crate::answer::Annotation;
 use crate::answer::refuse_ten;
+use definition::lines::lines_end;
 use numbering::number_groups;
 use order::order_references;
 use sweep::group_records::SweepState;
@@ -30,10 +31,22 @@ pub fn number_and_order<'a>(
 {
     let n = s.groups;
     let m = s.items;
-    let numbers = number_groups(text, mode, pool, n, m, items, groups, labels);
+    let lines = lines_end(text, groups, items, n);
+    let numbers = number_groups(text, mode, pool, n, lines, m, items, groups, labels);
     let sources = numbers.sources;
     if numbers.fits & (sources <= references.len()) {
-        order_references(text, mode, pool, n, m, sources, items, groups, references);
+        order_references(
+            text,
+            mode,
+            pool,
+            n,
+            lines,
+            m,
+            sources,
+            items,
+            groups,
+            references,
+        );
         return Annotation::Accepted {
             groups: n,
             items: m,

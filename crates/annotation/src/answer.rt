@@ -41,7 +41,7 @@ fn zero_fill_bytes(bytes: &mut [u8])
     }
 }
 
-// The refusal by 10: all four areas are contentWritten with zeros.
+// The refusal by 10: all four areas are filled with zeros.
 pub fn refuse_ten(
     note: u8,
     items: &mut [u16],

@@ -3,10 +3,10 @@
 use crate::after_sweep::number_and_order;
 use crate::answer::Annotation;
 use crate::answer::refuse_ten;
-use crate::preparation::Begun;
+use crate::preparation::Prepared;
 use sweep::sweep;
 ghost use mathlib.Core.Path.{_≡_};
-ghost use Rattle.annotation.specs.Halves.{Continues, Finished};
+ghost use Rattle.annotation.specs.Halves.{CanFinish, Finished};
 
 // An annotation from the build on. 10 comes only after the whole sweep.
 pub fn finish<'a>(
@@ -14,35 +14,35 @@ pub fn finish<'a>(
     mode: u8,
     pool: &'a [u8],
     note: u8,
-    p: Begun,
+    p: Prepared,
     index: &mut [u16],
     items: &mut [u16],
     groups: &mut [u16],
     references: &mut [u16],
     labels: &mut [u8],
 ) -> Annotation
-    requires { ⌜ Continues (now text) mode (now pool) note p (now index) (now items) (now groups) ⌝ }
+    requires { ⌜ CanFinish (now text) mode (now pool) note p (now index) (now items) (now groups) ⌝ }
     ensures { λ r. ⌜ Finished (now (text .entry)) mode (now (pool .entry)) note p (now (index .entry)) (now (items .entry)) (now (groups .entry)) (now (references .entry)) (now (labels .entry)) r (now (items .exit)) (now (groups .exit)) (now (references .exit)) (now (labels .exit)) × (now (index .exit) ≡ now (index .entry)) ⌝ }
 {
-    let number = p.number;
-    if number != 0 {
-        return Annotation::Refused { number, note };
+    match p {
+        Prepared::Refused { number } => Annotation::Refused { number, note },
+        Prepared::Ready { sweep: begun } => {
+            let later = lookup::note_after(begun.wants, note);
+            let s = sweep(text, later, index, begun, items, groups);
+            if s.fits {
+                return number_and_order(
+                    text,
+                    mode,
+                    pool,
+                    later,
+                    s,
+                    items,
+                    groups,
+                    references,
+                    labels,
+                );
+            }
+            refuse_ten(later, items, groups, references, labels)
+        }
     }
-    let begun = p.sweep;
-    let later = lookup::note_after(begun.wants, note);
-    let s = sweep(text, later, index, begun, items, groups);
-    if s.fits {
-        return number_and_order(
-            text,
-            mode,
-            pool,
-            later,
-            s,
-            items,
-            groups,
-            references,
-            labels,
-        );
-    }
-    refuse_ten(later, items, groups, references, labels)
 }

@@ -1,5 +1,6 @@
 // An annotation up to the build of the index: what refuses it before the sweep,
 // and the sweep up to a bracket that wants a build.
+use lookup::is_too_few;
 use pool::is_well_formed;
 use sweep::group_records::SweepState;
 use sweep::start;
@@ -7,12 +8,12 @@ use sweep::sweep;
 use utf8::text_refusal;
 ghost use mathlib.Core.Path.{_≡_};
 ghost use Rattle.annotation.specs.Refusal.{annotateRefusal};
-ghost use Rattle.annotation.specs.Halves.{BegunBy};
+ghost use Rattle.annotation.specs.Halves.{PreparedBy, preparedWants};
 
-// An annotation before the build: the number of its refusal, or 0 and the sweep so far.
-pub struct Begun {
-    pub number: u8,
-    pub sweep: SweepState,
+// An annotation before a build: a refusal, or the sweep so far.
+pub enum Prepared {
+    Refused { number: u8 },
+    Ready { sweep: SweepState },
 }
 
 // What refuses an annotation before the sweep, `index` and `records` being how many of these are lent; 0 for nothing.
@@ -27,10 +28,11 @@ fn annotate_refusal(text: &[u8], mode: u8, pool: &[u8], index: usize, records: u
         return 6;
     }
     if is_well_formed(pool) {
-        if index < text.len() {
-            return 9;
-        }
-        return if records < text.len() { 9 } else { 0 };
+        return if is_too_few(text, index, records) {
+            9
+        } else {
+            0
+        };
     }
     7
 }
@@ -45,25 +47,23 @@ pub fn prepare(
     records: usize,
     items: &mut [u16],
     groups: &mut [u16],
-) -> Begun
-    ensures { λ r. ⌜ BegunBy (now (text .entry)) mode (now (pool .entry)) note (now (index .entry)) records (now (items .entry)) (now (groups .entry)) r (now (items .exit)) (now (groups .exit)) × (now (index .exit) ≡ now (index .entry)) ⌝ }
+) -> Prepared
+    ensures { λ r. ⌜ PreparedBy (now (text .entry)) mode (now (pool .entry)) note (now (index .entry)) records (now (items .entry)) (now (groups .entry)) r (now (items .exit)) (now (groups .exit)) × (now (index .exit) ≡ now (index .entry)) ⌝ }
 {
     let number = annotate_refusal(text, mode, pool, index.len(), records);
-    let begin = start();
     if number != 0 {
-        return Begun {
-            number,
-            sweep: begin,
-        };
+        return Prepared::Refused { number };
     }
-    let s = sweep(text, note, index, begin, items, groups);
-    Begun { number, sweep: s }
+    let s = sweep(text, note, index, start(), items, groups);
+    Prepared::Ready { sweep: s }
 }
 
-// Whether the index has to be built.
-pub fn wants_build(p: Begun) -> bool
-    ensures { λ r. ⌜ r ≡ p .sweep .wants ⌝ }
+// Whether the prepared annotation asks for a build.
+pub fn wants_build(p: Prepared) -> bool
+    ensures { λ r. ⌜ r ≡ preparedWants p ⌝ }
 {
-    let s = p.sweep;
-    s.wants
+    match p {
+        Prepared::Refused { number: _ } => false,
+        Prepared::Ready { sweep: s } => s.wants,
+    }
 }

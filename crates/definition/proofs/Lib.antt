@@ -2,4 +2,3 @@ pub mod Values
 pub mod EntryLaws
 pub mod LineLaws
 pub mod DefinedLaws
-pub mod Clips

@@ -4,14 +4,12 @@ use native.Mathlib.Omega.{arith}
 use mathlib.Core.Path.{_≡_, refl, sym, _∙_}
 use mathlib.Core.List.{List}
 use mathlib.Core.Logic.{⊎-elim}
-use mathlib.Core.Bool.{Bool, true, false, and-false, and-true}
-use lib.ListN.{length, List·getD-eq-default}
+use mathlib.Core.Bool.{Bool, true, false, _&&_, and-false, and-true, true≢false}
 use lib.Dec.{eqb}
 use borrow.Author.Tests.{eq-eqb, ne-eqb, eqb-true, eqb-false}
 use Rattle.base.specs.LastPlace.{last}
 use Rattle.base.specs.Lists.{same}
 use Rattle.definition_line.specs.Lines.{startsLine, colonAfter}
-use Rattle.definition_line.proofs.Laws.{colon-cut}
 use Rattle.definition.specs.Lines.{definesIn, definesKeyIn, lineIn}
 use Rattle.definition.specs.Definitions.{LinesBelow}
 use Rattle.records.specs.Records.{groupField, keyIn, bareIn, closeOfRecord}
@@ -19,34 +17,42 @@ use Rattle.base.proofs.Bools.{split}
 use Rattle.base.proofs.Lasts.{last-out, last-stop, last-more}
 use Rattle.records.specs.Widths.{group-count, group-place, group-first}
 
--- past the text no line starts, and no colon stands
-pub starts-past : (text : List ℕ) (at : ℕ) → length text < at → false ≡ startsLine text at
-unfolding startsLine
-starts-past text at h =
-    let n : (at ≡ 0 → ⊥) = λ e. omega arith in
-    rw (ne-eqb at 0 n, List·getD-eq-default text 0 {n = at - 1} (omega arith)) refl
+-- the four tests of `definesIn`, the first and the last of which are made together
+none : (x y z w : Bool) → (x && w) ≡ false → false ≡ (x && y && z && w)
+none true y z w h = rw (h, and-false) refl
+none false y z w h = refl
 
-pub colon-past : (text : List ℕ) (close : ℕ) → length text ≤ close → false ≡ colonAfter text close
-colon-past text close h = colon-cut text close (omega arith)
+all : (x y z w : Bool) → (x && w) ≡ true → y ≡ true → z ≡ (x && y && z && w)
+all true true z w h p = rw h (sym (and-true z))
+all true false z w h p = absurd (true≢false (sym p))
+all false y z w h p = absurd (true≢false (sym h))
 
 module _ (text groups items : List ℕ) (g : ℕ) where
   pub defines-count : {n : ℕ} → n ≡ groupField groups g group-count → (n ≡ 1 → ⊥) → false ≡ definesIn text groups items g
   unfolding definesIn
   defines-count p h = rw (← p, ne-eqb _ 1 h, and-false) refl
 
-  pub defines-start : {a : ℕ} {b : Bool} → a ≡ groupField groups g group-place → b ≡ startsLine text a → b ≡ false → false ≡ definesIn text groups items g
+  pub defines-place : {a e : ℕ} {b : Bool} → a ≡ groupField groups g group-place → e ≡ closeOfRecord groups g
+      → b ≡ (startsLine text a && colonAfter text e) → b ≡ false → false ≡ definesIn text groups items g
   unfolding definesIn
-  defines-start p q h = rw (← p, ← q, h) refl
+  defines-place a1 e1 q h =
+      none (startsLine text (groupField groups g group-place)) (eqb (groupField groups g group-count) 1)
+      (bareIn items (groupField groups g group-first))
+      (colonAfter text (closeOfRecord groups g))
+      (rw (← a1, ← e1) (sym q ∙ h))
 
-  pub defines-bare : {k : ℕ} {b : Bool} → k ≡ groupField groups g group-first → b ≡ bareIn items k → b ≡ false → false ≡ definesIn text groups items g
+  pub defines-bare : {n a e k : ℕ} {b r : Bool} → n ≡ groupField groups g group-count → n ≡ 1 → a ≡ groupField groups g group-place
+      → e ≡ closeOfRecord groups g → b ≡ (startsLine text a && colonAfter text e) → b ≡ true → k ≡ groupField groups g group-first
+      → r ≡ bareIn items k → r ≡ definesIn text groups items g
   unfolding definesIn
-  defines-bare p q h = rw (← p, ← q, h, and-false) refl
-
-  pub defines-colon : {n a k e : ℕ} {b d r : Bool} → n ≡ groupField groups g group-count → n ≡ 1 → a ≡ groupField groups g group-place → b ≡ startsLine text a
-      → b ≡ true → k ≡ groupField groups g group-first → d ≡ bareIn items k → d ≡ true → e ≡ closeOfRecord groups g → r ≡ colonAfter text e
-      → r ≡ definesIn text groups items g
-  unfolding definesIn
-  defines-colon n1 n2 a1 b1 b2 k1 d1 d2 e1 r1 = r1 ∙ rw (e1, ← a1, ← b1, b2, ← n1, eq-eqb _ 1 n2, ← k1, ← d1, d2) refl
+  defines-bare n1 n2 a1 e1 q t k1 r1 =
+      r1
+      ∙ rw k1
+      (all (startsLine text (groupField groups g group-place)) (eqb (groupField groups g group-count) 1)
+      (bareIn items (groupField groups g group-first))
+      (colonAfter text (closeOfRecord groups g))
+      (rw (← a1, ← e1) (sym q ∙ t))
+      (rw (← n1) (eq-eqb _ 1 n2)))
 
   pub key-colon : (key : List ℕ) {e : ℕ} {b : Bool} → e ≡ closeOfRecord groups g → b ≡ colonAfter text e → b ≡ false
       → false ≡ definesKeyIn text groups items key g
@@ -63,7 +69,7 @@ module _ (text groups items : List ℕ) (g : ℕ) where
   unfolding definesKeyIn
   key-same key p q e h d = d ∙ rw (← p, ← q, ← e, h, and-true) refl
 
-pub ruleset define-laws = (starts-past, colon-past, defines-count, defines-start, defines-bare, defines-colon, key-colon, key-other, key-same)
+pub ruleset define-laws = (defines-count, defines-place, defines-bare, key-colon, key-other, key-same)
 
 -- the bound of the lines, found from the end
 module _ (text groups items : List ℕ) (n : ℕ) where

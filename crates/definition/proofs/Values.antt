@@ -15,7 +15,7 @@ use Rattle.definition.specs.declared.Author.the-variants.{InText, InPool
 use Rattle.definition.specs.declared.Year.{Year}
 use Rattle.definition.specs.declared.Year.the-variants.{InText as YearInText, InPool as YearInPool, Number, Missing as NoYear}
 use Rattle.attributes.specs.Attributes.{attrValue}
-use Rattle.definition.specs.Parts.{authorBytes, yearBytes, authorGiven, yearPart}
+use Rattle.definition.specs.Parts.{authorBytes, yearBytes, authorGiven, yearPart, bothOf, Gives}
 use Rattle.attributes.specs.Values.{valueBytes, ValueWithin}
 use Rattle.base.proofs.Parts.{part-length, part-part}
 
@@ -26,20 +26,21 @@ line-within text at len {P} {v} {p} h e b q =
     let m : p .at + p .len ≤ length P = rw q at b in
     omega (arith, ap length e, part-length text at (at + len) (omega arith) h)
 
-module _ (text key : List ℕ) (at len : ℕ) {A P : List ℕ} {v : Value} (i : part text at (at + len) ≡ A) (h : at + len ≤ length text)
+module _ (text key : List ℕ) (at len : ℕ) {P : List ℕ} {v : Value} (h : at + len ≤ length text)
     (e : P ≡ part text at (at + len)) (w : valueBytes P v ≡ attrValue P key) where
-  pub line-given : (p : Span) → ValueWithin (length P) v → v ≡ Given p → valueBytes text (Given (span (at + p .at) (p .len))) ≡ attrValue A key
+  pub line-given : (p : Span) → ValueWithin (length P) v → v ≡ Given p
+      → valueBytes text (Given (span (at + p .at) (p .len))) ≡ attrValue (part text at (at + len)) key
   unfolding valueBytes
   line-given p b q =
       let m = line-within text at len h e b q in
       let z : at + (p .at + p .len) ≡ at + p .at + p .len = omega arith in
       let k = part-part text at (at + len) (omega arith) h (p .at) (p .at + p .len) (omega arith) (omega arith) in
       let u : some (part P (p .at) (p .at + p .len)) ≡ attrValue P key = rw q at w in
-      ap some (ap (part text (at + p .at)) (sym z) ∙ sym k ∙ rw e refl) ∙ u ∙ ap (λ l. attrValue l key) (e ∙ i)
+      ap some (ap (part text (at + p .at)) (sym z) ∙ sym k ∙ rw e refl) ∙ u ∙ ap (λ l. attrValue l key) e
 
-  pub line-none : v ≡ NoValue → valueBytes text NoValue ≡ attrValue A key
+  pub line-none : v ≡ NoValue → valueBytes text NoValue ≡ attrValue (part text at (at + len)) key
   unfolding valueBytes
-  line-none q = let u : none ≡ attrValue P key = rw q at w in u ∙ ap (λ l. attrValue l key) (e ∙ i)
+  line-none q = let u : none ≡ attrValue P key = rw q at w in u ∙ ap (λ l. attrValue l key) e
 
 pub ruleset line-value-laws = (line-given, line-none)
 
@@ -61,7 +62,12 @@ module _ (text : List ℕ) {v : Value} {o : Option (List ℕ)} (e : valueBytes t
   unfolding valueBytes yearBytes
   year-none q pool = rw q at e
 
-pub ruleset given-laws = (author-text, author-none, year-text, year-none)
+-- both
+pub gives-both : (text : List ℕ) {a : Author} {y : Year} (o u : Option (List ℕ)) → ((pool : List ℕ) → authorBytes text pool a ≡ o)
+    → ((pool : List ℕ) → yearBytes text pool y ≡ u) → (pool : List ℕ) → Gives text pool (bothOf a y) o u
+gives-both text o u p q pool = record { author-bytes = p pool; year-bytes = q pool }
+
+pub ruleset given-laws = (author-text, author-none, year-text, year-none, gives-both)
 
 -- the parts of an author and of a year
 module _ (text pool : List ℕ) (a : Author) where

@@ -26,7 +26,7 @@ DefinedIn pool n (Line g) = g < n
 DefinedIn pool n (EntryOf i) = i < countOf pool
 DefinedIn pool n Nothing = Unit {0}
 
--- what the key is defined by: the last line of it among the records, else the first entry with its id
+-- what the key is defined by: its last definition line, else the first entry of the pool that has it as its id
 unfoldable pub foundIn : List ℕ → List ℕ → List ℕ → ℕ → List ℕ → List ℕ → Defined
 foundIn text groups items n pool key =
     pick (ltb (lineIn text groups items n key) n)

@@ -9,7 +9,7 @@ use Rattle.definition.specs.Defs.{Def}
 use Rattle.definition.specs.Lines.{definesIn}
 use Rattle.definition.specs.Defined.{definedAs, foundIn}
 
--- the definition of a key, by what it is defined by
+-- what the key is defined as: `defOf` of specs/Defs, by the records
 unfoldable pub definitionIn : List ℕ → List ℕ → List ℕ → ℕ → List ℕ → List ℕ → Option Def
 definitionIn text groups items n pool key = definedAs text groups n pool (foundIn text groups items n pool key)
 

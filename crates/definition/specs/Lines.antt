@@ -10,7 +10,7 @@ use Rattle.definition.specs.Defs.{Def, lineDef}
 use Rattle.records.specs.Records.{groupField, keyIn, bareIn, closeOfRecord, nextIn}
 use Rattle.records.specs.Widths.{group-place, group-count, group-first}
 
--- group record `g` starts a definition line
+-- group record `g` starts a definition line: `defines`, by the records
 unfoldable pub definesIn : List ℕ → List ℕ → List ℕ → ℕ → Bool
 definesIn text groups items g =
     startsLine text (groupField groups g group-place) && eqb (groupField groups g group-count) 1 && bareIn items (groupField groups g group-first)
@@ -20,7 +20,7 @@ definesIn text groups items g =
 unfoldable pub definesKeyIn : List ℕ → List ℕ → List ℕ → List ℕ → ℕ → Bool
 definesKeyIn text groups items key g = definesIn text groups items g && same (keyIn text items (groupField groups g group-first)) key
 
--- the last definition line of the key: its group number among the first `n`; `n` where there is none
+-- the group number of the last definition line of the key among the first `n`; `n` where there is none
 unfoldable pub lineIn : List ℕ → List ℕ → List ℕ → ℕ → List ℕ → ℕ
 lineIn text groups items n key = last (definesKeyIn text groups items key) n n
 

@@ -1,14 +1,16 @@
 // What defines a key: the last definition line of it among the group records, else the first entry of the pool.
 // And the author and the year that it gives.
 use crate::Author;
+use crate::AuthorYear;
 use crate::Year;
 ghost use mathlib.Core.Path.{_≡_};
 ghost use mathlib.Core.List.{List};
 ghost use mathlib.Core.Bool.{true};
 ghost use Prim.Native.Nat.{ℕ, _<_};
-ghost use Rattle.pool.specs.Layout.{wellFormed};
+ghost use Rattle.pool.specs.Layout.{countOf, entryAt, wellFormed};
+ghost use Rattle.source.specs.Entry.{authorOf, yearOf};
 ghost use Rattle.definition.specs.Defs.{defAuthor, defYear};
-ghost use Rattle.definition.specs.Parts.{authorBytes, yearBytes};
+ghost use Rattle.definition.specs.Parts.{Gives};
 ghost use Rattle.definition.specs.Lines.{lineDefIn};
 ghost use Rattle.definition.specs.Definitions.{definitionIn, LinesBelow};
 ghost use Rattle.definition.specs.Defined.{definedAs, foundIn, DefinedIn};
@@ -48,60 +50,38 @@ pub fn find(
     }
 }
 
-// The author that the definition line of group record `g` gives.
-fn line_author(text: &[u8], groups: &[u16], n: usize, g: usize) -> Author
+// The author and the year that the definition line of group record `g` gives.
+fn line_given(text: &[u8], groups: &[u16], n: usize, g: usize) -> AuthorYear
     requires { ⌜ (n < 4294967296) × (g < n) ⌝ }
-    ensures { λ r. ⌜ ((pool : List ℕ) → authorBytes (now (text .entry)) pool r ≡ lineDefIn (now (text .entry)) (now (groups .entry)) n g .author) ⌝ }
+    ensures { λ r. ⌜ ((pool : List ℕ) → Gives (now (text .entry)) pool r (lineDefIn (now (text .entry)) (now (groups .entry)) n g .author) (lineDefIn (now (text .entry)) (now (groups .entry)) n g .year)) ⌝ }
 {
     let close = records::close_of_record(groups, g);
-    if text.len() <= close {
-        return Author::Missing;
-    }
     let next = records::next_in(text, groups, n, g);
-    if next <= text.len() {
-        crate::author_of(text, close, next)
-    } else {
-        crate::author_of(text, close, text.len())
-    }
+    crate::author_and_year(text, definition_line::attributes(text, close, next))
 }
 
-// The year that it gives.
-fn line_year(text: &[u8], groups: &[u16], n: usize, g: usize) -> Year
-    requires { ⌜ (n < 4294967296) × (g < n) ⌝ }
-    ensures { λ r. ⌜ ((pool : List ℕ) → yearBytes (now (text .entry)) pool r ≡ lineDefIn (now (text .entry)) (now (groups .entry)) n g .year) ⌝ }
+// Those that the entry of the pool gives.
+fn entry_given(pool: &[u8], number: usize) -> AuthorYear
+    requires { ⌜ (wellFormed (now pool) ≡ true) × (number < countOf (now pool)) ⌝ }
+    ensures { λ r. ⌜ ((text : List ℕ) → Gives text (now (pool .entry)) r (authorOf (entryAt (now (pool .entry)) number)) (yearOf (entryAt (now (pool .entry)) number))) ⌝ }
 {
-    let close = records::close_of_record(groups, g);
-    if text.len() <= close {
-        return Year::Missing;
-    }
-    let next = records::next_in(text, groups, n, g);
-    if next <= text.len() {
-        crate::year_of(text, close, next)
-    } else {
-        crate::year_of(text, close, text.len())
+    AuthorYear {
+        author: crate::entries::entry_author(pool, number),
+        year: crate::entries::entry_year(pool, number),
     }
 }
 
-// The author by what was found.
-pub fn author_in(text: &[u8], pool: &[u8], groups: &[u16], n: usize, d: Defined) -> Author
+// Those that what was found gives.
+pub fn given_by(text: &[u8], pool: &[u8], groups: &[u16], n: usize, d: Defined) -> AuthorYear
     requires { ⌜ (n < 4294967296) × (wellFormed (now pool) ≡ true) × DefinedIn (now pool) n d ⌝ }
-    ensures { λ r. ⌜ authorBytes (now (text .entry)) (now (pool .entry)) r ≡ defAuthor (definedAs (now (text .entry)) (now (groups .entry)) n (now (pool .entry)) d) ⌝ }
+    ensures { λ r. ⌜ Gives (now (text .entry)) (now (pool .entry)) r (defAuthor (definedAs (now (text .entry)) (now (groups .entry)) n (now (pool .entry)) d)) (defYear (definedAs (now (text .entry)) (now (groups .entry)) n (now (pool .entry)) d)) ⌝ }
 {
     match d {
-        Defined::Line { group } => line_author(text, groups, n, group),
-        Defined::Entry { number } => crate::entries::entry_author(pool, number),
-        Defined::Nothing => Author::Missing,
-    }
-}
-
-// The year by what was found.
-pub fn year_in(text: &[u8], pool: &[u8], groups: &[u16], n: usize, d: Defined) -> Year
-    requires { ⌜ (n < 4294967296) × (wellFormed (now pool) ≡ true) × DefinedIn (now pool) n d ⌝ }
-    ensures { λ r. ⌜ yearBytes (now (text .entry)) (now (pool .entry)) r ≡ defYear (definedAs (now (text .entry)) (now (groups .entry)) n (now (pool .entry)) d) ⌝ }
-{
-    match d {
-        Defined::Line { group } => line_year(text, groups, n, group),
-        Defined::Entry { number } => crate::entries::entry_year(pool, number),
-        Defined::Nothing => Year::Missing,
+        Defined::Line { group } => line_given(text, groups, n, group),
+        Defined::Entry { number } => entry_given(pool, number),
+        Defined::Nothing => AuthorYear {
+            author: Author::Missing,
+            year: Year::Missing,
+        },
     }
 }

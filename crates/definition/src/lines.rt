@@ -1,31 +1,8 @@
 // Definition lines among the group records.
 ghost use mathlib.Core.Path.{_≡_};
 ghost use Prim.Native.Nat.{_<_};
-ghost use Rattle.definition_line.specs.Lines.{startsLine, colonAfter};
 ghost use Rattle.definition.specs.Lines.{definesIn, definesKeyIn, lineIn};
 ghost use Rattle.definition.specs.Definitions.{LinesBelow};
-
-// Whether a line starts at the place `at`, which may lie past the text.
-fn starts(text: &[u8], at: usize) -> bool
-    ensures { λ r. ⌜ r ≡ startsLine (now (text .entry)) at ⌝ }
-{
-    if at <= text.len() {
-        definition_line::starts_line(text, at)
-    } else {
-        false
-    }
-}
-
-// Whether `:` and a space follow the place `close`, which may lie past the text.
-fn colon(text: &[u8], close: usize) -> bool
-    ensures { λ r. ⌜ r ≡ colonAfter (now (text .entry)) close ⌝ }
-{
-    if close < text.len() {
-        definition_line::colon_after(text, close)
-    } else {
-        false
-    }
-}
 
 // Whether group record `g` starts a definition line.
 fn defines_in(text: &[u8], groups: &[u16], items: &[u16], g: usize) -> bool
@@ -37,13 +14,9 @@ fn defines_in(text: &[u8], groups: &[u16], items: &[u16], g: usize) -> bool
         return false;
     }
     let at = records::group_field(groups, g, records::GROUP_PLACE);
-    if starts(text, at) {
-        let k = records::group_field(groups, g, records::GROUP_FIRST);
-        if records::bare_in(items, k) {
-            colon(text, records::close_of_record(groups, g))
-        } else {
-            false
-        }
+    let close = records::close_of_record(groups, g);
+    if definition_line::in_definition_place(text, at, close) {
+        records::bare_in(items, records::group_field(groups, g, records::GROUP_FIRST))
     } else {
         false
     }
@@ -55,7 +28,7 @@ fn defines_key_in(text: &[u8], groups: &[u16], items: &[u16], g: usize, key: &[u
     requires { ⌜ g < 4294967296 ⌝ }
     ensures { λ r. ⌜ r ≡ definesKeyIn (now (text .entry)) (now (groups .entry)) (now (items .entry)) (now (key .entry)) g ⌝ }
 {
-    if colon(text, records::close_of_record(groups, g)) {
+    if definition_line::colon_after(text, records::close_of_record(groups, g)) {
         let k = records::group_field(groups, g, records::GROUP_FIRST);
         let own = records::key_in(text, items, k);
         if base::slices::is_same(own, key) {

@@ -1,10 +1,10 @@
 -- What the code's needs cite, each law in the form of a need: premises are what the loop's invariant, the callees and the branches say.
 use Prim.Native.Nat.{ℕ, _+_, _-_, _≤_, _<_}
 use native.Mathlib.Omega.{arith}
-use mathlib.Core.Path.{_≡_, refl, ap}
+use mathlib.Core.Path.{_≡_, refl, sym, _∙_, ap}
 use mathlib.Core.List.{List, []}
 use mathlib.Core.Bool.{Bool, true, false, _&&_, _||_, and-false, or-true}
-use lib.ListN.{length}
+use lib.ListN.{length, List·getD-eq-default}
 use lib.Dec.{eqb, ltb}
 use borrow.Author.Tests.{eq-eqb, ne-eqb, le-leb, lt-ltb, le-ltb, eqb-true, eqb-false, ltb-true, ltb-false}
 use Rattle.base.specs.First.{first, firstOf, firstOther}
@@ -50,6 +50,10 @@ module _ (s : List ℕ) (at : ℕ) where
   unfolding startsLine
   line-after p = rw (ne-eqb at 0 p) refl
 
+  pub line-past : (at ≡ 0 → ⊥) → length s < at → false ≡ startsLine s at
+  unfolding startsLine
+  line-past p h = rw (ne-eqb at 0 p, List·getD-eq-default s 0 {n = at - 1} (omega arith)) refl
+
 module _ (s : List ℕ) (close : ℕ) where
   pub colon-there : close + 2 < length s → (eqb (byteAt s (close + 1)) 58 && eqb (byteAt s (close + 2)) 32) ≡ colonAfter s close
   unfolding colonAfter
@@ -59,9 +63,20 @@ module _ (s : List ℕ) (close : ℕ) where
   unfolding colonAfter
   colon-cut h = rw (le-ltb (close + 2) (length s) h, and-false) refl
 
+  pub colon-past : length s ≤ close → false ≡ colonAfter s close
+  colon-past h = colon-cut (omega arith)
+
+-- the place of a group that starts a definition line
+module _ (s : List ℕ) (at close : ℕ) {b : Bool} (q : b ≡ startsLine s at) where
+  pub place-other : b ≡ false → false ≡ (startsLine s at && colonAfter s close)
+  place-other f = rw (sym q ∙ f) refl
+
+  pub place-colon : {r : Bool} → b ≡ true → r ≡ colonAfter s close → r ≡ (startsLine s at && colonAfter s close)
+  place-colon t p = p ∙ rw (sym q ∙ t) refl
+
 pub ruleset either-laws = (either-start, first-out, first-stop, first-more)
 
-pub ruleset line-laws = (break-is, spaces-are, line-first, line-after, colon-there, colon-cut)
+pub ruleset line-laws = (break-is, spaces-are, line-first, line-after, line-past, colon-there, colon-cut, colon-past, place-other, place-colon)
 
 -- attributes ---------------------------------------------------------------------------------------------------------------------
 

@@ -13,14 +13,14 @@ use Rattle.text.specs.Escape.{escapedAt}
 use Rattle.utf8.specs.Refusal.{afterText, textRefusal}
 use Rattle.base.specs.Lists.{isAt}
 use Rattle.close.specs.declared.Close.{Close}
-use Rattle.close.specs.declared.Close.the-variants.{At, Nothing}
+use Rattle.close.specs.declared.Close.the-variants.{At}
 use Rattle.base.proofs.Bools.{and-right}
 use Rattle.index.specs.declared.Bracket.{Bracket}
 use Rattle.locator.specs.declared.Locator.the-variants.{Nothing as NoLocator}
 use Rattle.locator.specs.Locators.{locatorOf}
 use Rattle.locator.specs.Answers.{codeOf, valueOf, suffixOf}
 use Rattle.locator.proofs.Laws.{code-small, value-ends, suffix-ends}
-use Rattle.resolve.specs.Groups.{GroupAnswer, Found, NoGroup, groupAccepted, judge}
+use Rattle.resolve.specs.Groups.{GroupAnswer, Found, NoGroup, judge}
 use Rattle.item.specs.Group.{Group, groupOf}
 use Rattle.records.specs.ItemRecords.{recordsLength}
 use Rattle.resolve.specs.Resolve.{closeAsRun, groupAsRun, noteAfter}
@@ -37,6 +37,7 @@ use Rattle.standing.specs.GroupRecords.{itemCount}
 use Rattle.standing.proofs.ItemSizes.{items-size}
 use Rattle.sweep.proofs.Sizes.{size-enough-run}
 use Rattle.resolve.specs.Looks.{Inside}
+use Rattle.resolve.proofs.Judges.{judge-either}
 use Rattle.resolve.proofs.Runs.{run-inside}
 use Rattle.sweep.proofs.Stops.{sweep-in-two}
 use Rattle.annotation.specs.Content.{Areas, tallyOf, contentOf}
@@ -102,19 +103,17 @@ refused-low n items h = record { number = h; close = omega arith; count = omega 
 
 module _ (s : List ℕ) (at : ℕ) (items : List ℕ) where
   judged-low : length s ≤ 65535 → (c : Close) → Inside s at c → Low (lookUpAnswers (judge s at c) items)
-  unfolding judge lookUpAnswers lookUpGives groupOf
-  judged-low h (At c) k = go (groupAccepted s at c)
+  unfolding lookUpAnswers lookUpGives groupOf
+  judged-low h d k =
+      judge-either s at (λ (g : GroupAnswer). Low (lookUpAnswers g items)) d
+      (λ c e f. full c (rw e at k) (ltb (length items) (recordsLength (groupOf s at c))))
+      (refused-low 5 items (omega arith))
     where
-      full : (t : Bool) → Low (pick t (lookUpRefused 10 items) (lookUpGives (groupOf s at c) items))
-      full true = refused-low 10 items (omega arith)
-      full false =
+      full : (c : ℕ) → Inside s at (At c) → (t : Bool) → Low (pick t (lookUpRefused 10 items) (lookUpGives (groupOf s at c) items))
+      full c k true = refused-low 10 items (omega arith)
+      full c k false =
           let z = items-size s at c (k .0) in
           record { number = omega arith; close = omega (arith, k .1); count = omega (arith, k .1) }
-
-      go : (t : Bool) → Low (lookUpAnswers (pick t (Found (groupOf s at c)) NoGroup) items)
-      go true = full (ltb (length items) (recordsLength (groupOf s at c)))
-      go false = refused-low 5 items (omega arith)
-  judged-low h Nothing k = refused-low 5 items (omega arith)
 
   look-up-refusal-low : (n m : ℕ) → lookUpRefusal s at n m ≤ 9
   unfolding lookUpRefusal afterText

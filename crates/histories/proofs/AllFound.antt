@@ -19,7 +19,8 @@ use Rattle.resolve.proofs.AtBracket.{opens-in}
 use Rattle.resolve.proofs.Parts.{group-in-order}
 use Rattle.definition_line.specs.Lines.{groupEnd}
 use Rattle.sweep.specs.Sweep.{foundGroups, nextAt, foundAt, sweepIn, sweepOf}
-use Rattle.histories.specs.EveryGroup.{Admits, Some, AllOf}
+use Rattle.annotation.specs.Standings.{Some}
+use Rattle.histories.specs.EveryGroup.{Admits, AllOf}
 
 module _ (text : List ℕ) where
   -- what the sweep finds at a place is what the rules admit there

@@ -9,9 +9,11 @@ use lib.Dec.{eqb, ltb}
 use borrow.Author.Tests.{eq-eqb, eqb-true, lt-ltb, le-ltb}
 use Rattle.base.specs.Pick.{pick}
 use Rattle.base.specs.Lists.{isAt}
+use Rattle.base.proofs.Alls.{each-map}
 use Rattle.utf8.specs.Utf8.{tooLong, utf8}
 use Rattle.text.specs.Escape.{escapedAt}
 use Rattle.utf8.specs.Refusal.{afterText}
+use Rattle.resolve.proofs.Parts.{group-in-order}
 use Rattle.resolve.specs.Groups.{GroupAnswer, Found, NoGroup, groupAt}
 use Rattle.item.specs.Group.{Group}
 use Rattle.records.specs.ItemRecords.{recordsLength}
@@ -124,10 +126,16 @@ module _ (text : List ℕ) (mode : ℕ) (pool : List ℕ) (n m : ℕ) (areas : A
       go true q false h = absurd (omega (arith, h))
       go false q r h = absurd (true≢false (sym (eq-eqb (annotateRefusal text mode pool n m) 0 h) ∙ q))
 
+-- a group closes after its bracket
+closes-after : (text : List ℕ) (g : Group) → Admits text (g .at) g → g .at ≤ g .close
+closes-after text g a = omega (arith, group-in-order text (g .at) g (a .1) .1)
+
 pub demand-2 : EveryGroup
 demand-2 text = (
   all-found text,
-  λ mode pool. says text mode (sweepOf text) pool,
+  λ mode pool. says text mode (sweepOf text) pool
+      (each-map (λ (g : Group). Admits text (g .at) g) (λ (g : Group). g .at ≤ g .close) (sweepOf text) (closes-after text) (all-found text .admitted))
+      (all-found text .apart),
   λ index note records left. record {
     look-ups = λ at items.
         subst (LookUpFinds text at (length index) (length records) items) (sym (look-up-true text at note index records items left))

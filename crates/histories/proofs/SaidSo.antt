@@ -1,5 +1,5 @@
 -- The content of an annotation, record by record.
-use Prim.Native.Nat.{ℕ, _+_, _*_, _<_}
+use Prim.Native.Nat.{ℕ, _+_, _*_, _≤_, _<_}
 use native.Mathlib.Omega.{arith}
 use mathlib.Core.Path.{_≡_, refl, sym, _∙_, ap, subst}
 use mathlib.Core.List.{List, [], _∷_, _++_, map, flatMap, flatten, append-nil, append-assoc}
@@ -12,12 +12,13 @@ use borrow.Author.Tests.{eqb-true}
 use Rattle.base.specs.Pick.{pick}
 use Rattle.base.specs.Fold.{fold}
 use Rattle.base.specs.Spans.{span}
+use Rattle.base.specs.Sorted.{Each, Sorted}
 use Rattle.item.specs.declared.Item.{Item}
 use Rattle.item.specs.Group.{Group}
 use Rattle.records.specs.ItemRecords.{itemRecord, unnumberedRecord, recordsIn, recordsOf}
 use Rattle.records.specs.Widths.{itemWidth, item-label, item-label-length}
 use Rattle.pool.specs.Layout.{hasPool}
-use Rattle.definition_line.specs.Lines.{keyOf}
+use Rattle.definition_line.specs.Lines.{groupEnd, keyOf}
 use Rattle.definition.specs.Defs.{defOf}
 use Rattle.label.specs.Labels.{labelText}
 use Rattle.standing.specs.GroupRecords.{Placed, itemRecords}
@@ -29,6 +30,8 @@ use Rattle.annotation.specs.Sources.{Source, numberOf, useOf, used}
 use Rattle.annotation.specs.Content.{Tally, tally, placedOf, labelFor, citedItem, numbered, unnumbered, addItem, addGroup, tallyOf, contentOf}
 use Rattle.annotation.specs.Items.{eachItem, itemKeys}
 use Rattle.annotation.proofs.Numbers.{sources-in-order, numbers-stay}
+use Rattle.annotation.proofs.References.{references-all, references-by-number, references-by-rank}
+use Rattle.annotation.proofs.Standings.{standings-stated}
 use Rattle.annotation.proofs.Each.{cell-front, count-more, by-place}
 use Rattle.annotation.proofs.Records.{records-numbered}
 use Rattle.annotation.proofs.UsesRun.{records-used}
@@ -191,18 +194,24 @@ module _ (text : List ℕ) (mode : ℕ) (all : List Group) (pool : List ℕ) whe
         joins = refl;
       }))
 
-  pub says : Says text mode pool all (contentOf text mode all pool)
+  pub says : Each (λ (g : Group). g .at ≤ g .close) all → Sorted (λ (g h : Group). groupEnd g ≤ h .at) all
+      → Says text mode pool all (contentOf text mode all pool)
   unfolding contentOf
-  says =
+  says closes apart =
+      let sources = tallyOf text mode all pool .sources in
       let u = all-so in
       let n = item-records-length all in
       let c = records-numbered text mode all pool in
       record {
         groups = refl;
+        standings = standings-stated text all pool closes apart;
         count = omega (arith, u .count, u .alike, n);
         items = λ k c h g. u .found k c (omega (arith, u .alike, n, h)) g;
         in-order = sources-in-order text mode all pool;
         numbers = λ k h. c .cells k (omega (arith, c .count, u .count, u .alike, n, h));
+        references = references-all text mode all pool sources;
+        by-number = λ e. rw e (references-by-number text all pool sources);
+        by-rank = λ e. rw e (references-by-rank text all pool sources);
         uses = λ k h. records-used text mode all pool k h;
         labels = u .joins;
         label-offsets = λ k h. u .offsets k (omega (arith, u .alike, n, h));

@@ -3,7 +3,7 @@
 use Prim.Native.Nat.{ℕ, _≤_, _<_}
 use mathlib.Core.Path.{_≡_}
 use mathlib.Core.Bool.{true, false}
-use mathlib.Core.List.{List, [], _∷_}
+use mathlib.Core.List.{List}
 use mathlib.Core.Logic.{_⊎_}
 use lib.ListN.{length}
 use Rattle.base.specs.Sorted.{Each, Sorted}
@@ -19,6 +19,7 @@ use Rattle.definition_line.specs.Lines.{groupEnd}
 use Rattle.sweep.specs.Sweep.{sweepOf}
 use Rattle.annotation.specs.Content.{Areas, contentOf}
 use Rattle.annotation.specs.Call.{Annotated, annotateRefused, annotateGives, annotateRun, roomFor, zeroFilled}
+use Rattle.annotation.specs.Standings.{Some}
 use Rattle.annotation.specs.Refusal.{annotateRefusal}
 use Rattle.histories.specs.Said.{Says}
 
@@ -36,11 +37,6 @@ pub record LookUpFinds (text : List ℕ) (at n m : ℕ) (items : List ℕ) (answ
   pub none : lookUpRefusal text at n m ≡ 0 → ((g : Group) → Admits text at g → ⊥) → answer ≡ lookUpRefused 5 items
   pub found-only : answer .number ≡ 0 → (g : Group) × Admits text at g × (answer ≡ lookUpGives g items)
   pub none-only : answer .number ≡ 5 → (g : Group) → Admits text at g → ⊥
-
--- one or more of a list
-abbrev pub Some : {A : Type 0} → (A → Type 0) → List A → Type 0
-Some P [] = ⊥
-Some P (x ∷ xs) = P x ⊎ Some P xs
 
 -- The groups of a text: the rules admit each of them; they stand apart, from left to right; and every group that the rules admit is one of
 -- them, or begins inside one, "on a group go on after it".

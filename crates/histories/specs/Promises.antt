@@ -8,7 +8,7 @@ use Rattle.index.specs.declared.Bracket.{Bracket}
 use Rattle.lookup.specs.declared.LookUp.{LookUp}
 use Rattle.lookup.specs.declared.LookUp.the-variants.{Accepted as FoundOne, Refused as FoundNone}
 use Rattle.lookup.specs.LookUps.{LookedUp, lookUpRun}
-use Rattle.lookup.specs.Values.{lookUpValues, lookUpNumbers}
+use Rattle.lookup.specs.Values.{lookUpValues, lookUpNumbers, lookUpAnswer}
 use Rattle.annotation.specs.declared.answer.Annotation.{Annotation}
 use Rattle.annotation.specs.declared.answer.Annotation.the-variants.{Accepted, Refused}
 use Rattle.annotation.specs.Content.{Areas}
@@ -23,6 +23,7 @@ LookUpPromise text at note index records items r index' records' items' =
     × (index' ≡ lookUpRun text at note index records items .index)
     × (records' ≡ lookUpRun text at note index records items .records)
     × (items' ≡ lookUpRun text at note index records items .answer .items)
+    × (r ≡ lookUpAnswer (lookUpRun text at note index records items))
 
 -- what calls::annotate promises
 abbrev pub AnnotatePromise : List ℕ → ℕ → List ℕ → ℕ → List ℕ → List Bracket → Areas → Annotation → List ℕ → List Bracket → Areas → Type 0

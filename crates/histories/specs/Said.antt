@@ -1,16 +1,21 @@
--- Document 01, Added by design: what an annotation says of each item of a text's groups, record by record.
+-- Document 01, Added by design: what an annotation says of a text's groups, sources and items, record by record.
 use Prim.Native.Nat.{ℕ, _*_, _<_}
 use mathlib.Core.Path.{_≡_}
-use mathlib.Core.List.{List, [], map, flatten}
+use mathlib.Core.List.{List, [], map, flatten, Perm}
 use mathlib.Core.Option.{Option, none, some}
 use lib.ListN.{length, getD, take}
 use Rattle.base.specs.Pick.{pick}
+use Rattle.base.specs.Lists.{upFrom}
+use Rattle.base.specs.Sorted.{Sorted}
 use Rattle.item.specs.Group.{Group}
 use Rattle.records.specs.Widths.{itemWidth, item-number, item-use, item-label, item-label-length}
 use Rattle.pool.specs.Layout.{hasPool}
 use Rattle.standing.specs.GroupRecords.{Placed, itemCount, itemRecords, groupRecords}
 use Rattle.records.specs.Fields.{itemField}
-use Rattle.annotation.specs.Sources.{Source}
+use Rattle.order.specs.Precedes.{Precedes}
+use Rattle.annotation.specs.Sources.{Source, sourceKey}
+use Rattle.annotation.specs.Order.{rankOf}
+use Rattle.annotation.specs.Standings.{StandingsFrom}
 use Rattle.annotation.specs.Content.{Areas, placedOf, labelFor, tallyOf}
 use Rattle.annotation.specs.Items.{numberedKeys, firstUses, eachItem, itemNumbers, itemKeys, useAfter}
 
@@ -28,12 +33,19 @@ pub record SaysOf (text : List ℕ) (mode : ℕ) (pool : List ℕ) (all : List G
     : Type 0 where
   -- one record for each group: "pair, first item .., item count, standing"
   pub groups : content .groups ≡ groupRecords 0 placed
+  -- "standing (0 in a definition line, 1 a key undefined, 2 numbered)"
+  pub standings : StandingsFrom text all pool [] placed
   -- one record for each item; its first 12 numbers, from prefix to marks, are those of its record when it is looked up
   pub count : length (content .items) ≡ itemWidth * itemCount all
   pub items : (k c : ℕ) → k < itemCount all → c < 12 → itemField (content .items) k c ≡ itemField (itemRecords all) k c
   -- "A source's number is the order of its first use in numbered groups, from 1."
   pub in-order : map (λ (s : Source). s .key) sources ≡ firstUses [] (numberedKeys text placed)
   pub numbers : (k : ℕ) → k < itemCount all → itemField (content .items) k item-number ≡ getD (itemNumbers text sources placed) k 0
+  -- "Reference record, one u16 a source: its number, in reference order": each number once, "mode 0 by number; mode 1 by author bytes, or by
+  -- key where no author is given, equal ones by number"
+  pub references : Perm (content .references) (upFrom 1 (length sources))
+  pub by-number : mode ≡ 0 → Sorted (λ (m n : ℕ). m < n) (content .references)
+  pub by-rank : mode ≡ 1 → Sorted (Precedes (λ n. rankOf text all pool (sourceKey sources n))) (content .references)
   -- "With a pool present, use indices of a source run 1, 2, and on."
   pub uses : (k : ℕ) → k < itemCount all
       → itemField (content .items) k item-use ≡ useAfter (hasPool pool) (take k (itemKeys text placed)) (getD (itemKeys text placed) k none)

@@ -11,37 +11,25 @@ use Rattle.item.specs.declared.Judged.{Judged}
 use Rattle.item.specs.declared.Judged.the-variants.{Good, Bad}
 use Rattle.item.specs.Items.{itemOf, isGood}
 use Rattle.item.specs.Pieces.{Stretch, stretch, semicolonAt, pieces, itemsStart, piecesOf, parsed, allGood, itemsOf}
+use Rattle.item.specs.Group.{goodItems}
 use Rattle.item.specs.Judge.{firstBad, judgedIn, judgedOf}
 use Rattle.item.proofs.Pieces.{pieces-more, pieces-last, items-count}
 
 -- what the judgement says ----------------------------------------------------------------------------------------------------------
 
--- all are good exactly where it says so, and then it has their number
-pub judged-good : (s : List ℕ) (p c : ℕ) → allGood s (piecesOf s p c) ≡ true → judgedOf s p c ≡ Good (length (itemsOf s p c))
-unfolding judgedOf judgedIn itemsOf
-judged-good s p c g = rw (g, items-count s (piecesOf s p c) g)
+-- The items as a judgement and as a Boolean: where all are good it has their number, and else the first bad one.
+pub data JudgedBy (s : List ℕ) (p c : ℕ) : Judged → Type 0 where
+  all-good : goodItems s p c ≡ true → JudgedBy s p c (Good (length (itemsOf s p c)))
+  one-bad : (n : ℕ) → goodItems s p c ≡ false → n ≡ firstBad s (piecesOf s p c) → JudgedBy s p c (Bad n)
 
-pub judged-bad : (s : List ℕ) (p c : ℕ) → allGood s (piecesOf s p c) ≡ false → judgedOf s p c ≡ Bad (firstBad s (piecesOf s p c))
-unfolding judgedOf judgedIn
-judged-bad s p c g = rw g
-
-module _ (s : List ℕ) (p c : ℕ) {n : ℕ} where
-  pub good-all : judgedOf s p c ≡ Good n → allGood s (piecesOf s p c) ≡ true
-  good-all j = go (allGood s (piecesOf s p c)) refl
-    where
-      go : (t : Bool) → allGood s (piecesOf s p c) ≡ t → t ≡ true
-      go true q = refl
-      go false q = let y : _≡_ {A = ℕ} 0 1 = cc (judged-bad s p c q) in absurd (omega (arith, y))
-
-  pub good-count : judgedOf s p c ≡ Good n → n ≡ length (itemsOf s p c)
-  good-count j = cc (judged-good s p c (good-all j))
-
-  pub bad-some : judgedOf s p c ≡ Bad n → allGood s (piecesOf s p c) ≡ false
-  bad-some j = go (allGood s (piecesOf s p c)) refl
-    where
-      go : (t : Bool) → allGood s (piecesOf s p c) ≡ t → t ≡ false
-      go true q = let y : _≡_ {A = ℕ} 0 1 = cc (judged-good s p c q) in absurd (omega (arith, y))
-      go false q = refl
+pub judged-by : (s : List ℕ) (p c : ℕ) → JudgedBy s p c (judgedOf s p c)
+unfolding judgedOf judgedIn goodItems itemsOf
+judged-by s p c = go (allGood s (piecesOf s p c)) refl
+  where
+    go : (t : Bool) → allGood s (piecesOf s p c) ≡ t
+        → JudgedBy s p c (pick t (Good (length (piecesOf s p c))) (Bad (firstBad s (piecesOf s p c))))
+    go true q = rw (← items-count s (piecesOf s p c) q) (all-good q)
+    go false q = one-bad _ q refl
 
 -- one piece at a time --------------------------------------------------------------------------------------------------------------
 

@@ -1,4 +1,4 @@
 pub mod LooksUp
 pub mod Laws
 pub mod RefusalLaws
-pub mod Steps
+pub mod Halves

@@ -28,6 +28,10 @@ use Rattle.lookup.specs.Refusals.{tooFew, lookUpRefusal}
 use Rattle.lookup.specs.Others.{sized, located, locatorCall, sizeCall}
 use Rattle.lookup.specs.Values.{locatorValues, locatorNumbers, locatorAnswer, sizeValues, sizeNumbers, sizeAnswer}
 
+pub few-is : (s : List ℕ) (n m : ℕ) → (ltb n (length s) || ltb m (length s)) ≡ tooFew s n m
+unfolding tooFew
+few-is s n m = refl
+
 -- `r` is what the text's own refusal gave
 module _ (s : List ℕ) (at n m : ℕ) {r : ℕ} (q : r ≡ textRefusal s) where
   pub refused-text : (r ≡ 0 → ⊥) → r ≡ lookUpRefusal s at n m
@@ -49,16 +53,16 @@ module _ (s : List ℕ) (at n m : ℕ) {r : ℕ} (q : r ≡ textRefusal s) where
         unfolding lookUpRefusal
         refused-escaped t = rw (lt-ltb at (length s) h, eq-eqb _ _ e, sym d ∙ t) (accepted-after s q 4 z)
 
-        module _ (f : b ≡ false) where
-          pub refused-few : (ltb n (length s) || ltb m (length s)) ≡ true → 9 ≡ lookUpRefusal s at n m
-          unfolding lookUpRefusal tooFew
-          refused-few t = rw (lt-ltb at (length s) h, eq-eqb _ _ e, sym d ∙ f, t) (accepted-after s q 9 z)
+        module _ (f : b ≡ false) {w : Bool} (k : w ≡ tooFew s n m) where
+          pub refused-few : w ≡ true → 9 ≡ lookUpRefusal s at n m
+          unfolding lookUpRefusal
+          refused-few t = rw (lt-ltb at (length s) h, eq-eqb _ _ e, sym d ∙ f, sym k ∙ t) (accepted-after s q 9 z)
 
-          pub refused-not : (ltb n (length s) || ltb m (length s)) ≡ false → 0 ≡ lookUpRefusal s at n m
-          unfolding lookUpRefusal tooFew
-          refused-not t = rw (lt-ltb at (length s) h, eq-eqb _ _ e, sym d ∙ f, t) (accepted-after s q 0 z)
+          pub refused-not : w ≡ false → 0 ≡ lookUpRefusal s at n m
+          unfolding lookUpRefusal
+          refused-not t = rw (lt-ltb at (length s) h, eq-eqb _ _ e, sym d ∙ f, sym k ∙ t) (accepted-after s q 0 z)
 
-pub ruleset refusal-laws = (refused-text, refused-past, refused-other, refused-escaped, refused-few, refused-not)
+pub ruleset refusal-laws = (few-is, refused-text, refused-past, refused-other, refused-escaped, refused-few, refused-not)
 
 -- Where nothing refuses a look-up before its bracket is resolved: a build can be had, and an unescaped `[` stands at the place.
 pub record Unrefused (s : List ℕ) (at n m : ℕ) : Type 0 where
@@ -115,7 +119,9 @@ pub size-values : (s : List ℕ) {a : Size} → a ≡ sizeAnswer (sizeCall s) �
 unfolding sizeAnswer sizeCall sizeValues sizeNumbers
 size-values s e = rw e (go (eqb (textRefusal s) 0) refl)
   where
-    go : (t : Bool) → eqb (textRefusal s) 0 ≡ t → sizeValues (sizeAnswer (pick t (sized 0 (length s / 3)) (sized (textRefusal s) 0))) ≡ sizeNumbers (pick t (sized 0 (length s / 3)) (sized (textRefusal s) 0))
+    go : (t : Bool) → eqb (textRefusal s) 0 ≡ t
+        → sizeValues (sizeAnswer (pick t (sized 0 (length s / 3)) (sized (textRefusal s) 0)))
+        ≡ sizeNumbers (pick t (sized 0 (length s / 3)) (sized (textRefusal s) 0))
     go true q = refl
     go false q = rw q
 

@@ -10,11 +10,10 @@ use borrow.Author.Tests.{eq-eqb, eqb-true, eqb-false, ltb-true}
 use Rattle.base.proofs.Bools.{and-left, and-right, and-three}
 use Rattle.base.proofs.Lasts.{last-holds}
 use Rattle.base.proofs.Sames.{same-true}
-use Rattle.definition.specs.declared.Author.{Author}
+use Rattle.definition.specs.declared.AuthorYear.{AuthorYear}
 use Rattle.definition.specs.declared.Author.the-variants.{Missing}
-use Rattle.definition.specs.declared.Year.{Year}
 use Rattle.definition.specs.declared.Year.the-variants.{Missing as NoYear}
-use Rattle.definition.specs.Parts.{authorBytes, authorGiven, yearBytes}
+use Rattle.definition.specs.Parts.{authorGiven, yearBytes, Gives}
 use Rattle.definition.specs.Defs.{defAuthor, defYear}
 use Rattle.label.specs.Labels.{labelBy, labelText}
 use Rattle.label.specs.Areas.{fitted, fittedAt}
@@ -47,18 +46,19 @@ module _ (text pool groups items : List ℕ) (mode n k number : ℕ) where
   plain-area out p e = e ∙ ap (λ (l : List ℕ). fitted l out) (plain p)
 
   -- by what was found
-  module _ (d : Defined) (a : Author) (y : Year) {key : List ℕ} {b : Bool} (p : key ≡ keyIn text items k)
+  module _ (d : Defined) (v : AuthorYear) {key : List ℕ} {b : Bool} (p : key ≡ keyIn text items k)
       (q : definedAs text groups n pool d ≡ definitionIn text groups items n pool key)
-      (f : authorBytes text pool a ≡ defAuthor (definedAs text groups n pool d))
-      (g : yearBytes text pool y ≡ defYear (definedAs text groups n pool d)) (e : b ≡ suppressedIn items k) where
-    named : labelBy mode b number (authorGiven text pool a) (yearBytes text pool y) ≡ L
+      (g : Gives text pool v (defAuthor (definedAs text groups n pool d)) (defYear (definedAs text groups n pool d)))
+      (e : b ≡ suppressedIn items k) where
+    named : labelBy mode b number (authorGiven text pool (v .author)) (yearBytes text pool (v .year)) ≡ L
     unfolding labelText authorGiven
-    named = rw (f, g, q, e, p) refl
+    named = rw (g .author-bytes, g .year-bytes, q, e, p) refl
 
-    pub named-length : {r : ℕ} → r ≡ length (labelBy mode b number (authorGiven text pool a) (yearBytes text pool y)) → r ≡ length L
+    pub named-length : {r : ℕ} → r ≡ length (labelBy mode b number (authorGiven text pool (v .author)) (yearBytes text pool (v .year))) → r ≡ length L
     named-length h = h ∙ ap length named
 
-    pub named-area : (out : List ℕ) {o : List ℕ} → o ≡ fitted (labelBy mode b number (authorGiven text pool a) (yearBytes text pool y)) out → o ≡ fitted L out
+    pub named-area : (out : List ℕ) {o : List ℕ}
+        → o ≡ fitted (labelBy mode b number (authorGiven text pool (v .author)) (yearBytes text pool (v .year))) out → o ≡ fitted L out
     named-area out h = h ∙ ap (λ (l : List ℕ). fitted l out) named
 
 pub ruleset label-laws = (plain-length, plain-area, named-length, named-area)

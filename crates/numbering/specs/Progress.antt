@@ -19,7 +19,7 @@ pub record Alike (text items : List ℕ) (k number j : ℕ) : Type 0 where
   pub mark : suppressedIn items j ≡ suppressedIn items k
   pub key : keyIn text items j ≡ keyIn text items k
 
--- the most label bytes that fit
+-- the most label bytes that fit: no more than the area has, and than a pair can say
 abbrev pub roomOf : List ℕ → ℕ
 roomOf labels = min 65535 (length labels)
 

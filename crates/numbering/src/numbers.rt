@@ -93,8 +93,9 @@ fn label_in<'a>(
     }
     let key = records::key_in(text, items, k);
     let d = definition::defined::find(text, pool, groups, items, n, end, key);
-    let author = definition::defined::author_in(text, pool, groups, n, d);
-    let year = definition::defined::year_in(text, pool, groups, n, d);
+    let given = definition::defined::given_by(text, pool, groups, n, d);
+    let author = given.author;
+    let year = given.year;
     let suppressed = records::suppressed_in(items, k);
     label::write_label(text, pool, mode, suppressed, number, author, year, out)
 }

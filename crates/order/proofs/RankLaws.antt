@@ -17,8 +17,9 @@ use Rattle.pool.specs.Layout.{countOf, wellFormed, entryAt}
 use Rattle.pool.proofs.PoolLaws.{laid-out, count-bytes}
 use Rattle.definition.specs.declared.Author.{Author}
 use Rattle.definition.specs.declared.Author.the-variants.{InText, InPool, Missing}
-use Rattle.definition.specs.Parts.{authorBytes, authorGiven}
-use Rattle.definition.specs.Defs.{defAuthor}
+use Rattle.definition.specs.declared.AuthorYear.{AuthorYear}
+use Rattle.definition.specs.Parts.{authorBytes, authorGiven, Gives}
+use Rattle.definition.specs.Defs.{defAuthor, defYear}
 use Rattle.definition.specs.declared.defined.Defined.{Defined}
 use Rattle.definition.specs.declared.defined.Defined.the-variants.{Line, Entry as EntryOf, Nothing}
 use Rattle.records.specs.Records.{groupField, keyIn}
@@ -112,11 +113,15 @@ line-below pool n {d} {g} l h p = let k : g < n = rw p at h in omega arith
 pub ruleset key-laws = (line-there, line-below, entry-there, key-line, key-entry, key-nothing)
 
 -- what it is ordered by
-module _ (text pool groups items : List ℕ) (n i : ℕ) (d : Defined) (a : Author)
-    (q : d ≡ definitionAt pool n i) (g : authorBytes text pool a ≡ defAuthor (definedAs text groups n pool d)) where
+module _ (text pool groups items : List ℕ) (n i : ℕ) (d : Defined) (given : AuthorYear)
+    (q : d ≡ definitionAt pool n i)
+    (g : Gives text pool given (defAuthor (definedAs text groups n pool d)) (defYear (definedAs text groups n pool d))) where
+  abbrev a : Author
+  a = given .author
+
   rank-is : Option·getD (authorBytes text pool a) (keyBy text pool groups items d) ≡ rankBy text pool groups items n i
   unfolding rankBy
-  rank-is = rw (g, q) refl
+  rank-is = rw (g .author-bytes, q) refl
 
   pub rank-text : {v : Span} {r : List ℕ} → a ≡ InText v → r ≡ authorGiven text pool a → r ≡ rankBy text pool groups items n i
   unfolding authorGiven authorBytes

@@ -1,4 +1,4 @@
--- Theorems: a list in reference order.
+-- Document 01, Added by design: a list in reference order.
 use Prim.Native.Nat.{ℕ, _<_}
 use mathlib.Core.Path.{_≡_}
 use mathlib.Core.List.{List}

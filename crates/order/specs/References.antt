@@ -30,7 +30,7 @@ module _ (text pool groups items : List ℕ) (n m : ℕ) where
   unfoldable pub rankIn : ℕ → List ℕ
   rankIn k = authorOr (definitionIn text groups items n pool (sourceKeyIn text items m k)) (sourceKeyIn text items m k)
 
-  -- reference order over the ranks that the records give
+  -- the numbers of the sources in reference order
   unfoldable pub referencesIn : ℕ → ℕ → List ℕ
   referencesIn mode sources = referenceOrder mode rankIn sources
 

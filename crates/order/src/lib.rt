@@ -166,14 +166,14 @@ fn order_by_rank<'a>(
     groups: &[u16],
     items: &[u16],
     n: usize,
+    lines: usize,
     m: usize,
     sources: usize,
     references: &mut [u16],
 )
-    requires { ⌜ (n ≤ 32768) × (m < 4294967296) × (wellFormed (now pool) ≡ true) × (sources ≤ 65535) × (sources ≤ length (now references)) × SourcesKnown (now text) (now pool) (now groups) (now items) n m sources ⌝ }
+    requires { ⌜ (n ≤ 32768) × (m < 4294967296) × (wellFormed (now pool) ≡ true) × (sources ≤ 65535) × (sources ≤ length (now references)) × SourcesKnown (now text) (now pool) (now groups) (now items) n m sources × LinesBelow (now text) (now groups) (now items) n lines ⌝ }
     ensures { λ _. ⌜ now (references .exit) ≡ written (insertedFrom (rankIn (now (text .entry)) (now (pool .entry)) (now (groups .entry)) (now (items .entry)) n m) sources [] 1) (now (references .entry)) ⌝ }
 {
-    let lines = definition::lines::lines_end(text, groups, items, n);
     order_definitions(text, pool, groups, items, n, lines, m, sources, references);
     number_sources(text, pool, groups, items, n, m, sources, references);
 }
@@ -190,24 +190,26 @@ fn order_by_number(sources: usize, references: &mut [u16])
     }
 }
 
-// The numbers of the `sources` sources in reference order, at the front of `references`, from the records of `n` groups and `m` items.
+// The numbers of the `sources` sources in reference order, at the front of `references`, from the records of `n` groups, whose
+// definition lines lie below `lines`, and `m` items.
 pub fn order_references<'a>(
     text: &'a [u8],
     mode: u8,
     pool: &'a [u8],
     n: usize,
+    lines: usize,
     m: usize,
     sources: usize,
     items: &[u16],
     groups: &[u16],
     references: &mut [u16],
 )
-    requires { ⌜ (n ≤ 32768) × (m ≤ 65535) × (wellFormed (now pool) ≡ true) × (sources ≤ 65535) × (sources ≤ length (now references)) × SourcesKnown (now text) (now pool) (now groups) (now items) n m sources ⌝ }
+    requires { ⌜ (n ≤ 32768) × (m ≤ 65535) × (wellFormed (now pool) ≡ true) × (sources ≤ 65535) × (sources ≤ length (now references)) × SourcesKnown (now text) (now pool) (now groups) (now items) n m sources × LinesBelow (now text) (now groups) (now items) n lines ⌝ }
     ensures { λ _. ⌜ now (references .exit) ≡ written (referencesIn (now (text .entry)) (now (pool .entry)) (now (groups .entry)) (now (items .entry)) n m mode sources) (now (references .entry)) ⌝ }
 {
     if mode == 0 {
         order_by_number(sources, references);
         return;
     }
-    order_by_rank(text, pool, groups, items, n, m, sources, references);
+    order_by_rank(text, pool, groups, items, n, lines, m, sources, references);
 }

@@ -78,7 +78,8 @@ pub fn rank_by<'a>(
     ensures { λ r. ⌜ now r ≡ rankBy (now (text .entry)) (now (pool .entry)) (now (groups .entry)) (now (items .entry)) n i ⌝ }
 {
     let d = definition_at(pool, n, i);
-    let author = definition::defined::author_in(text, pool, groups, n, d);
+    let given = definition::defined::given_by(text, pool, groups, n, d);
+    let author = given.author;
     match author {
         Author::InText { part: _ } => definition::author_bytes(text, pool, author),
         Author::InPool { part: _ } => definition::author_bytes(text, pool, author),

@@ -3,7 +3,7 @@ use Prim.Native.Nat.{ℕ, _-_, _≤_, _<_}
 use native.Mathlib.Nat.{zero-add}
 use mathlib.Core.Path.{_≡_, refl, sym, _∙_, ap}
 use mathlib.Core.List.{List}
-use mathlib.Core.Bool.{Bool, true, false, _&&_, not, true≢false}
+use mathlib.Core.Bool.{Bool, true, false, not, true≢false}
 use lib.ListN.{length, getD, take}
 use lib.Dec.{eqb, leb, ltb, leb·suc-zero}
 use lib.Seq.{getD-take}
@@ -18,13 +18,14 @@ use Rattle.close.specs.declared.Close.the-variants.{At, Nothing}
 use Rattle.close.specs.Scan.{closeOf}
 use Rattle.close.proofs.Laws.{close-after, close-inside, close-byte, close-64, close-all}
 use Rattle.index.specs.Entries.{opensAt, entryFor, indexAt, indexOf}
-use Rattle.item.specs.Group.{goodItems, groupOf}
+use Rattle.item.specs.Group.{goodItems}
 use Rattle.index.specs.Built.{builtIndex}
-use Rattle.resolve.specs.Groups.{Found, NoGroup, groupAccepted, barred, judge, groupAt}
+use Rattle.resolve.specs.Groups.{NoGroup, judge, groupAt}
 use Rattle.resolve.specs.declared.Look.the-variants.{Nothing as LookNothing, Build}
 use Rattle.resolve.specs.Resolve.{asClose, storedClose, shortLook, settled, shortened, lookOf, closeAfter, closeAsRun, groupAsRun}
 use Rattle.index.proofs.Built.{take-built}
 use Rattle.resolve.specs.Facts.{BracketTrue}
+use Rattle.resolve.proofs.Judges.{judge-nothing, judge-bad}
 use Rattle.resolve.proofs.Runs.{settled-after}
 
 -- an unescaped `[` is in the text
@@ -39,22 +40,8 @@ believed s p c e = rw (lt-ltb p c (close-after s p c e), lt-ltb c (length s) (cl
 
 -- 0 is no place after a bracket
 zero-none : (s : List ℕ) (p : ℕ) → judge s p (asClose s p 0) ≡ NoGroup
-unfolding asClose judge
-zero-none s p = rw (leb·suc-zero p) refl
-
-judge-nothing : (s : List ℕ) (p : ℕ) → NoGroup ≡ judge s p Nothing
-unfolding judge
-judge-nothing s p = refl
-
--- a bad item: no group, whatever the close
-not-good : (s : List ℕ) (p c : ℕ) → goodItems s p c ≡ false → judge s p (At c) ≡ NoGroup
-unfolding judge groupAccepted
-not-good s p c e = go (barred s c) (goodItems s p c) e
-  where
-    go : (b g : Bool) → g ≡ false → pick (not b && g) (Found (groupOf s p c)) NoGroup ≡ NoGroup
-    go b true q = absurd (true≢false q)
-    go true false q = refl
-    go false false q = refl
+unfolding asClose
+zero-none s p = rw (leb·suc-zero p) (judge-nothing s p)
 
 -- what the index of the text has for a bracket gives what the unlimited scan gives
 by-entry : (s : List ℕ) (p : ℕ) (c : Close) → closeOf s p ≡ c → judge s p (asClose s p (entryFor s p c)) ≡ judge s p c
@@ -63,14 +50,8 @@ by-entry s p (At c) e = go (goodItems s p c) refl
   where
     go : (g : Bool) → goodItems s p c ≡ g → judge s p (asClose s p (pick g c 0)) ≡ judge s p (At c)
     go true q = ap (judge s p) (believed s p c e)
-    go false q = zero-none s p ∙ sym (not-good s p c q)
-by-entry s p Nothing e = go
-  where
-    nothing : NoGroup ≡ judge s p Nothing
-    nothing = judge-nothing s p
-
-    go : judge s p (asClose s p 0) ≡ judge s p Nothing
-    go = zero-none s p ∙ nothing
+    go false q = zero-none s p ∙ sym (judge-bad s p c q)
+by-entry s p Nothing e = zero-none s p ∙ sym (judge-nothing s p)
 
 by-index : (s : List ℕ) (p : ℕ) → opensAt s p ≡ true → judge s p (asClose s p (indexAt s p)) ≡ judge s p (closeOf s p)
 unfolding indexAt

@@ -17,14 +17,14 @@ use Rattle.close.proofs.Laws.{close-found, close-there}
 use Rattle.item.specs.declared.Judged.{Judged}
 use Rattle.item.specs.declared.Judged.the-variants.{Good, Bad}
 use Rattle.item.specs.Judge.{judgedOf}
-use Rattle.item.proofs.Judge.{good-all, good-count, bad-some}
-use Rattle.item.specs.Group.{goodItems, groupOf}
+use Rattle.item.specs.Group.{groupOf}
 use Rattle.resolve.specs.declared.Look.{Look}
 use Rattle.resolve.specs.declared.Look.the-variants.{At as LookAt, Nothing as LookNothing, Build}
 use Rattle.resolve.specs.declared.Matched.the-variants.{Group as MatchedGroup, Nothing as NotMatched}
-use Rattle.resolve.specs.Groups.{barred, groupAccepted, judge}
+use Rattle.resolve.specs.Groups.{barred, judge}
 use Rattle.resolve.specs.Resolve.{isBuilt, asClose, storedClose, shortLook, settled, shortened, lookOf, closeAfter}
 use Rattle.resolve.specs.Looks.{matched, Inside, LookInside}
+use Rattle.resolve.proofs.Judges.{judge-nothing, judge-barred, judge-good, judge-bad, good-all, good-count, bad-some}
 
 -- what an index has for a bracket --------------------------------------------------------------------------------------------------
 
@@ -105,8 +105,8 @@ barred-is s c e = rw e
 
 module _ (s : List ℕ) (p : ℕ) {d : Close} where
   pub match-none : d ≡ Nothing → NotMatched ≡ matched (judge s p d)
-  unfolding judge matched
-  match-none e = rw e
+  unfolding matched
+  match-none e = rw (e, judge-nothing s p)
 
   module _ {c : ℕ} (e : d ≡ At c) where
     pub at-after : Inside s p d → p < c
@@ -117,17 +117,17 @@ module _ (s : List ℕ) (p : ℕ) {d : Close} where
 
     module _ {b : Bool} (q : b ≡ barred s c) where
       pub match-barred : b ≡ true → NotMatched ≡ matched (judge s p d)
-      unfolding judge groupAccepted matched
-      match-barred t = rw (e, sym q ∙ t)
+      unfolding matched
+      match-barred t = rw (e, judge-barred s p c (sym q ∙ t))
 
       module _ {j : Judged} {n : ℕ} (f : b ≡ false) (g : j ≡ judgedOf s p c) where
         pub match-good : j ≡ Good n → MatchedGroup c n ≡ matched (judge s p d)
-        unfolding judge groupAccepted goodItems matched groupOf
-        match-good h = rw (e, sym q ∙ f, good-all s p c (sym g ∙ h), good-count s p c (sym g ∙ h))
+        unfolding matched groupOf
+        match-good h = rw (e, judge-good s p c (sym q ∙ f) (good-all s p c (sym g ∙ h)), good-count s p c (sym g ∙ h))
 
         pub match-bad : j ≡ Bad n → NotMatched ≡ matched (judge s p d)
-        unfolding judge groupAccepted goodItems matched
-        match-bad h = rw (e, sym q ∙ f, bad-some s p c (sym g ∙ h))
+        unfolding matched
+        match-bad h = rw (e, judge-bad s p c (bad-some s p c (sym g ∙ h)))
 
 pub ruleset match-laws = (barred-is, match-none, at-after, at-inside, match-barred, match-good, match-bad)
 

@@ -1,3 +1,4 @@
+pub mod Judges
 pub mod Laws
 pub mod Runs
 pub mod AtBracket

@@ -39,7 +39,7 @@ pub fn stored_close(text: &[u8], p: usize, index: &[u16]) -> Close
     if text.len() <= c {
         return Close::Nothing;
     }
-    if text[c] == 93 {
+    if text[c] == b']' {
         Close::At(c)
     } else {
         Close::Nothing
@@ -100,7 +100,7 @@ fn is_barred(text: &[u8], c: usize) -> bool
     ensures { λ r. ⌜ r ≡ barred (now (text .entry)) c ⌝ }
 {
     let b = byte_at(text, c + 1);
-    (b == 40) | (b == 91) | (b == 123)
+    (b == b'(') | (b == b'[') | (b == b'{')
 }
 
 // The group of the bracket at `p` with this close.

@@ -3,7 +3,7 @@ use Prim.Native.Nat.{ℕ, _+_, _-_, _*_, _≤_}
 use native.Mathlib.Omega.{arith}
 use mathlib.Core.Path.{_≡_, refl, sym, _∙_, ap}
 use mathlib.Core.List.{List, [], _∷_}
-use mathlib.Core.Bool.{Bool, true, false, _&&_, not, and-false, and-true}
+use mathlib.Core.Bool.{Bool, true, false, _&&_, not, and-false, and-true, true≢false}
 use lib.ListN.{length}
 use lib.Dec.{eqb, leb, ltb}
 use borrow.Author.Tests.{lt-ltb, le-ltb, leb-true, leb-false, ltb-true, ltb-false}
@@ -106,22 +106,24 @@ module _ (s : List ℕ) (p c n : ℕ) (h : GroupFrom s p c n) where
 
 pub ruleset only-laws = (only-good, only-bad, only-more)
 
-module _ (s : List ℕ) (p c : ℕ) where
-  module _ {b : Bool} (q : b ≡ startsLine s p) where
-    pub no-start : b ≡ false → false ≡ defines s (groupOf s p c)
-    unfolding defines groupOf
-    no-start f = rw (sym q ∙ f)
+module _ (s : List ℕ) (p c : ℕ) {b : Bool} (q : b ≡ (startsLine s p && colonAfter s c)) where
+  other : (x y z : Bool) → (x && z) ≡ false → false ≡ (x && y && z)
+  other true y z h = rw h (sym (and-false y))
+  other false y z h = refl
 
-    module _ {d : Bool} (t : b ≡ true) (z : d ≡ colonAfter s c) where
-      pub no-colon : d ≡ false → false ≡ defines s (groupOf s p c)
-      unfolding defines groupOf
-      no-colon f = rw (sym q ∙ t, sym z ∙ f) (sym (and-false (onlyKey (itemsOf s p c))))
+  same : (x y z : Bool) → (x && z) ≡ true → y ≡ (x && y && z)
+  same true y z h = rw h (sym (and-true y))
+  same false y z h = absurd (true≢false (sym h))
 
-      pub by-key : {r : Bool} → d ≡ true → r ≡ onlyKey (itemsOf s p c) → r ≡ defines s (groupOf s p c)
-      unfolding defines groupOf
-      by-key g k = k ∙ rw (sym q ∙ t, sym z ∙ g) (sym (and-true (onlyKey (itemsOf s p c))))
+  pub no-place : b ≡ false → false ≡ defines s (groupOf s p c)
+  unfolding defines groupOf
+  no-place f = other (startsLine s p) (onlyKey (itemsOf s p c)) (colonAfter s c) (sym q ∙ f)
 
-pub ruleset definition-laws = (no-start, no-colon, by-key)
+  pub by-key : {r : Bool} → b ≡ true → r ≡ onlyKey (itemsOf s p c) → r ≡ defines s (groupOf s p c)
+  unfolding defines groupOf
+  by-key t k = k ∙ same (startsLine s p) (onlyKey (itemsOf s p c)) (colonAfter s c) (sym q ∙ t)
+
+pub ruleset definition-laws = (no-place, by-key)
 
 at-most : (k a : ℕ) → leb a k ≡ not (ltb k a)
 at-most k a = go (leb a k) refl

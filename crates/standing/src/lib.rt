@@ -1,8 +1,7 @@
 // Where a group of the sweep stands: whether it is in a definition line,
 // and the standing that the sweep gives it.
 use definition_line::break_at;
-use definition_line::colon_after;
-use definition_line::starts_line;
+use definition_line::in_definition_place;
 use item::Parsed;
 use item::items_start;
 use item::parse_item;
@@ -34,12 +33,11 @@ fn is_definition(text: &[u8], at: usize, close: usize, count: usize) -> bool
     requires { ⌜ GroupFrom (now text) at close count ⌝ }
     ensures { λ r. ⌜ r ≡ defines (now (text .entry)) (groupOf (now (text .entry)) at close) ⌝ }
 {
-    if starts_line(text, at) {
-        if colon_after(text, close) {
-            return is_only_key(text, at, close, count);
-        }
+    if in_definition_place(text, at, close) {
+        is_only_key(text, at, close, count)
+    } else {
+        false
     }
-    false
 }
 
 // Whether that group stands in a definition line; the group before it ended at `from`, and `before` says whether that one does.

@@ -19,6 +19,7 @@ use Rattle.resolve.specs.declared.Matched.the-variants.{Group as MatchedGroup, 
 use Rattle.resolve.specs.Groups.{GroupAnswer, Found, NoGroup, judge}
 use Rattle.resolve.specs.Resolve.{lookOf, isBuild, closeAfter, closeAsRun, groupAsRun, wantsBuild}
 use Rattle.resolve.specs.Looks.{matched, Inside}
+use Rattle.resolve.proofs.Judges.{judge-nothing}
 use Rattle.resolve.proofs.Laws.{look-inside}
 use Rattle.resolve.proofs.Runs.{look-wants, look-close}
 use Rattle.sweep.specs.Sweep.{foundWith, wantsAt}
@@ -87,8 +88,8 @@ module _ (s : List ℕ) (note : ℕ) (index : List ℕ) (p : ℕ) where
       step-build z = sym (at-bracket true (ap isBuild z))
 
       pub step-none : l ≡ LookNothing → Next ≡ stepAt s note index p
-      unfolding judge closeAfter
-      step-none z = sym (judged (ap isBuild z) ∙ rw z)
+      unfolding closeAfter
+      step-none z = sym (judged (ap isBuild z) ∙ rw (z, judge-nothing s p))
 
       module _ {c : ℕ} {m : Matched} (z : l ≡ LookAt c) (j : m ≡ matched (judge s p (At c))) where
         by-match : stepAt s note index p ≡ sweepStep (judge s p (At c))

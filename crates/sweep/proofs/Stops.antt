@@ -9,29 +9,24 @@ use lib.Dec.{eqb, ltb}
 use borrow.Author.Tests.{ltb-true, ltb-false, le-ltb}
 use Rattle.base.specs.Pick.{pick}
 use Rattle.close.specs.declared.Close.{Close}
-use Rattle.close.specs.declared.Close.the-variants.{At, Nothing}
 use Rattle.index.specs.Entries.{opensAt}
 use Rattle.index.specs.Built.{builtIndex}
 use Rattle.resolve.specs.declared.Look.{Look}
 use Rattle.resolve.specs.declared.Look.the-variants.{At as LookAt, Nothing as LookNothing, Build}
-use Rattle.resolve.specs.Groups.{GroupAnswer, Found, NoGroup, groupAccepted, judge}
+use Rattle.resolve.specs.Groups.{GroupAnswer, Found, NoGroup, judge}
 use Rattle.item.specs.Group.{Group, groupOf}
 use Rattle.resolve.specs.Resolve.{storedClose, shortLook, settled, shortened, lookOf, isBuild, closeAfter, closeAsRun, groupAsRun, wantsBuild, noteAfter, indexAfter, recordsAfter}
 use Rattle.sweep.specs.Sweep.{Lent, swept, foundGroups, nextAt, lentAfter, foundRun, buildsAt, sweepRunIn, sweepRun, foundWith, wantsAt}
 use Rattle.sweep.specs.Stops.{Stop, stop, after, stopIn, stopFrom}
 use Rattle.sweep.specs.Facts.{goneOn, SweepInTwo}
 use Rattle.resolve.specs.Looks.{Inside}
+use Rattle.resolve.proofs.Judges.{judge-either}
 use Rattle.resolve.proofs.Runs.{settled-after, run-inside}
 
 -- a sweep goes on by a byte or more
 next-judged : (s : List ℕ) (p : ℕ) (c : Close) → Inside s p c → p < nextAt p (judge s p c)
-unfolding judge groupOf
-next-judged s p (At c) h = go (groupAccepted s p c)
-  where
-    go : (t : Bool) → p < nextAt p (pick t (Found (groupOf s p c)) NoGroup)
-    go true = let k = h .0 in omega arith
-    go false = omega arith
-next-judged s p Nothing h = omega arith
+unfolding groupOf
+next-judged s p d h = judge-either s p (λ (g : GroupAnswer). p < nextAt p g) d (λ c e k. let i = (rw e at h) .0 in omega arith) (omega arith)
 
 module _ (text : List ℕ) where
   pub next-more : (note : ℕ) (index : List ℕ) (at : ℕ) → at < nextAt at (foundWith text note index at)

@@ -12,13 +12,13 @@ use Rattle.base.specs.First.{first, firstOf}
 use Rattle.base.specs.Lists.{byteAt}
 use Rattle.base.proofs.Searches.{first-from, first-by, first-holds}
 use Rattle.close.specs.declared.Close.{Close}
-use Rattle.close.specs.declared.Close.the-variants.{At, Nothing}
 use Rattle.item.specs.Pieces.{itemsOf}
 use Rattle.index.specs.Entries.{opensAt}
 use Rattle.resolve.specs.Groups.{GroupAnswer, Found, NoGroup, groupAccepted, judge}
 use Rattle.item.specs.Group.{Group, groupOf}
 use Rattle.resolve.specs.Resolve.{closeAsRun, groupAsRun}
 use Rattle.resolve.specs.Looks.{Inside}
+use Rattle.resolve.proofs.Judges.{Judges, cites, no-close, follows, bad-item, judges}
 use Rattle.resolve.proofs.Runs.{run-inside}
 use Rattle.sweep.specs.declared.group_records.SweepState.{SweepState}
 use Rattle.sweep.specs.declared.Step.{Step}
@@ -112,13 +112,12 @@ module _ (text : List ℕ) (note : ℕ) (index : List ℕ) (at : ℕ) where
       go false NoGroup e = refl
 
   step-found : (close count : ℕ) → stepAt text note index at ≡ StepGroup close count → StepFound text note index at close count
-  unfolding stepAt foundWith groupAsRun judge groupOf
+  unfolding stepAt foundWith groupAsRun groupOf
   step-found close count = go (wantsAt text note at) refl
     where
-      good : (c : ℕ) → Inside text at (At c) → (t : Bool) → groupAccepted text at c ≡ t
-          → wantsAt text note at ≡ false → foundWith text note index at ≡ pick t (Found (groupOf text at c)) NoGroup
-          → sweepStep (pick t (Found (groupOf text at c)) NoGroup) ≡ StepGroup close count → StepFound text note index at close count
-      good c i true a w f e =
+      closed : {c : Close} {g : GroupAnswer} → Judges text at c g → Inside text at c → wantsAt text note at ≡ false
+          → foundWith text note index at ≡ g → sweepStep g ≡ StepGroup close count → StepFound text note index at close count
+      closed (cites c k) i w f e =
           let x : c ≡ close = cc in
           let y : length (itemsOf text at c) ≡ count = cc in
           record {
@@ -127,23 +126,19 @@ module _ (text : List ℕ) (note : ℕ) (index : List ℕ) (at : ℕ) where
             stands = record {
               after = omega (arith, i .0);
               inside = omega (arith, i .1);
-              good = ap (groupAccepted text at) (sym x) ∙ a;
+              good = ap (groupAccepted text at) (sym x) ∙ k .accepted;
               counts = sym y ∙ ap (λ (k : ℕ). length (itemsOf text at k)) x;
             };
           }
-      good c i false a w f e = let z : _≡_ {A = ℕ} 0 1 = cc in absurd (omega (arith, z))
-
-      closed : (c : Close) → closeAsRun text at note index ≡ c → Inside text at c
-          → wantsAt text note at ≡ false → foundWith text note index at ≡ judge text at c
-          → sweepStep (judge text at c) ≡ StepGroup close count → StepFound text note index at close count
-      closed (At c) q i w f e = good c i (groupAccepted text at c) refl w f e
-      closed Nothing q i w f e = let z : _≡_ {A = ℕ} 0 1 = cc in absurd (omega (arith, z))
+      closed no-close i w f e = let z : _≡_ {A = ℕ} 0 1 = cc in absurd (omega (arith, z))
+      closed (follows c b) i w f e = let z : _≡_ {A = ℕ} 0 1 = cc in absurd (omega (arith, z))
+      closed (bad-item c n b g j) i w f e = let z : _≡_ {A = ℕ} 0 1 = cc in absurd (omega (arith, z))
 
       opened : (o : Bool) → opensAt text at ≡ o → wantsAt text note at ≡ false
           → foundWith text note index at ≡ pick o (judge text at (closeAsRun text at note index)) NoGroup
           → sweepStep (pick o (judge text at (closeAsRun text at note index)) NoGroup) ≡ StepGroup close count
           → StepFound text note index at close count
-      opened true q w f e = closed (closeAsRun text at note index) refl (run-inside text at note index) w f e
+      opened true q w f e = closed (judges text at (closeAsRun text at note index)) (run-inside text at note index) w f e
       opened false q w f e = let z : _≡_ {A = ℕ} 0 1 = cc in absurd (omega (arith, z))
 
       go : (w : Bool) → wantsAt text note at ≡ w

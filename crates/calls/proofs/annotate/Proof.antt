@@ -28,7 +28,6 @@ use denote.Ref.{RefT}
 use denote.Slice.{sliceVal, MutSlice, ShrSlice, Room, finally, slice-vals, shr-slice-tells, mut-slice-tells}
 use denote.Signature.{plain}
 use denote.Steps.{owned, nothing, peeks, facts}
-use denote.Struct.Laws as LL
 use denote.Enum.Laws as EL
 use denote.Triple.Entry.{onEntry}
 use denote.Triple.Spec.{Meets, tripleOf}
@@ -52,11 +51,11 @@ use Rattle.index.proofs.brackets.build_when.Met as when-thm
 use Rattle.annotation.specs.declared.answer.Annotation.{Annotation}
 use Rattle.annotation.proofs.answer.Annotation as R
 use Rattle.annotation.proofs.answer.Annotation.Laws as R′
-use Rattle.annotation.specs.declared.preparation.Begun.{Begun}
-use Rattle.annotation.proofs.preparation.Begun as P
-use Rattle.annotation.proofs.preparation.Begun.Laws as P′
+use Rattle.annotation.specs.declared.preparation.Prepared.{Prepared}
+use Rattle.annotation.proofs.preparation.Prepared as P
+use Rattle.annotation.proofs.preparation.Prepared.Laws as P′
 use Rattle.annotation.specs.Content.{areas}
-use Rattle.annotation.specs.Halves.{BegunBy, Done, Continues, Finished}
+use Rattle.annotation.specs.Halves.{PreparedBy, preparedWants, Done, CanFinish, Finished}
 use Rattle.annotation.specs.Call.{AnnotateRan, annotateRun}
 use Rattle.annotation.proofs.BeginLaws.{wanted-enough}
 use Rattle.annotation.proofs.Answers.{ran-index, ran-records}
@@ -130,11 +129,11 @@ module _ {M : Type 1} (𝓤 : URA M) (H : Heap 𝓤) (A : Atoms 𝓤) (W : Given
   vals = (sv₀ ∷ [], (vint w8 mode ∷ [], (sv₁ ∷ [], (vint w8 note ∷ [], (sv₂ ∷ [], (sv₃ ∷ [], (sv₄ ∷ [], (sv₅ ∷ [], (sv₆ ∷ [], (sv₇ ∷ [], tt))))))))))
 
   -- the index and the records after the build, if one is wanted
-  abbrev is′ : Begun → List ℕ
-  is′ p = builtWhen (p .sweep .wants) ts is ys .0
+  abbrev is′ : Prepared → List ℕ
+  is′ p = builtWhen (preparedWants p) ts is ys .0
 
-  abbrev ys′ : Begun → List Bracket
-  ys′ p = builtWhen (p .sweep .wants) ts is ys .1
+  abbrev ys′ : Prepared → List Bracket
+  ys′ p = builtWhen (preparedWants p) ts is ys .1
 
   -- the call as run
   abbrev ran : AnnotateRan
@@ -143,7 +142,7 @@ module _ {M : Type 1} (𝓤 : URA M) (H : Heap 𝓤) (A : Atoms 𝓤) (W : Given
   abbrev Post : Val → SProp 𝓤
   Post = walkOf 𝓤 H A f.ended stayed (f.clauses 𝓤 H A mem run) .post (((κ₀, (κ₁, (κ₂, (κ₃, (κ₄, (κ₅, (κ₆, tt))))))), (q₀, (q₁, (q₂, (q₃, (q₄, (q₅, (q₆, tt))))))), tt, a, vals), tt)
 
-  exits : (v : Val) (p : Begun) (r : Annotation) (js₁ gs₁ js′ gs′ rs′ ls′ : List ℕ) → BegunBy ts mode ps note is (length ys) js gs p js₁ gs₁ → Done ran r js′ gs′ rs′ ls′
+  exits : (v : Val) (p : Prepared) (r : Annotation) (js₁ gs₁ js′ gs′ rs′ ls′ : List ℕ) → PreparedBy ts mode ps note is (length ys) js gs p js₁ gs₁ → Done ran r js′ gs′ rs′ ls′
       → mode < 2 ^ 8 → note < 2 ^ 8 → length (is′ p) ≡ length is → length (ys′ p) ≡ length ys → length js′ ≡ length js → length gs′ ≡ length gs → length rs′ ≡ length rs → length ls′ ≡ length ls
       → ent 𝓤 (⋆ 𝓤 H A (‵ (R.the-row .own r (v ∷ [])) ∷ ‵ (flft κ₀ q₀) ∷ ‵ (flft κ₁ q₁) ∷ ‵ (flft κ₂ q₂) ∷ ‵ (flft κ₃ q₃) ∷ ‵ (flft κ₄ q₄) ∷ ‵ (flft κ₅ q₅) ∷ ‵ (flft κ₆ q₆) ∷ ‵ (ShrSlice (named 0) κ₀ u8 .own text (sv₀ ∷ []))
       ∷ ‵ (ShrSlice (named 0) κ₀ u8 .own pool (sv₁ ∷ [])) ∷ ‵ (finally u16 γ₂ (is′ p)) ∷ ‵ (MutSlice (named 2) κ₂ T.the-row .own (at-list b₃ o₃ γ₃ (ys′ p)) (sv₃ ∷ [])) ∷ ‵ (finally u16 γ₄ js′) ∷ ‵ (finally u16 γ₅ gs′) ∷ ‵ (finally u16 γ₆ rs′) ∷ ‵ (finally u8 γ₇ ls′) ∷ [])) (Post v)
@@ -152,7 +151,7 @@ module _ {M : Type 1} (𝓤 : URA M) (H : Heap 𝓤) (A : Atoms 𝓤) (W : Given
       qed W (‵ (R.the-row .own r (v ∷ [])) ∷ ‵ (flft κ₀ q₀) ∷ ‵ (flft κ₁ q₁) ∷ ‵ (flft κ₂ q₂) ∷ ‵ (flft κ₃ q₃) ∷ ‵ (flft κ₄ q₄) ∷ ‵ (flft κ₅ q₅) ∷ ‵ (flft κ₆ q₆) ∷ ‵ (ShrSlice (named 0) κ₀ u8 .own text (sv₀ ∷ []))
       ∷ ‵ (ShrSlice (named 0) κ₀ u8 .own pool (sv₁ ∷ [])) ∷ ‵ (finally u16 γ₂ (is′ p)) ∷ ‵ (MutSlice (named 2) κ₂ T.the-row .own (at-list b₃ o₃ γ₃ (ys′ p)) (sv₃ ∷ [])) ∷ ‵ (finally u16 γ₄ js′) ∷ ‵ (finally u16 γ₅ gs′) ∷ ‵ (finally u16 γ₆ rs′) ∷ ‵ (finally u8 γ₇ ls′) ∷ []) ∵
       suffices ! _ (ends-at 𝓤 H A f.ended stayed (f.clauses 𝓤 H A mem run) W (((κ₀, (κ₁, (κ₂, (κ₃, (κ₄, (κ₅, (κ₆, tt))))))), (q₀, (q₁, (q₂, (q₃, (q₄, (q₅, (q₆, tt))))))), tt, a, vals), tt) v r (tt, (tt, (tt, (tt, ((is′ p), ((ys′ p), (js′, (gs′, (rs′, (ls′, tt)))))))))) (tt, (tt, (tt, (tt, (e₂, (e₃, (e₄, (e₅, (e₆, (e₇, tt))))))))))) $
-      says ! (d .values, sym (ran-index b ys rs ls refl), sym (ran-records b ys rs ls refl), d .item-area, d .group-area, d .reference-area, d .label-area, d .answer) $
+      says ! (d .values, sym (ran-index ts mode ps note is js gs ys rs ls p js₁ gs₁ b), sym (ran-records ts mode ps note is js gs ys rs ls p js₁ gs₁ b), d .item-area, d .group-area, d .reference-area, d .label-area, d .answer) $
       nothing ! $ move ! (8 ∷ 0 ∷ []) $ join ! $ move ! (7 ∷ 0 ∷ []) $ join ! $ move ! (6 ∷ 0 ∷ []) $ join ! $ move ! (5 ∷ 0 ∷ []) $ join ! $ move ! (4 ∷ 0 ∷ []) $ join ! $ move ! (3 ∷ 0 ∷ []) $ join ! $ move ! (2 ∷ 0 ∷ []) $ join ! $ frame ! $
       -- [answer; text; pool; index last; records; items last; groups last; references last; labels last]
       nothing ! $ move ! (9 ∷ 0 ∷ []) $ fjoin ! $ move ! (8 ∷ 0 ∷ []) $ fjoin ! $ move ! (7 ∷ 0 ∷ []) $ fjoin ! $ move ! (6 ∷ 0 ∷ []) $ fjoin ! $ move ! (5 ∷ 0 ∷ []) $ fjoin ! $ move ! (4 ∷ 0 ∷ []) $ fjoin ! $ owned ! u8 (Is u8) (uint-makes 𝓤 H A W w8) note (vint w8 note ∷ []) (refl, note-fits) $ fjoin ! $ move ! (3 ∷ 0 ∷ []) $ fjoin ! $ owned ! u8 (Is u8) (uint-makes 𝓤 H A W w8) mode (vint w8 mode ∷ []) (refl, mode-fits) $ fjoin ! $ move ! (2 ∷ 0 ∷ []) $ fjoin ! $ frame ! $ done !
@@ -178,23 +177,23 @@ module _ {M : Type 1} (𝓤 : URA M) (H : Heap 𝓤) (A : Atoms 𝓤) (W : Given
         assigns ! (agg ! (and-then ! (load ! (from ! {i = 20} (stop !)) (look ! 47 refl)) (and-then ! (load ! (from ! {i = 8} (fld ! refl (stop !))) (look-in ! 71 (sub ! 1 refl (whole !)))) (no-more !)))) (from ! {i = 21} (stop !)) (init ! 45 refl (tt, (tt, (record { fits = room₅ .0 }, tt)))) $
         move ! (8 ∷ []) $ copied ! u8 (named 0) κ₀ text $ owned ! u8 (Is u8) (uint-makes 𝓤 H A W w8) mode (vint w8 mode ∷ []) (refl, mode-fits) $ move ! (11 ∷ []) $ copied ! u8 (named 0) κ₀ pool $ owned ! u8 (Is u8) (uint-makes 𝓤 H A W w8) note (vint w8 note ∷ []) (refl, note-fits) $ move ! (9 ∷ 14 ∷ []) $ lent ! tt u16 b₂ o₂ (named 1) (named 2) is (λ ν₂ δ₂. owned ! usize (Is usize) (uint-makes 𝓤 H A W w64) (length ys) (vint w64 (length ys) ∷ []) (refl, n-fits) $ move ! (13 ∷ 17 ∷ []) $ lent ! tt u16 b₄ o₄ (named 3) (named 3) js (λ ν₄ δ₄. move ! (16 ∷ 19 ∷ []) $ lent ! tt u16 b₅ o₅ (named 4) (named 4) gs (λ ν₅ δ₅. move ! (18 ∷ []) $ use1 W (‵ (flft κ₀ (PosShare·left q₀)) ⊛ ‵ (flft κ₀ (PosShare·right q₀))) (W .lfts .lft-split κ₀ q₀) $ split ! $ nothing ! $ nothing ! $ move ! (2 ∷ 3 ∷ 11 ∷ 7 ∷ 4 ∷ 0 ∷ 18 ∷ 17 ∷ 15 ∷ 14 ∷ 12 ∷ 10 ∷ 8 ∷ 5 ∷ 1 ∷ []) $
         calls-fn W ! prepare.ended (prepare.clauses 𝓤 H A mem run) ((κ₀, (κ₀, (ν₂ ∷ [], (ν₄ ∷ [], (ν₅ ∷ [], tt))))), (PosShare·left q₀, (PosShare·right q₀, (fullShare, (fullShare, (fullShare, tt))))), tt, (text, (mode, (pool, (note, (at-list b₂ o₂ δ₂ is, ((length ys), (at-list b₄ o₄ δ₄ js, (at-list b₅ o₅ δ₅ gs, tt)))))))), (sv₀ ∷ [], (vint w8 mode ∷ [], (sv₁ ∷ [], (vint w8 note ∷ [], (sv₂ ∷ [], (vint w64 (length ys) ∷ [], (sv₄ ∷ [], (sv₅ ∷ [], tt))))))))) tt
-        (λ r zs. BegunBy ts mode ps note is (length ys) js gs r (zs .1 .1 .1 .1 .1 .1 .0) (zs .1 .1 .1 .1 .1 .1 .1 .0) × (zs .1 .1 .1 .1 .0 ≡ is))
+        (λ r zs. PreparedBy ts mode ps note is (length ys) js gs r (zs .1 .1 .1 .1 .1 .1 .0) (zs .1 .1 .1 .1 .1 .1 .1 .0) × (zs .1 .1 .1 .1 .0 ≡ is))
         (‵ (flft κ₀ (PosShare·left q₀)) ∷ ‵ (flft κ₀ (PosShare·right q₀)) ∷ ‵ (flft (ν₂ ∷ []) fullShare) ∷ ‵ (flft (ν₄ ∷ []) fullShare) ∷ ‵ (flft (ν₅ ∷ []) fullShare) ∷ ‵ ftrue ∷ [])
         (‵ (ShrSlice (named 0) κ₀ u8 .own text (sv₀ ∷ [])) ∷ ‵ (u8 .own mode (vint w8 mode ∷ [])) ∷ ‵ (ShrSlice (named 1) κ₀ u8 .own pool (sv₁ ∷ [])) ∷ ‵ (u8 .own note (vint w8 note ∷ [])) ∷ ‵ (MutSlice (named 2) (ν₂ ∷ []) u16 .own (at-list b₂ o₂ δ₂ is) (sv₂ ∷ [])) ∷ ‵ (usize .own (length ys) (vint w64 (length ys) ∷ [])) ∷ ‵ (MutSlice (named 3) (ν₄ ∷ []) u16 .own (at-list b₄ o₄ δ₄ js) (sv₄ ∷ [])) ∷ ‵ (MutSlice (named 4) (ν₅ ∷ []) u16 .own (at-list b₅ o₅ δ₅ gs) (sv₅ ∷ [])) ∷ ‵ ftrue ∷ [])
         (record { tokens = refl; owned = refl; required = id⊢ 𝓤 _; ensured = λ r zs. id⊢ 𝓤 _ }) fm (known .1) (and-then ! (load ! (from ! {i = 1} (stop !)) (look ! 81 refl)) (and-then ! (load ! (from ! {i = 2} (stop !)) (look ! 79 refl)) (and-then ! (load ! (from ! {i = 3} (stop !)) (look ! 77 refl)) (and-then ! (load ! (from ! {i = 4} (stop !)) (look ! 75 refl)) (and-then ! (load ! (from ! {i = 17} (stop !)) (look ! 49 refl)) (and-then ! (load ! (from ! {i = 11} (stop !)) (look ! 61 refl)) (and-then ! (load ! (from ! {i = 19} (stop !)) (look ! 45 refl)) (and-then ! (load ! (from ! {i = 21} (stop !)) (look ! 41 refl)) (no-more !))))))))) (λ v p zs₁ b. move ! (1 ∷ 2 ∷ []) $ use2 W (‵ (flft κ₀ q₀)) (W .lfts .lft-join κ₀ q₀) $ move ! (6 ∷ []) $ no-last ! $ no-last ! $ no-last ! $ no-last ! $ last-list ! u16 δ₂ (zs₁ .1 .1 .1 .1 .0) is (b .1) (λ _. no-last ! $ last-list ! u16 δ₄ (zs₁ .1 .1 .1 .1 .1 .1 .0) (zs₁ .1 .1 .1 .1 .1 .1 .0) refl (λ m₄. last-list ! u16 δ₅ (zs₁ .1 .1 .1 .1 .1 .1 .1 .0) (zs₁ .1 .1 .1 .1 .1 .1 .1 .0) refl (λ m₅. drop ! $ move ! (8 ∷ []) $ drop ! $ move ! (5 ∷ 2 ∷ 10 ∷ []) $ back ! tt u16 b₂ o₂ (named 1) is is room₂ refl $ move ! (6 ∷ 3 ∷ 9 ∷ []) $ back ! tt u16 b₄ o₄ (named 3) js (zs₁ .1 .1 .1 .1 .1 .1 .0) room₄ m₄ $ move ! (7 ∷ 4 ∷ 8 ∷ []) $ back ! tt u16 b₅ o₅ (named 4) gs (zs₁ .1 .1 .1 .1 .1 .1 .1 .0) room₅ m₅ $ move ! (7 ∷ []) $ facts ! P.the-row (Is P.the-row) (shows 𝓤 H A P.the-row) p (v ∷ []) (λ p-is.
         -- [κ₄; groups; κ₃; items; κ₁; index; κ₀; pool; text; κ₂; records; κ₅; κ₆; references; labels; _36; …]
-        land ! (from ! {i = 12} (stop !)) (init ! 63 refl (LL.lawful P.the-type P′.the-laws 𝓤 H A W .typed p _ p-is .0)) $
-        owned ! P.the-row (Is P.the-row) (LL.makes P.the-type P′.the-plain 𝓤 H A) p (v ∷ []) p-is $ nothing ! $ nothing ! $ move ! (0 ∷ 2 ∷ 1 ∷ []) $
+        land ! (from ! {i = 12} (stop !)) (init ! 63 refl (EL.lawful P.the-type P′.the-laws 𝓤 H A W tt .typed p _ p-is .0)) $
+        owned ! P.the-row (Is P.the-row) (EL.makes P.the-type P′.the-plain 𝓤 H A) p (v ∷ []) p-is $ nothing ! $ nothing ! $ move ! (0 ∷ 2 ∷ 1 ∷ []) $
         calls-row W ! wants.ended (wants.clauses 𝓤 H A mem run) (tt, tt, tt, (p, tt), (v ∷ [], tt)) tt
-        (λ r zs. r ≡ p .sweep .wants)
+        (λ r zs. r ≡ preparedWants p)
         (‵ ftrue ∷ [])
         (‵ (P.the-row .own p (v ∷ [])) ∷ ‵ ftrue ∷ [])
-        (record { tokens = refl; owned = refl; required = id⊢ 𝓤 _; ensured = λ r zs. id⊢ 𝓤 _ }) fm (known .2) (and-then ! (load ! (from ! {i = 12} (stop !)) (look ! 63 refl)) (no-more !)) vbool bool-tells (p .sweep .wants) (λ r zs e. e) (λ _ zs _. move ! (1 ∷ []) $ no-last ! $ drop ! $ drop ! $ land ! (from ! {i = 13} (stop !)) (init ! 61 refl (tt, tt)) $
+        (record { tokens = refl; owned = refl; required = id⊢ 𝓤 _; ensured = λ r zs. id⊢ 𝓤 _ }) fm (known .2) (and-then ! (load ! (from ! {i = 12} (stop !)) (look ! 63 refl)) (no-more !)) vbool bool-tells (preparedWants p) (λ r zs e. e) (λ _ zs _. move ! (1 ∷ []) $ no-last ! $ drop ! $ drop ! $ land ! (from ! {i = 13} (stop !)) (init ! 61 refl (tt, tt)) $
         assigns ! (addr ! (from ! {i = 5} (fld ! refl (hop ! (look-in ! 77 (sub ! 0 refl (whole !))) (stop !))))) (from ! {i = 23} (stop !)) (init ! 41 refl (tt, tt)) $
         assigns ! (agg ! (and-then ! (load ! (from ! {i = 23} (stop !)) (look ! 41 refl)) (and-then ! (load ! (from ! {i = 5} (fld ! refl (stop !))) (look-in ! 77 (sub ! 1 refl (whole !)))) (no-more !)))) (from ! {i = 24} (stop !)) (init ! 39 refl (tt, (tt, (record { fits = room₂ .0 }, tt)))) $
         assigns ! (addr ! (from ! {i = 6} (fld ! refl (hop ! (look-in ! 75 (sub ! 0 refl (whole !))) (stop !))))) (from ! {i = 25} (stop !)) (init ! 37 refl (tt, tt)) $
         assigns ! (agg ! (and-then ! (load ! (from ! {i = 25} (stop !)) (look ! 37 refl)) (and-then ! (load ! (from ! {i = 6} (fld ! refl (stop !))) (look-in ! 75 (sub ! 1 refl (whole !)))) (no-more !)))) (from ! {i = 26} (stop !)) (init ! 35 refl (tt, (tt, (record { fits = room₃ .0 }, tt)))) $
-        move ! (6 ∷ 8 ∷ 4 ∷ 5 ∷ 9 ∷ 10 ∷ []) $ builds-when ! mem run fm (known .3) (named 0) (named 1) (named 2) b₀ o₀ b₂ o₂ b₃ o₃ (p .sweep .wants) ts is ys room₂ room₃ (wanted-enough (b .0)) (and-then ! (load ! (from ! {i = 13} (stop !)) (look ! 55 refl)) (and-then ! (load ! (from ! {i = 1} (stop !)) (look ! 79 refl)) (and-then ! (load ! (from ! {i = 24} (stop !)) (look ! 33 refl)) (and-then ! (load ! (from ! {i = 26} (stop !)) (look ! 29 refl)) (no-more !))))) (λ e₂ e₃.
+        move ! (6 ∷ 8 ∷ 4 ∷ 5 ∷ 9 ∷ 10 ∷ []) $ builds-when ! mem run fm (known .3) (named 0) (named 1) (named 2) b₀ o₀ b₂ o₂ b₃ o₃ (preparedWants p) ts is ys room₂ room₃ (wanted-enough ts mode ps note is (length ys) js gs p _ _ (b .0)) (and-then ! (load ! (from ! {i = 13} (stop !)) (look ! 55 refl)) (and-then ! (load ! (from ! {i = 1} (stop !)) (look ! 79 refl)) (and-then ! (load ! (from ! {i = 24} (stop !)) (look ! 33 refl)) (and-then ! (load ! (from ! {i = 26} (stop !)) (look ! 29 refl)) (no-more !))))) (λ e₂ e₃.
         -- [κ₀; text; κ₁; index; κ₂; records; κ₄; groups; κ₃; items; pool; κ₅; κ₆; references; labels; _36; …]
         land ! (from ! {i = 22} (stop !)) (init ! 43 refl (tt, tt)) $
         assigns ! (addr ! (from ! {i = 5} (fld ! refl (hop ! (look-in ! 77 (sub ! 0 refl (whole !))) (stop !))))) (from ! {i = 27} (stop !)) (init ! 33 refl (tt, tt)) $
@@ -207,12 +206,12 @@ module _ {M : Type 1} (𝓤 : URA M) (H : Heap 𝓤) (A : Atoms 𝓤) (W : Given
         assigns ! (agg ! (and-then ! (load ! (from ! {i = 33} (stop !)) (look ! 21 refl)) (and-then ! (load ! (from ! {i = 9} (fld ! refl (stop !))) (look-in ! 69 (sub ! 1 refl (whole !)))) (no-more !)))) (from ! {i = 34} (stop !)) (init ! 19 refl (tt, (tt, (record { fits = room₆ .0 }, tt)))) $
         assigns ! (addr ! (from ! {i = 10} (fld ! refl (hop ! (look-in ! 67 (sub ! 0 refl (whole !))) (stop !))))) (from ! {i = 35} (stop !)) (init ! 17 refl (tt, tt)) $
         assigns ! (agg ! (and-then ! (load ! (from ! {i = 35} (stop !)) (look ! 17 refl)) (and-then ! (load ! (from ! {i = 10} (fld ! refl (stop !))) (look-in ! 67 (sub ! 1 refl (whole !)))) (no-more !)))) (from ! {i = 36} (stop !)) (init ! 15 refl (tt, (tt, (record { fits = room₇ .0 }, tt)))) $
-        move ! (1 ∷ []) $ copied ! u8 (named 0) κ₀ text $ owned ! u8 (Is u8) (uint-makes 𝓤 H A W w8) mode (vint w8 mode ∷ []) (refl, mode-fits) $ move ! (12 ∷ []) $ copied ! u8 (named 0) κ₀ pool $ owned ! u8 (Is u8) (uint-makes 𝓤 H A W w8) note (vint w8 note ∷ []) (refl, note-fits) $ owned ! P.the-row (Is P.the-row) (LL.makes P.the-type P′.the-plain 𝓤 H A) p (v ∷ []) p-is $ nothing ! $ nothing ! $ move ! (9 ∷ 10 ∷ 16 ∷ 14 ∷ 18 ∷ 19 ∷ 0 ∷ 7 ∷ 6 ∷ 4 ∷ 3 ∷ 2 ∷ 11 ∷ 17 ∷ 15 ∷ 20 ∷ 21 ∷ 1 ∷ []) $
+        move ! (1 ∷ []) $ copied ! u8 (named 0) κ₀ text $ owned ! u8 (Is u8) (uint-makes 𝓤 H A W w8) mode (vint w8 mode ∷ []) (refl, mode-fits) $ move ! (12 ∷ []) $ copied ! u8 (named 0) κ₀ pool $ owned ! u8 (Is u8) (uint-makes 𝓤 H A W w8) note (vint w8 note ∷ []) (refl, note-fits) $ owned ! P.the-row (Is P.the-row) (EL.makes P.the-type P′.the-plain 𝓤 H A) p (v ∷ []) p-is $ nothing ! $ nothing ! $ move ! (9 ∷ 10 ∷ 16 ∷ 14 ∷ 18 ∷ 19 ∷ 0 ∷ 7 ∷ 6 ∷ 4 ∷ 3 ∷ 2 ∷ 11 ∷ 17 ∷ 15 ∷ 20 ∷ 21 ∷ 1 ∷ []) $
         calls-fn W ! finish.ended (finish.clauses 𝓤 H A mem run) ((κ₀, (κ₁, (κ₃, (κ₄, (κ₅, (κ₆, tt)))))), (q₀, (q₁, (q₃, (q₄, (q₅, (q₆, tt)))))), tt, (text, (mode, (pool, (note, (p, (at-list b₂ o₂ γ₂ (is′ p), (at-list b₄ o₄ γ₄ (zs₁ .1 .1 .1 .1 .1 .1 .0), (at-list b₅ o₅ γ₅ (zs₁ .1 .1 .1 .1 .1 .1 .1 .0), (at-list b₆ o₆ γ₆ rs, (at-list b₇ o₇ γ₇ ls, tt)))))))))), (sv₀ ∷ [], (vint w8 mode ∷ [], (sv₁ ∷ [], (vint w8 note ∷ [], (v ∷ [], (sv₂ ∷ [], (sv₄ ∷ [], (sv₅ ∷ [], (sv₆ ∷ [], (sv₇ ∷ [], tt))))))))))) tt
         (λ r zs. Finished ts mode ps note p (is′ p) (zs₁ .1 .1 .1 .1 .1 .1 .0) (zs₁ .1 .1 .1 .1 .1 .1 .1 .0) rs ls r (zs .1 .1 .1 .1 .1 .1 .0) (zs .1 .1 .1 .1 .1 .1 .1 .0) (zs .1 .1 .1 .1 .1 .1 .1 .1 .0) (zs .1 .1 .1 .1 .1 .1 .1 .1 .1 .0) × (zs .1 .1 .1 .1 .1 .0 ≡ is′ p))
         (‵ (flft κ₀ q₀) ∷ ‵ (flft κ₁ q₁) ∷ ‵ (flft κ₃ q₃) ∷ ‵ (flft κ₄ q₄) ∷ ‵ (flft κ₅ q₅) ∷ ‵ (flft κ₆ q₆) ∷ ‵ ftrue ∷ [])
         (‵ (ShrSlice (named 0) κ₀ u8 .own text (sv₀ ∷ [])) ∷ ‵ (u8 .own mode (vint w8 mode ∷ [])) ∷ ‵ (ShrSlice (named 0) κ₀ u8 .own pool (sv₁ ∷ [])) ∷ ‵ (u8 .own note (vint w8 note ∷ [])) ∷ ‵ (P.the-row .own p (v ∷ [])) ∷ ‵ (MutSlice (named 1) κ₁ u16 .own (at-list b₂ o₂ γ₂ (is′ p)) (sv₂ ∷ [])) ∷ ‵ (MutSlice (named 2) κ₃ u16 .own (at-list b₄ o₄ γ₄ (zs₁ .1 .1 .1 .1 .1 .1 .0)) (sv₄ ∷ [])) ∷ ‵ (MutSlice (named 3) κ₄ u16 .own (at-list b₅ o₅ γ₅ (zs₁ .1 .1 .1 .1 .1 .1 .1 .0)) (sv₅ ∷ [])) ∷ ‵ (MutSlice (named 4) κ₅ u16 .own (at-list b₆ o₆ γ₆ rs) (sv₆ ∷ [])) ∷ ‵ (MutSlice (named 5) κ₆ u8 .own (at-list b₇ o₇ γ₇ ls) (sv₇ ∷ [])) ∷ ‵ ftrue ∷ [])
-        (record { tokens = refl; owned = refl; required = factI 𝓤 (Continues ts mode ps note p (is′ p) (zs₁ .1 .1 .1 .1 .1 .1 .0) (zs₁ .1 .1 .1 .1 .1 .1 .1 .0)) (emp 𝓤) (record { index₀ = is; lent = length ys; items₀ = js; groups₀ = gs; begun = b .0; built = refl }); ensured = λ r zs. id⊢ 𝓤 _ }) fm (known .4) (and-then ! (load ! (from ! {i = 1} (stop !)) (look ! 74 refl)) (and-then ! (load ! (from ! {i = 2} (stop !)) (look ! 72 refl)) (and-then ! (load ! (from ! {i = 3} (stop !)) (look ! 70 refl)) (and-then ! (load ! (from ! {i = 4} (stop !)) (look ! 68 refl)) (and-then ! (load ! (from ! {i = 12} (stop !)) (look ! 52 refl)) (and-then ! (load ! (from ! {i = 28} (stop !)) (look ! 20 refl)) (and-then ! (load ! (from ! {i = 30} (stop !)) (look ! 16 refl)) (and-then ! (load ! (from ! {i = 32} (stop !)) (look ! 12 refl)) (and-then ! (load ! (from ! {i = 34} (stop !)) (look ! 8 refl)) (and-then ! (load ! (from ! {i = 36} (stop !)) (look ! 4 refl)) (no-more !))))))))))) (λ u r zs₂ d. move ! (8 ∷ []) $ no-last ! $ no-last ! $ no-last ! $ no-last ! $ no-last ! $ last-list ! u16 γ₂ (zs₂ .1 .1 .1 .1 .1 .0) (is′ p) (d .1) (λ _. last-list ! u16 γ₄ (zs₂ .1 .1 .1 .1 .1 .1 .0) (zs₂ .1 .1 .1 .1 .1 .1 .0) refl (λ e₄. last-list ! u16 γ₅ (zs₂ .1 .1 .1 .1 .1 .1 .1 .0) (zs₂ .1 .1 .1 .1 .1 .1 .1 .0) refl (λ e₅. last-list ! u16 γ₆ (zs₂ .1 .1 .1 .1 .1 .1 .1 .1 .0) (zs₂ .1 .1 .1 .1 .1 .1 .1 .1 .0) refl (λ e₆. last-list ! u8 γ₇ (zs₂ .1 .1 .1 .1 .1 .1 .1 .1 .1 .0) (zs₂ .1 .1 .1 .1 .1 .1 .1 .1 .1 .0) refl (λ e₇. drop ! $ move ! (12 ∷ []) $ drop ! $ move ! (5 ∷ []) $ peeks ! R.the-row (Is R.the-row) (shows 𝓤 H A R.the-row) r (u ∷ []) (λ r-is.
+        (record { tokens = refl; owned = refl; required = factI 𝓤 (CanFinish ts mode ps note p (is′ p) (zs₁ .1 .1 .1 .1 .1 .1 .0) (zs₁ .1 .1 .1 .1 .1 .1 .1 .0)) (emp 𝓤) (record { index₀ = is; lent = length ys; items₀ = js; groups₀ = gs; prepared = b .0; built = refl }); ensured = λ r zs. id⊢ 𝓤 _ }) fm (known .4) (and-then ! (load ! (from ! {i = 1} (stop !)) (look ! 74 refl)) (and-then ! (load ! (from ! {i = 2} (stop !)) (look ! 72 refl)) (and-then ! (load ! (from ! {i = 3} (stop !)) (look ! 70 refl)) (and-then ! (load ! (from ! {i = 4} (stop !)) (look ! 68 refl)) (and-then ! (load ! (from ! {i = 12} (stop !)) (look ! 52 refl)) (and-then ! (load ! (from ! {i = 28} (stop !)) (look ! 20 refl)) (and-then ! (load ! (from ! {i = 30} (stop !)) (look ! 16 refl)) (and-then ! (load ! (from ! {i = 32} (stop !)) (look ! 12 refl)) (and-then ! (load ! (from ! {i = 34} (stop !)) (look ! 8 refl)) (and-then ! (load ! (from ! {i = 36} (stop !)) (look ! 4 refl)) (no-more !))))))))))) (λ u r zs₂ d. move ! (8 ∷ []) $ no-last ! $ no-last ! $ no-last ! $ no-last ! $ no-last ! $ last-list ! u16 γ₂ (zs₂ .1 .1 .1 .1 .1 .0) (is′ p) (d .1) (λ _. last-list ! u16 γ₄ (zs₂ .1 .1 .1 .1 .1 .1 .0) (zs₂ .1 .1 .1 .1 .1 .1 .0) refl (λ e₄. last-list ! u16 γ₅ (zs₂ .1 .1 .1 .1 .1 .1 .1 .0) (zs₂ .1 .1 .1 .1 .1 .1 .1 .0) refl (λ e₅. last-list ! u16 γ₆ (zs₂ .1 .1 .1 .1 .1 .1 .1 .1 .0) (zs₂ .1 .1 .1 .1 .1 .1 .1 .1 .0) refl (λ e₆. last-list ! u8 γ₇ (zs₂ .1 .1 .1 .1 .1 .1 .1 .1 .1 .0) (zs₂ .1 .1 .1 .1 .1 .1 .1 .1 .1 .0) refl (λ e₇. drop ! $ move ! (12 ∷ []) $ drop ! $ move ! (5 ∷ []) $ peeks ! R.the-row (Is R.the-row) (shows 𝓤 H A R.the-row) r (u ∷ []) (λ r-is.
         -- [answer; labels last; references last; groups last; items last; index last; κ₀; κ₁; κ₃; κ₄; κ₅; κ₆; pool; text; κ₂; records; _36; …]
         land ! (from ! {i = 0} (stop !)) (init ! 88 refl (EL.lawful R.the-type R′.the-laws 𝓤 H A W tt .typed r _ r-is .0)) $
         returns ! (look ! 88 refl) $ forget ! 16 refl $ forget ! 18 refl $ forget ! 20 refl $ forget ! 22 refl $ forget ! 24 refl $ forget ! 26 refl $ forget ! 28 refl $ forget ! 30 refl $ forget ! 32 refl $ forget ! 34 refl $ forget ! 36 refl $ forget ! 38 refl $ forget ! 40 refl $ forget ! 42 refl $ forget ! 44 refl $ forget ! 46 refl $ forget ! 48 refl $ forget ! 50 refl $ forget ! 52 refl $ forget ! 54 refl $ forget ! 56 refl $ forget ! 58 refl $ forget ! 60 refl $ forget ! 62 refl $ forget ! 64 refl $ forget ! 66 refl $ forget ! 68 refl $ forget ! 70 refl $ forget ! 72 refl $ forget ! 74 refl $ forget ! 76 refl $ forget ! 78 refl $ forget ! 80 refl $ forget ! 82 refl $ forget ! 84 refl $ forget ! 86 refl $ forget ! 88 refl $

@@ -55,8 +55,8 @@ use Rattle.lookup.proofs.LookUp.Laws as R′
 use Rattle.lookup.specs.declared.Prepared.{Prepared}
 use Rattle.lookup.proofs.Prepared as P
 use Rattle.lookup.proofs.Prepared.Laws as P′
-use Rattle.lookup.specs.Steps.{preparedOf, preparedWants, CanFinish, finishedOf, finishedItems}
-use Rattle.lookup.proofs.Steps.{can-finish, wanted-enough, finished-values, finished-items, ran-index, ran-records}
+use Rattle.lookup.specs.Halves.{preparedOf, preparedWants, CanFinish, finishedOf, finishedItems}
+use Rattle.lookup.proofs.Halves.{can-finish, wanted-enough, finished-answer, finished-values, finished-items, ran-index, ran-records}
 use Rattle.lookup.proofs.prepare as prepare
 use Rattle.lookup.proofs.prepare.Symbol as prepare-def
 use Rattle.lookup.proofs.prepare.Symbol.{name as #lookup·prepare}
@@ -141,7 +141,7 @@ module _ {M : Type 1} (𝓤 : URA M) (H : Heap 𝓤) (A : Atoms 𝓤) (W : Given
       qed W (‵ (R.the-row .own answer (v ∷ [])) ∷ ‵ (flft κ₀ q₀) ∷ ‵ (ShrSlice (named 0) κ₀ u8 .own text (sv₀ ∷ [])) ∷ ‵ (flft κ₁ q₁) ∷ ‵ (finally u16 γ₁ is′)
       ∷ ‵ (flft κ₂ q₂) ∷ ‵ (MutSlice (named 2) κ₂ T.the-row .own (at-list b₂ o₂ γ₂ ys′) (sv₂ ∷ [])) ∷ ‵ (flft κ₃ q₃) ∷ ‵ (finally u16 γ₃ js′) ∷ []) ∵
       suffices ! _ (ends-at 𝓤 H A f.ended stayed (f.clauses 𝓤 H A mem run) W (((κ₀, (κ₁, (κ₂, (κ₃, tt)))), (q₀, (q₁, (q₂, (q₃, tt)))), tt, a, vals), tt) v answer (tt, (tt, (tt, (is′, (ys′, (js′, tt)))))) (tt, (tt, (tt, (e₁, (e₂, (e₃, tt))))))) $
-      says ! (finished-values ts at note is ys js refl refl, ran-index ts at note is ys js refl refl, ran-records ts at note is ys js refl refl refl, finished-items ts at note is ys js refl refl) $
+      says ! (finished-values ts at note is ys js refl refl, ran-index ts at note is ys js refl refl, ran-records ts at note is ys js refl refl refl, finished-items ts at note is ys js refl refl, finished-answer ts at note is ys js refl refl) $
       nothing ! $ move ! (8 ∷ 0 ∷ []) $ join ! $ move ! (6 ∷ 0 ∷ []) $ join ! $ move ! (4 ∷ 0 ∷ []) $ join ! $ move ! (2 ∷ 0 ∷ []) $ join ! $ frame ! $
       -- [answer; text; index last; records; items last]
       nothing ! $ move ! (5 ∷ 0 ∷ []) $ fjoin ! $ move ! (4 ∷ 0 ∷ []) $ fjoin ! $ move ! (3 ∷ 0 ∷ []) $ fjoin ! $ owned ! u8 (Is u8) (uint-makes 𝓤 H A W w8) note (vint w8 note ∷ []) (refl, note-fits) $ fjoin ! $ owned ! usize (Is usize) (uint-makes 𝓤 H A W w64) at (vint w64 at ∷ []) (refl, at-fits) $ fjoin ! $ move ! (2 ∷ 0 ∷ []) $ fjoin ! $ frame ! $ done !

@@ -1,6 +1,6 @@
 -- `definition_line::attributes` meets its contract. Assumes nothing.
 use borrow.Author.Needs.{needs}
-use Rattle.definition_line.proofs.Laws.{brace-ge, attributes-laws}
+use Rattle.definition_line.proofs.Clips.{clip-laws}
 use Rattle.definition_line.proofs.attributes.Statement.{statement}
 use Rattle.definition_line.proofs.attributes.Tie as tie
 
@@ -8,15 +8,8 @@ pub attributes-spec : {M : Type 1} → statement M
 attributes-spec =
     tie.close
     (tie.spec
+    (λ c. search (clip-laws, needs))
     (λ c κs. search needs)
-    (λ c. search (attributes-laws, needs))
-    (λ c. search needs)
-    (λ c. search (attributes-laws, needs))
     (λ c κs. search needs)
-    (λ c. search (attributes-laws, needs))
-    (λ c. search needs)
-    (λ c. search (attributes-laws, needs))
-    (λ c. search needs)
-    (λ c. search needs)
-    (λ c. brace-ge _ _ _ _ (c .before .before .before .brace-or-break .ensures) (search) (search))
-    (λ c. search (attributes-laws, needs)))
+    (λ c. search (clip-laws, needs))
+    (λ c. search (clip-laws, needs)))

@@ -8,10 +8,11 @@ pub colon-after-spec : {M : Type 1} → statement M
 colon-after-spec =
     tie.close
     (tie.spec
-    (λ c. search needs)
-    (λ c. search needs)
-    (λ c. search needs)
-    (λ c. search needs)
-    (λ c. search needs)
-    (λ c. search line-laws)
-    (λ c. search line-laws))
+    (λ c. search (line-laws, needs))
+    (λ c. search (line-laws, needs))
+    (λ c. search (line-laws, needs))
+    (λ c. search (line-laws, needs))
+    (λ c. search (line-laws, needs))
+    (λ c. search (line-laws, needs))
+    (λ c. search (line-laws, needs))
+    (λ c. search (line-laws, needs)))

@@ -8,7 +8,8 @@ pub starts-line-spec : {M : Type 1} → statement M
 starts-line-spec =
     tie.close
     (tie.spec
-    (λ c. search needs)
-    (λ c. search needs)
-    (λ c. search line-laws)
-    (λ c. search line-laws))
+    (λ c. search (line-laws, needs))
+    (λ c. search (line-laws, needs))
+    (λ c. search (line-laws, needs))
+    (λ c. search (line-laws, needs))
+    (λ c. search (line-laws, needs)))

@@ -44,7 +44,7 @@ use Rattle.index.proofs.Bracket as T
 use Rattle.index.proofs.Lent.{at-list, lent, back}
 use Rattle.base.proofs.Calling.{calls-fn, calls-row-last, copied, last-list, no-last}
 use Rattle.lookup.specs.LookUps.{LookUpRan, lookUpRun}
-use Rattle.lookup.specs.Values.{lookUpValues, lookUpNumbers}
+use Rattle.lookup.specs.Values.{lookUpValues, lookUpNumbers, lookUpAnswer}
 use Rattle.lookup.proofs.LookUp as R
 use Rattle.lookup.proofs.LookUp.Laws as R′
 use Rattle.calls.proofs.look_up as called
@@ -187,7 +187,7 @@ module _ {M : Type 1} (𝓤 : URA M) (H : Heap 𝓤) (A : Atoms 𝓤) (W : Given
           -- [ν₃; items lent; what is kept of items; ν₂; records lent; what is kept of records; ν₁; index lent; what is kept of index; κ₀; κ₄; text; answer; the locals]
           move ! (11 ∷ []) $ copied ! u8 (named 0) κ₀ text $ owned ! usize (Is usize) (uint-makes 𝓤 H A W w64) at (vint w64 at ∷ []) (refl, at-fits) $ owned ! u8 (Is u8) (uint-makes 𝓤 H A W w8) note (vint w8 note ∷ []) (refl, note-fits) $ nothing ! $ nothing ! $ move ! (15 ∷ 12 ∷ 9 ∷ 6 ∷ 1 ∷ 4 ∷ 3 ∷ 2 ∷ 13 ∷ 10 ∷ 7 ∷ 0 ∷ []) $
           calls-fn W ! called.ended (called.clauses 𝓤 H A mem run) ((κ₀, (ν₁ ∷ [], (ν₂ ∷ [], (ν₃ ∷ [], tt)))), (q₀, (fullShare, (fullShare, (fullShare, tt)))), tt, (text, (at, (note, (at-list b₁ o₁ δ₁ is, (at-list b₂ o₂ δ₂ ys, (at-list b₃ o₃ δ₃ js, tt)))))), (sv₀ ∷ [], (vint w64 at ∷ [], (vint w8 note ∷ [], (sv₁ ∷ [], (sv₂ ∷ [], (sv₃ ∷ [], tt))))))) tt
-          (λ r zs. (lookUpValues r ≡ lookUpNumbers ran) × (zs .1 .1 .1 .0 ≡ ran .index) × (zs .1 .1 .1 .1 .0 ≡ ran .records) × (zs .1 .1 .1 .1 .1 .0 ≡ ran .answer .items))
+          (λ r zs. (lookUpValues r ≡ lookUpNumbers ran) × (zs .1 .1 .1 .0 ≡ ran .index) × (zs .1 .1 .1 .1 .0 ≡ ran .records) × (zs .1 .1 .1 .1 .1 .0 ≡ ran .answer .items) × (r ≡ lookUpAnswer ran))
           (‵ (flft κ₀ q₀) ∷ ‵ (flft (ν₁ ∷ []) fullShare) ∷ ‵ (flft (ν₂ ∷ []) fullShare) ∷ ‵ (flft (ν₃ ∷ []) fullShare) ∷ ‵ ftrue ∷ [])
           (‵ (ShrSlice (named 0) κ₀ u8 .own text (sv₀ ∷ [])) ∷ ‵ (usize .own at (vint w64 at ∷ [])) ∷ ‵ (u8 .own note (vint w8 note ∷ [])) ∷ ‵ (MutSlice (named 1) (ν₁ ∷ []) u16 .own (at-list b₁ o₁ δ₁ is) (sv₁ ∷ [])) ∷ ‵ (MutSlice (named 2) (ν₂ ∷ []) T.the-row .own (at-list b₂ o₂ δ₂ ys) (sv₂ ∷ [])) ∷ ‵ (MutSlice (named 3) (ν₃ ∷ []) u16 .own (at-list b₃ o₃ δ₃ js) (sv₃ ∷ [])) ∷ ‵ ftrue ∷ [])
           (record { tokens = refl; owned = refl; required = id⊢ 𝓤 _; ensured = λ r zs. id⊢ 𝓤 _ }) fm (known .1) (and-then ! (load ! (from ! {i = 1} (stop !)) (look ! 44 refl)) (and-then ! (load ! (from ! {i = 2} (stop !)) (look ! 42 refl)) (and-then ! (load ! (from ! {i = 3} (stop !)) (look ! 40 refl)) (and-then ! (load ! (from ! {i = 13} (stop !)) (look ! 20 refl)) (and-then ! (load ! (from ! {i = 15} (stop !)) (look ! 16 refl)) (and-then ! (load ! (from ! {i = 17} (stop !)) (look ! 12 refl)) (no-more !))))))) (λ u r zs e. move ! (6 ∷ []) $ no-last ! $ no-last ! $ no-last ! $ last-list ! u16 δ₁ (zs .1 .1 .1 .0) (ran .index) (e .1) (λ e₁. last-list ! T.the-row δ₂ (zs .1 .1 .1 .1 .0) (ran .records) (e .2) (λ e₂. last-list ! u16 δ₃ (zs .1 .1 .1 .1 .1 .0) (ran .answer .items) (e .3) (λ e₃. drop ! $ move ! (8 ∷ []) $ drop ! $

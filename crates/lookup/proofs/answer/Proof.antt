@@ -1,5 +1,5 @@
 -- `lookup::answer` meets its contract. Assumes nothing.
-use Rattle.lookup.proofs.Steps.{answer-laws}
+use Rattle.lookup.proofs.Halves.{answer-laws}
 use Rattle.lookup.proofs.Laws.{matched-writable}
 use borrow.Author.Needs.{needs}
 use Rattle.lookup.proofs.answer.Statement.{statement}

@@ -1,5 +1,5 @@
 -- `lookup::finish` meets its contract. Assumes nothing.
-use Rattle.lookup.proofs.Steps.{finish-laws}
+use Rattle.lookup.proofs.Halves.{finish-laws}
 use borrow.Author.Needs.{needs}
 use Rattle.lookup.proofs.finish.Statement.{statement}
 use Rattle.lookup.proofs.finish.Tie as tie

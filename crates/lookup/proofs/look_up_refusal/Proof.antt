@@ -14,6 +14,7 @@ look-up-refusal-spec =
     (λ c. search (refusal-laws, needs))
     (λ c. search (refusal-laws, needs))
     (λ c κs. search (refusal-laws, needs))
+    (λ c κs. search (refusal-laws, needs))
     (λ c. search (refusal-laws, needs))
     (λ c. search (refusal-laws, needs))
     (λ c. search (refusal-laws, needs)))

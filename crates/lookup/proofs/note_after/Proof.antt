@@ -1,5 +1,5 @@
 -- `lookup::note_after` meets its contract. Assumes nothing.
-use Rattle.lookup.proofs.Steps.{prepare-laws}
+use Rattle.lookup.proofs.Halves.{prepare-laws}
 use borrow.Author.Needs.{needs}
 use Rattle.lookup.proofs.note_after.Statement.{statement}
 use Rattle.lookup.proofs.note_after.Tie as tie

@@ -14,10 +14,10 @@ use Rattle.numbering.proofs.number_groups.Statement.{statement}
 use Rattle.numbering.proofs.number_groups.Tie as tie
 
 abbrev Inv-loop : tie.InvT-loop
-Inv-loop text mode pool n m items₀ groups₀ labels₀ s₀ lines g₀ items groups labels s g = (g ≤ n) × (length items ≡ length items₀) × (length groups ≡ length groups₀) × Advances (65535 * g) (λ t. numberFrom text mode pool n g t 0) s₀ s items₀ groups₀ labels₀ items groups labels × LinesBelow text groups items n lines × Labelled text mode pool n m s items groups labels
+Inv-loop text mode pool n lines m items₀ groups₀ labels₀ s₀ g₀ items groups labels s g = (g ≤ n) × (length items ≡ length items₀) × (length groups ≡ length groups₀) × Advances (65535 * g) (λ t. numberFrom text mode pool n g t 0) s₀ s items₀ groups₀ labels₀ items groups labels × LinesBelow text groups items n lines × Labelled text mode pool n m s items groups labels
 
 abbrev μ-loop : tie.MeasureT-loop
-μ-loop text mode pool n m items₀ groups₀ labels₀ s₀ lines g₀ items groups labels s g = n - g
+μ-loop text mode pool n lines m items₀ groups₀ labels₀ s₀ g₀ items groups labels s g = n - g
 
 pub number-groups-spec : {M : Type 1} → statement M
 number-groups-spec =
@@ -25,7 +25,6 @@ number-groups-spec =
     (tie.spec
     Inv-loop
     μ-loop
-    (λ c κs. search needs)
     (λ c. (omega arith, refl, refl, groups-start _ _ _ _ _ _ _ _ (search needs), search needs, labelled-start _ _ _ _ _ _ _ _ _ (search needs)))
     (λ c κs. (search needs, search needs, search needs, search needs, search needs, search needs, search needs))
     (λ c. search needs)
@@ -34,4 +33,4 @@ number-groups-spec =
     (λ c. search needs)
     (λ c. search needs)
     (λ c. search needs)
-    (λ c. groups-end _ _ _ _ _ (search needs) (search needs) (c .before .loop .inv .3)))
+    (λ c. (groups-end _ _ _ _ _ (search needs) (search needs) (c .before .loop .inv .3), search needs)))

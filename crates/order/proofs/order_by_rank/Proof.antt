@@ -10,6 +10,5 @@ order-by-rank-spec =
     (tie.spec
     (λ c κs. search needs)
     (λ c κs. search needs)
-    (λ c κs. search needs)
     (λ c. search needs)
     (λ c. search (definition-laws, needs)))

@@ -5,4 +5,12 @@ use Rattle.resolve.proofs.shorten.Statement.{statement}
 use Rattle.resolve.proofs.shorten.Tie as tie
 
 pub shorten-spec : {M : Type 1} → statement M
-shorten-spec = tie.close (tie.spec (λ c. search (look-laws, needs)) (λ c. search (look-laws, needs)) (λ c. search (look-laws, needs)) (λ c. search (look-laws, needs)) (λ c. search (look-laws, needs)) (λ c. search (look-laws, needs)))
+shorten-spec =
+    tie.close
+    (tie.spec
+    (λ c. search (look-laws, needs))
+    (λ c. search (look-laws, needs))
+    (λ c. search (look-laws, needs))
+    (λ c. search (look-laws, needs))
+    (λ c. search (look-laws, needs))
+    (λ c. search (look-laws, needs)))

@@ -10,7 +10,5 @@ is-definition-spec =
     (tie.spec
     (λ c κs. search needs)
     (λ c κs. search needs)
-    (λ c κs. search needs)
-    (λ c. search (definition-laws, needs))
     (λ c. search (definition-laws, needs))
     (λ c. search (definition-laws, needs)))

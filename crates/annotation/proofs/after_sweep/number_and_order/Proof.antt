@@ -1,5 +1,5 @@
 -- `annotation::after_sweep::number_and_order` meets its contract. Assumes nothing.
-use Rattle.annotation.proofs.OrderLaws.{sources-are, order-laws}
+use Rattle.annotation.proofs.OrderLaws.{sources-few, sources-are, order-laws}
 use borrow.Author.Needs.{needs}
 use Rattle.annotation.proofs.after_sweep.number_and_order.Statement.{statement}
 use Rattle.annotation.proofs.after_sweep.number_and_order.Tie as tie
@@ -10,13 +10,17 @@ number-groups-requires c κs = search (order-laws, needs)
 order-references-requires : tie.Need-order-references-requires
 order-references-requires c κs =
     let taken = c .before .before .before in
-    let numbered = taken .before .before .before .before .before .before .before .before in (
-      search needs,
-      search needs,
-      search needs,
+    let numbered = taken .before .before .before .before .before .before .before .before in
+    let numbers = numbered .number-groups .ensures in
+    let lines = numbered .before .before .before .before in
+    let pre = lines .before .before .before .before .before .before .before .before .before .pre in (
+      pre .0,
+      pre .1,
+      pre .2,
+      sources-few _ _ _ _ _ _ _ _ _ _ _ _ _ (numbers .0) (pre .4) (taken .if1 .taken),
       search (order-laws, needs),
-      search (order-laws, needs),
-      sources-are _ _ _ _ _ _ _ _ _ _ _ _ _ (numbered .number-groups .ensures) (search needs) (taken .if1 .taken),
+      sources-are _ _ _ _ _ _ _ _ _ _ _ _ _ (numbers .0) (pre .4) (taken .if1 .taken),
+      numbers .1,
     )
 
 returns : tie.Need-returns
@@ -29,6 +33,7 @@ pub number-and-order-spec : {M : Type 1} → statement M
 number-and-order-spec =
     tie.close
     (tie.spec
+    (λ c κs. search needs)
     number-groups-requires
     order-references-requires
     (λ c. search needs)

@@ -5,9 +5,6 @@ use borrow.Author.Needs.{needs}
 use Rattle.annotation.proofs.completion.finish.Statement.{statement}
 use Rattle.annotation.proofs.completion.finish.Tie as tie
 
-returns : tie.Need-returns
-returns c = search (finish-laws, needs)
-
 sweep-requires : tie.Need-sweep-requires
 sweep-requires c κs = search (finish-laws, needs)
 
@@ -16,13 +13,16 @@ number-and-order-requires c κs =
     let fits = c .before .before .before .before in
     let swept = fits .before .before .before .before .before in
     let noted = swept .before .before .before .before in
-    let passed = noted .before .before in
-    let pre = passed .before .before .before .before .before .before .before .before .pre in
-    let z = passed .if1 .left in
+    let ready = noted .before .before in
+    let pre = ready .before .before .before .before .before .before .before .before .before .pre in
+    let y = ready .p2 .given .1 in
     let t = swept .sweep .ensures in
     let q = noted .note-after .ensures in
-    let f = fits .if2 .taken in
-    (groups-short pre z t, items-short pre z t, goes-layout pre z, numbers-none pre z t q f, numbers-known pre z t q f)
+    let f = fits .if1 .taken in
+    (groups-short pre y t, items-short pre y t, goes-layout pre y, numbers-none pre y t q f, numbers-known pre y t q f)
+
+returns : tie.Need-returns
+returns c = search (finish-laws, needs)
 
 returns-2 : tie.Need-returns-2
 returns-2 c = search (finish-laws, needs)
@@ -34,7 +34,8 @@ pub finish-spec : {M : Type 1} → statement M
 finish-spec =
     tie.close
     (tie.spec
-    returns
+    (λ c. search needs)
+    (λ c. search needs)
     (λ c κs. search needs)
     sweep-requires
     number-and-order-requires
@@ -43,8 +44,9 @@ finish-spec =
     (λ c. search needs)
     (λ c. search needs)
     (λ c. search needs)
-    returns-2
+    returns
     (λ c κs. search needs)
+    returns-2
     (λ c. search needs)
     (λ c. search needs)
     (λ c. search needs)

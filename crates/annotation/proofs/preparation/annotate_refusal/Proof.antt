@@ -12,7 +12,7 @@ annotate-refusal-spec =
     (λ c. search (refusal-laws, needs))
     (λ c. search (refusal-laws, needs))
     (λ c κs. search (refusal-laws, needs))
-    (λ c. search (refusal-laws, needs))
+    (λ c κs. search (refusal-laws, needs))
     (λ c. search (refusal-laws, needs))
     (λ c. search (refusal-laws, needs))
     (λ c. search (refusal-laws, needs)))

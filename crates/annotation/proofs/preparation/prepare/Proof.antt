@@ -9,8 +9,8 @@ prepare-spec =
     tie.close
     (tie.spec
     (λ c κs. search (begin-laws, needs))
-    (λ c κs. search (begin-laws, needs))
     (λ c. search (begin-laws, needs))
+    (λ c κs. search (begin-laws, needs))
     (λ c κs. search (begin-laws, needs))
     (λ c. search (begin-laws, needs))
     (λ c. search (begin-laws, needs))

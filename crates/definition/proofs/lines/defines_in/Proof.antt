@@ -15,7 +15,5 @@ defines-in-spec =
     (λ c κs. search needs)
     (λ c κs. search needs)
     (λ c κs. search needs)
-    (λ c κs. search needs)
-    (λ c. search (define-laws, needs))
     (λ c. search (define-laws, needs))
     (λ c. search (define-laws, needs)))

@@ -1,4 +1,4 @@
--- Attributes of a line whose close, or whose next group, lies past the text.
+-- Attributes of a line whose close, or whose next group, lies past the text, and the needs of `attributes`.
 use Prim.Native.Nat.{ℕ, _+_, _-_, _≤_, _<_}
 use native.Mathlib.Omega.{arith}
 use mathlib.Core.Path.{_≡_, refl, sym, _∙_}
@@ -10,9 +10,12 @@ use borrow.Author.Tests.{lt-ltb, le-ltb, ltb-true, ltb-false, ne-eqb}
 use Rattle.base.specs.Pick.{pick}
 use Rattle.base.specs.First.{firstOf, firstOther}
 use Rattle.base.specs.Lists.{byteAt, isAt, part}
+use Rattle.base.specs.Spans.{span, bytesOf}
+use Rattle.base.specs.declared.Span.{Span}
 use Rattle.base.proofs.Searches.{first-from, first-by, first-beyond}
 use Rattle.base.proofs.Parts.{byte-past}
 use Rattle.definition_line.specs.Lines.{breakAt, braceAt, afterSpaces, bracedAt, attributesOf}
+use Rattle.definition_line.proofs.Laws.{part-none}
 
 past : (s : List ℕ) (b : ℕ) → 0 < b → (k : ℕ) → length s ≤ k → eqb (byteAt s k) b ≡ false
 past s b n k h = rw (← byte-past s k h) (ne-eqb 0 b (λ e. omega arith))
@@ -57,13 +60,13 @@ brace-past : (s : List ℕ) (a e : ℕ) → length s ≤ a → [] ≡ bracedAt s
 unfolding bracedAt
 brace-past s a e h = rw (le-ltb a (length s) h) refl
 
-pub attributes-past : (s : List ℕ) (close next : ℕ) → length s ≤ close → attributesOf s close next ≡ []
+attributes-past : (s : List ℕ) (close next : ℕ) → length s ≤ close → attributesOf s close next ≡ []
 unfolding attributesOf afterSpaces
 attributes-past s close next h =
     let a = firstOther 32 s (close + 2) (length s) in
     sym (brace-past s a (breakAt s a next) (omega (arith, first-from (λ i. not (eqb (byteAt s i) 32)) (length s - (close + 2)) (close + 2))))
 
-pub attributes-clip : (s : List ℕ) (close next : ℕ) → length s < next → attributesOf s close next ≡ attributesOf s close (length s)
+attributes-clip : (s : List ℕ) (close next : ℕ) → length s < next → attributesOf s close next ≡ attributesOf s close (length s)
 unfolding attributesOf
 attributes-clip s close next h = go (ltb a (length s)) refl
   where
@@ -75,3 +78,13 @@ attributes-clip s close next h = go (ltb a (length s)) refl
     go false q =
         let l = ltb-false a (length s) q in
         sym (brace-past s a (breakAt s a next) l) ∙ brace-past s a (breakAt s a (length s)) l
+
+-- what `attributes` needs
+pub clip-past : (s : List ℕ) (close next : ℕ) → length s ≤ close → bytesOf s (span 0 0) ≡ attributesOf s close next
+clip-past s close next h = part-none s ∙ sym (attributes-past s close next h)
+
+pub clip-end : (s : List ℕ) (close next : ℕ) (r : Span) → length s < next → bytesOf s r ≡ attributesOf s close (length s)
+    → bytesOf s r ≡ attributesOf s close next
+clip-end s close next r h e = e ∙ sym (attributes-clip s close next h)
+
+pub ruleset clip-laws = (clip-past, clip-end)

@@ -26,9 +26,9 @@ use Rattle.records.specs.ItemRecords.{recordsOf, recordsLength}
 use Rattle.resolve.specs.Resolve.{lookOf, isBuild, closeAfter, closeAsRun, wantsBuild, groupAsRun, noteAfter, indexAfter, recordsAfter}
 use Rattle.resolve.specs.Looks.{matched, Inside}
 use Rattle.lookup.specs.Refusals.{lookUpRefusal}
-use Rattle.lookup.specs.LookUps.{lookUpRefused, lookUpGives, lookUpAnswers, lookedUp, lookUpBuilds, ranWith, lookUpRun}
-use Rattle.lookup.specs.Values.{lookUpValues, lookUpNumbers}
-use Rattle.lookup.specs.Steps.{preparedOf, preparedWants, CanFinish, answered, finishedOf, finishedItems}
+use Rattle.lookup.specs.LookUps.{LookedUp, lookUpRefused, lookUpGives, lookUpAnswers, lookedUp, lookUpBuilds, ranWith, lookUpRun}
+use Rattle.lookup.specs.Values.{lookUpValues, lookUpNumbers, lookUpReturns, lookUpAnswer}
+use Rattle.lookup.specs.Halves.{preparedOf, preparedWants, CanFinish, finishedOf, finishedItems}
 use Rattle.lookup.proofs.Laws.{matched-none, matched-found, matched-count}
 use Rattle.resolve.proofs.Laws.{look-inside, after-inside}
 use Rattle.resolve.proofs.Runs.{look-wants, look-close}
@@ -68,8 +68,8 @@ pub ruleset prepare-laws = (prepare-refused, prepare-ready, wants-none, wants-lo
 
 -- the answer of a bracket: `m` is what the match gave
 module _ (s : List ℕ) (at note : ℕ) (d : Close) (items : List ℕ) {m : Matched} (q : m ≡ matched (judge s at d)) where
-  pub answer-none : m ≡ NotMatched → Refused 5 note ≡ answered (judge s at d) note items
-  unfolding answered
+  pub answer-none : m ≡ NotMatched → Refused 5 note ≡ lookUpReturns (lookUpAnswers (judge s at d) items) note
+  unfolding lookUpReturns lookUpAnswers lookUpRefused
   answer-none e = rw (matched-none s at d q e)
 
   pub items-none : m ≡ NotMatched → items ≡ lookUpAnswers (judge s at d) items .items
@@ -85,8 +85,8 @@ module _ (s : List ℕ) (at note : ℕ) (d : Close) (items : List ℕ) {m : Matc
       few : ltb (length items) (recordsLength (groupOf s at c)) ≡ true
       few = lt-ltb (length items) (recordsLength (groupOf s at c)) (omega (arith, width))
 
-      pub answer-few : Refused 10 note ≡ answered (judge s at d) note items
-      unfolding answered
+      pub answer-few : Refused 10 note ≡ lookUpReturns (lookUpAnswers (judge s at d) items) note
+      unfolding lookUpReturns lookUpAnswers lookUpRefused
       answer-few = rw (matched-found s at d q e, few)
 
       pub items-few : items ≡ lookUpAnswers (judge s at d) items .items
@@ -100,8 +100,8 @@ module _ (s : List ℕ) (at note : ℕ) (d : Close) (items : List ℕ) {m : Matc
       enough : ltb (length items) (recordsLength (groupOf s at c)) ≡ false
       enough = le-ltb (length items) (recordsLength (groupOf s at c)) (omega (arith, width, items-room))
 
-      pub answer-found : Accepted c n note ≡ answered (judge s at d) note items
-      unfolding answered groupOf
+      pub answer-found : Accepted c n note ≡ lookUpReturns (lookUpAnswers (judge s at d) items) note
+      unfolding lookUpReturns lookUpAnswers lookUpGives groupOf
       answer-found = rw (matched-found s at d q e, enough, matched-count s at d q e)
 
       pub items-found : {after : List ℕ} → after ≡ written (recordsOf (groupOf s at c)) items → after ≡ lookUpAnswers (judge s at d) items .items
@@ -131,8 +131,8 @@ module _ (s : List ℕ) (at note : ℕ) (index items : List ℕ) {p : Prepared} 
     ready-inside f g = rw g (after-inside s at index l ((rw e at f) .2))
 
     module _ {d : Close} (g : d ≡ closeAfter s at index l) where
-      pub finish-answer : {r : LookUp} {b : Bool} {n : ℕ} → b ≡ isBuild l → n ≡ noteAfter b note → r ≡ answered (judge s at d) n items
-          → r ≡ finishedOf s at note p index items
+      pub finish-answer : {r : LookUp} {b : Bool} {n : ℕ} → b ≡ isBuild l → n ≡ noteAfter b note
+          → r ≡ lookUpReturns (lookUpAnswers (judge s at d) items) n → r ≡ finishedOf s at note p index items
       unfolding finishedOf
       finish-answer b n o = o ∙ rw (e, ← g, ← b, n)
 
@@ -170,19 +170,48 @@ module _ (s : List ℕ) (at note : ℕ) (index : List ℕ) (m : ℕ) where
     wanted-enough =
         unrefused s at (length index) m (eqb-true _ 0 (and-left (eqb (lookUpRefusal s at (length index) m) 0) _ (sym prepared-builds ∙ w))) .enough
 
--- the answer's numbers, from what the bracket gives
+-- the numbers of an answer: of one that the bracket gives,
 answered-values : (g : GroupAnswer) (note : ℕ) (items : List ℕ)
-    → lookUpValues (answered g note items) ≡ lookUpAnswers g items .number ∷ lookUpAnswers g items .close ∷ lookUpAnswers g items .count ∷ note ∷ []
-unfolding answered lookUpValues lookUpAnswers lookUpRefused lookUpGives
+    → lookUpValues (lookUpReturns (lookUpAnswers g items) note)
+    ≡ lookUpAnswers g items .number ∷ lookUpAnswers g items .close ∷ lookUpAnswers g items .count ∷ note ∷ []
+unfolding lookUpReturns lookUpValues lookUpAnswers lookUpRefused lookUpGives
 answered-values (Found g) note items = go (ltb (length items) (recordsLength g))
   where
-    go : (t : Bool) → lookUpValues (pick t (Refused 10 note) (Accepted (g .close) (length (g .items)) note))
+    go : (t : Bool) → lookUpValues (lookUpReturns (pick t (lookUpRefused 10 items) (lookUpGives g items)) note)
         ≡ pick t (lookUpRefused 10 items) (lookUpGives g items) .number
         ∷ pick t (lookUpRefused 10 items) (lookUpGives g items) .close
         ∷ pick t (lookUpRefused 10 items) (lookUpGives g items) .count ∷ note ∷ []
     go true = refl
     go false = refl
 answered-values NoGroup note items = refl
+
+-- of a refusal before it,
+refused-values : (n note : ℕ) (items : List ℕ) → lookUpValues (lookUpReturns (lookUpRefused n items) note) ≡ n ∷ 0 ∷ 0 ∷ note ∷ []
+unfolding lookUpReturns lookUpValues lookUpRefused
+refused-values n note items = go (eqb n 0) refl
+  where
+    go : (t : Bool) → eqb n 0 ≡ t → lookUpValues (pick t (Accepted 0 0 note) (Refused n note)) ≡ n ∷ 0 ∷ 0 ∷ note ∷ []
+    go true z = rw (eqb-true n 0 z)
+    go false z = refl
+
+-- and of the call as run
+run-values : (s : List ℕ) (at note : ℕ) (index : List ℕ) (records : List Bracket) (items : List ℕ)
+    → lookUpValues (lookUpAnswer (lookUpRun s at note index records items)) ≡ lookUpNumbers (lookUpRun s at note index records items)
+unfolding lookUpAnswer lookUpRun ranWith lookedUp lookUpNumbers lookUpRefused
+run-values s at note index records items = go (eqb r 0)
+  where
+    r : ℕ
+    r = lookUpRefusal s at (length index) (length records)
+
+    n : ℕ
+    n = noteAfter (lookUpBuilds s at note (length index) (length records)) note
+
+    a : Bool → LookedUp
+    a t = pick t (lookUpAnswers (groupAsRun s at note index) items) (lookUpRefused r items)
+
+    go : (t : Bool) → lookUpValues (lookUpReturns (a t) n) ≡ a t .number ∷ a t .close ∷ a t .count ∷ n ∷ []
+    go true = answered-values (groupAsRun s at note index) n items
+    go false = refused-values r n items
 
 -- `w` is whether the index was built, and `after` what it is then
 module _ (s : List ℕ) (at note : ℕ) (index : List ℕ) (records : List Bracket) (items : List ℕ) {w : Bool} {after : List ℕ}
@@ -193,19 +222,20 @@ module _ (s : List ℕ) (at note : ℕ) (index : List ℕ) (records : List Brack
   abbrev P : Bool → Prepared
   P t = pick t (Ready (lookOf s at note index)) (NotReady r)
 
+  pub finished-answer
+      : finishedOf s at note (preparedOf s at note index (length records)) after items ≡ lookUpAnswer (lookUpRun s at note index records items)
+  unfolding preparedOf preparedWants finishedOf lookUpAnswer lookUpReturns lookUpRun ranWith lookedUp groupAsRun lookUpBuilds lookUpRefused noteAfter indexAfter
+  finished-answer = rw (e, q) (go (eqb (lookUpRefusal s at (length index) (length records)) 0) refl)
+    where
+      go : (t : Bool) → eqb r 0 ≡ t → finishedOf s at note (P t) (indexAfter (preparedWants (P t)) s index) items
+          ≡ lookUpReturns (pick t (lookUpAnswers (groupAsRun s at note index) items) (lookUpRefused r items)) (noteAfter (t && wantsBuild s at note) note)
+      go true z = rw (look-close s at note index, look-wants s at note index)
+      go false z = rw z
+
   pub finished-values
       : lookUpValues (finishedOf s at note (preparedOf s at note index (length records)) after items)
       ≡ lookUpNumbers (lookUpRun s at note index records items)
-  unfolding preparedOf preparedWants finishedOf lookUpRun ranWith lookedUp lookUpNumbers lookUpValues groupAsRun lookUpBuilds lookUpRefused noteAfter indexAfter
-  finished-values = rw (e, q) (go (eqb (lookUpRefusal s at (length index) (length records)) 0))
-    where
-      go : (t : Bool) → lookUpValues (finishedOf s at note (P t) (indexAfter (preparedWants (P t)) s index) items)
-          ≡ pick t (lookUpAnswers (groupAsRun s at note index) items) (lookUpRefused r items) .number
-          ∷ pick t (lookUpAnswers (groupAsRun s at note index) items) (lookUpRefused r items) .close
-          ∷ pick t (lookUpAnswers (groupAsRun s at note index) items) (lookUpRefused r items) .count
-          ∷ noteAfter (t && wantsBuild s at note) note ∷ []
-      go true = rw (look-close s at note index, look-wants s at note index) (answered-values (judge s at (closeAsRun s at note index)) (noteAfter (wantsBuild s at note) note) items)
-      go false = refl
+  finished-values = ap lookUpValues finished-answer ∙ run-values s at note index records items
 
   pub finished-items
       : finishedItems s at (preparedOf s at note index (length records)) after items ≡ lookUpRun s at note index records items .answer .items

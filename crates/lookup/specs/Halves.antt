@@ -3,18 +3,18 @@ use Prim.Native.Nat.{ℕ, _≤_, _<_}
 use mathlib.Core.List.{List}
 use mathlib.Core.Bool.{Bool, false}
 use lib.ListN.{length}
-use lib.Dec.{eqb, ltb}
+use lib.Dec.{eqb}
 use Rattle.base.specs.Pick.{pick}
 use Rattle.lookup.specs.declared.LookUp.{LookUp}
-use Rattle.lookup.specs.declared.LookUp.the-variants.{Accepted, Refused}
+use Rattle.lookup.specs.declared.LookUp.the-variants.{Refused}
 use Rattle.lookup.specs.declared.Prepared.{Prepared}
 use Rattle.lookup.specs.declared.Prepared.the-variants.{Refused as NotReady, Ready}
-use Rattle.resolve.specs.Groups.{GroupAnswer, Found, NoGroup, judge}
-use Rattle.records.specs.ItemRecords.{recordsLength}
+use Rattle.resolve.specs.Groups.{judge}
 use Rattle.resolve.specs.Resolve.{lookOf, isBuild, closeAfter, noteAfter}
 use Rattle.resolve.specs.Looks.{LookInside}
 use Rattle.lookup.specs.Refusals.{lookUpRefusal}
 use Rattle.lookup.specs.LookUps.{lookUpAnswers}
+use Rattle.lookup.specs.Values.{lookUpReturns}
 
 -- before the build: a refusal, or what the bracket gives; `m` bracket records are lent
 unfoldable pub preparedOf : List ℕ → ℕ → ℕ → List ℕ → ℕ → Prepared
@@ -31,15 +31,11 @@ abbrev pub CanFinish : List ℕ → ℕ → Prepared → Type 0
 CanFinish s at (NotReady number) = Unit {0}
 CanFinish s at (Ready l) = (length s ≤ 65535) × (at < length s) × LookInside s at l
 
--- the answer from what the bracket gives: 5, 10, or accepted
-unfoldable pub answered : GroupAnswer → ℕ → List ℕ → LookUp
-answered (Found g) note items = pick (ltb (length items) (recordsLength g)) (Refused 10 note) (Accepted (g .close) (length (g .items)) note)
-answered NoGroup note items = Refused 5 note
-
 -- after the build: the answer, the index being as it is then
 unfoldable pub finishedOf : List ℕ → ℕ → ℕ → Prepared → List ℕ → List ℕ → LookUp
 finishedOf s at note (NotReady number) index items = Refused number note
-finishedOf s at note (Ready l) index items = answered (judge s at (closeAfter s at index l)) (noteAfter (isBuild l) note) items
+finishedOf s at note (Ready l) index items =
+    lookUpReturns (lookUpAnswers (judge s at (closeAfter s at index l)) items) (noteAfter (isBuild l) note)
 
 -- and the item area
 unfoldable pub finishedItems : List ℕ → ℕ → Prepared → List ℕ → List ℕ → List ℕ
