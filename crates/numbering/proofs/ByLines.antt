@@ -42,7 +42,7 @@ unfolding keyIn
 key-same text items others k h = rw (h k 2 (omega arith), h k 3 (omega arith))
 
 bare-same : (items others : List ℕ) (k : ℕ) → SameItems items others → bareIn items k ≡ bareIn others k
-unfolding bareIn
+unfolding bareIn suppressedIn
 bare-same items others k h = rw (h k 1 (omega arith), h k 5 (omega arith), h k 11 (omega arith))
 
 close-same : (groups others : List ℕ) (g : ℕ) → SameGroups groups others → closeOfRecord groups g ≡ closeOfRecord others g
