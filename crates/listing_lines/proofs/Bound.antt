@@ -102,9 +102,9 @@ groups-short (p ∷ ps) text n rest items =
 
 -- keys -------------------------------------------------------------------------------------------------------------------------------
 
-key-there : (b : Bool) (it : Item) (more rest : List ℕ) → getD ((unnumberedRecord b it ++ more) ++ rest) 3 0 ≡ it .key .len
+key-there : (it : Item) (more rest : List ℕ) → getD ((unnumberedRecord it ++ more) ++ rest) 3 0 ≡ it .key .len
 unfolding unnumberedRecord itemRecord
-key-there b it more rest = refl
+key-there it more rest = refl
 
 record-sum : (is : List Item) (before rest : List ℕ) (n : ℕ) → length before ≡ itemWidth * n
     → keySum (before ++ (recordsIn is ++ rest)) n (length is) + 2 * length is ≡ weight keyWeight is
