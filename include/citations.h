@@ -51,7 +51,7 @@
  * THE INPUT. A byte is escaped where an odd run of backslashes stands just before it. White space is the 25 code points White_Space of
  * Unicode. What is found are the text's own bytes, backslashes too.
  *   - A group begins at an unescaped `[`. Its close is the `]` that leaves no bracket open; on the way there a backslash passes over the next
- *     byte. Right after the close stands no `(`, `[` or `{`, and all its items are good. A `+` right after the `[` makes them integral.
+ *     byte. Right after the close stands no `(`, `[` or `{`, and all its items are good. A `+` right after the `[` is passed over.
  *   - Every `;` splits a group into items, an escaped one and one in an inner bracket too.
  *   - An item, its prefix and its locator lose white space at both ends. An item is a prefix or none, `@` and a key, then its end, or a comma
  *     and a locator (`[@a,]` has none). The first unescaped `@` that fits counts; an item with none is not good. An unescaped `-` just before
@@ -92,7 +92,7 @@ extern "C" {
  *
  * with the object's N. Then compile it again with the archive's own header (or link the archive, where it was left out).
  */
-#define CITATIONS_VERSION 1
+#define CITATIONS_VERSION 2
 
 #define CITATIONS_JOINED(name, version) name##version
 #define CITATIONS_VERSIONED(name, version) CITATIONS_JOINED(name, version)
@@ -183,7 +183,7 @@ enum citations_item_field {
     CITATIONS_ITEM_VALUE = 6,       /* pair: the locator's value */
     CITATIONS_ITEM_SUFFIX = 8,      /* pair: the rest of the locator */
     CITATIONS_ITEM_LABEL_CODE = 10, /* the locator's label, an enum citations_label_code */
-    CITATIONS_ITEM_MARKS = 11,      /* a sum of enum citations_marks */
+    CITATIONS_ITEM_MARKS = 11,      /* 0, or an enum citations_marks */
     /* The last four are 0 after a look-up, and in a group that is not numbered. */
     CITATIONS_ITEM_NUMBER = 12,     /* the source's number, from 1 */
     CITATIONS_ITEM_USE = 13,        /* which use of its source this is, from 1; 0 where there is no pool */
@@ -193,8 +193,7 @@ enum citations_item_field {
 };
 
 enum citations_marks {
-    CITATIONS_SUPPRESSED = 1, /* `-@key`: the label leaves the author out */
-    CITATIONS_INTEGRAL = 2    /* the group begins with `+`: all its items are integral */
+    CITATIONS_SUPPRESSED = 1 /* `-@key`: the label leaves the author out */
 };
 
 /* A group record: CITATIONS_GROUP_RECORD elements of `groups`. */

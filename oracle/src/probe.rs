@@ -131,7 +131,7 @@ fn record(text: &str, from: usize, to: usize, it: &Citation) -> Record {
     put(&mut numbers, KEY, pair(text, at + 1, &it.key));
     locate(text, it, &mut numbers);
     numbers[CODE] = code(it.locator_label.as_deref());
-    numbers[MARKS] = usize::from(it.suppress_author) + 2 * usize::from(it.mode == Some(CitationItemMode::Integral));
+    numbers[MARKS] = usize::from(it.suppress_author);
     numbers
 }
 
@@ -185,15 +185,16 @@ pub fn group(text: &str, at: usize, ctx: &MatcherContext<'_>) -> Option<Found> {
     Some(Found { at, close, items, node })
 }
 
-// The items' records: `match_citation` takes a first `+` off and splits at every `;`.
+// The items' records: `match_citation` takes a first `+` off and splits at every `;`. An item's `mode` is read for one thing, the assertion
+// that it took the `+` off where this does; it is in no record, and nothing is compared by it (document 02, W10).
 fn records(text: &str, at: usize, close: usize, items: &[Citation]) -> Vec<Record> {
-    let integral = text.as_bytes()[at + 1] == b'+';
-    let mut from = at + 1 + usize::from(integral);
+    let plus = text.as_bytes()[at + 1] == b'+';
+    let mut from = at + 1 + usize::from(plus);
     let mut out = Vec::with_capacity(items.len());
     let mut rest = items.iter();
     for part in text[from..close].split(';') {
         let it = rest.next().expect("an item for each part");
-        assert_eq!(it.mode.is_some(), integral);
+        assert_eq!(it.mode.is_some(), plus);
         out.push(record(text, from, from + part.len(), it));
         from += part.len() + 1;
     }

@@ -320,7 +320,7 @@ static void annotated(void)
     SAME(CITATIONS_IN_DEFINITION, groups[3 * CITATIONS_GROUP_RECORD + CITATIONS_GROUP_STANDING]);
 }
 
-/* The marks, each alone, and a number that is not the marks beside it. */
+/* The mark, no mark where the group begins with `+`, and a number that is not the marks beside it. */
 static void number_and_marks(void)
 {
     put_text("[@a] [@b] [+@b] [-@b]\n[@a]: Ant.\n[@b]: Bee.\n");
@@ -329,7 +329,7 @@ static void number_and_marks(void)
     annotate(CITATIONS_BY_NUMBER);
     expect(items[3 * CITATIONS_ITEM_RECORD + CITATIONS_ITEM_NUMBER] == 2, "CITATIONS_ITEM_NUMBER");
     expect(items[CITATIONS_ITEM_RECORD + CITATIONS_ITEM_MARKS] == 0, "CITATIONS_ITEM_MARKS");
-    SAME(CITATIONS_INTEGRAL, items[2 * CITATIONS_ITEM_RECORD + CITATIONS_ITEM_MARKS]);
+    expect(items[2 * CITATIONS_ITEM_RECORD + CITATIONS_ITEM_MARKS] == 0, "CITATIONS_ITEM_MARKS");
     SAME(CITATIONS_SUPPRESSED, items[3 * CITATIONS_ITEM_RECORD + CITATIONS_ITEM_MARKS]);
 }
 

@@ -147,7 +147,7 @@ mod ample {
 
 extern "C" {
     // CITATIONS_VERSION of the header that this file follows; the archive has the name of its own version alone.
-    fn citations_version_1() -> u32;
+    fn citations_version_2() -> u32;
     fn citations_look_up(
         text: *const u8,
         text_length: usize,
@@ -199,13 +199,13 @@ extern "C" {
 
 // The reference by which a binary and an archive of two versions do not link.
 #[used]
-static VERSION_NEEDED: unsafe extern "C" fn() -> u32 = citations_version_1;
+static VERSION_NEEDED: unsafe extern "C" fn() -> u32 = citations_version_2;
 
 /// The version of the library's calls and of their records, answers and numbers: `CITATIONS_VERSION` of include/citations.h. What is built with
 /// this crate links with an archive of this version alone.
 pub fn version() -> u32 {
     // SAFETY: it takes nothing and answers its number.
-    unsafe { citations_version_1() }
+    unsafe { citations_version_2() }
 }
 
 /// The group at the bracket at `at`. With an `answer` shorter than [`LOOK_UP`] nothing is done.

@@ -21,7 +21,6 @@ const USE: usize = 13;
 const LABEL: usize = 14;
 
 const SUPPRESSED: u16 = 1;
-const INTEGRAL: u16 = 2;
 
 // Where the fields of a group record begin.
 const GROUP: usize = 0;
@@ -214,11 +213,6 @@ impl<'a> ItemRecord<'a> {
         self.0[MARKS] & SUPPRESSED != 0
     }
 
-    /// Whether the item is integral: its group begins with `+`.
-    pub fn integral(self) -> bool {
-        self.0[MARKS] & INTEGRAL != 0
-    }
-
     /// The number of the item's source, from 1; none where it is not numbered or was only looked up.
     pub fn number(self) -> Option<u16> {
         (self.0[NUMBER] != 0).then_some(self.0[NUMBER])
@@ -250,7 +244,6 @@ impl fmt::Debug for ItemRecord<'_> {
             .field("locator_span", &self.locator_span())
             .field("locator", &self.locator())
             .field("suppressed", &self.suppressed())
-            .field("integral", &self.integral())
             .field("number", &self.number())
             .field("use_index", &self.use_index())
             .field("label", &self.label())

@@ -209,7 +209,7 @@ fn a_pool_defines_keys_and_counts_uses() {
     assert_eq!(labels, [Some(&b"The Bee n.d."[..]), Some(b"-44"), None, Some(b"Ant -44")]);
     assert_eq!(annotated.references(), [2, 1]);
     let last = annotated.items().last().unwrap();
-    assert!(last.integral() && matches!(last.locator(), Locator::Plain { .. }));
+    assert!(!last.suppressed() && last.prefix().is_none() && matches!(last.locator(), Locator::Plain { .. }));
 }
 
 // A source text is at most three bytes longer than its pool, and that one is the longest.

@@ -1,10 +1,10 @@
-//! Document 01's examples, its refusals and its listing, through the lent calls.
+//! Document 01's examples, its refusals and its listing, and the leading `+` of document 02, W10, through the lent calls.
 
 mod common;
 
 use citations::{
-    group_records, item_records, locator, size, source_text, Bracket, Locator, LocatorLabel, Refusal, Refused, Span, Standing, BUILT,
-    NOT_BUILT,
+    group_records, item_records, locator, look_up, size, source_text, Bracket, Locator, LocatorLabel, Refusal, Refused, Span, Standing,
+    BUILT, NOT_BUILT,
 };
 use common::{Areas, SET, SET_BYTE};
 
@@ -32,20 +32,72 @@ fn proved_examples_of_groups() {
     for text in [&b"[@a;]"[..], b"[;@a]", b"[@a][b]", b"[\\@a]"] {
         assert_eq!(refused_at(text, 0), Refusal::NoGroup);
     }
-    let integral = only_item(b"[+@a]");
-    let item = item_records(&integral).next().unwrap();
-    assert!(item.integral() && !item.suppressed());
-
     let text = b"[x -@a, p. 3]";
     let numbers = only_item(text);
     let item = item_records(&numbers).next().unwrap();
     assert_eq!(item.prefix().unwrap().of(text), b"x");
     assert_eq!(item.key().of(text), b"a");
-    assert!(item.suppressed() && !item.integral());
+    assert!(item.suppressed());
     assert_eq!(item.locator_span().unwrap().of(text), b"p. 3");
     let value = Span { offset: 11, length: 1 };
     assert_eq!(item.locator(), Locator::Labelled { label: LocatorLabel::Page, value: Some(value), suffix: None });
     assert_eq!((item.number(), item.use_index(), item.label()), (None, None, None));
+}
+
+// A `+` right after the bracket is passed over, once; any other is prefix text. The key has its own place, and no mark is set but 1.
+#[test]
+fn a_leading_plus() {
+    let of = |prefix: [u16; 2], key: u16, marks: u16| [prefix[0], prefix[1], key, 1, 0, 0, 0, 0, 0, 0, 0, marks, 0, 0, 0, 0];
+    assert_eq!(only_item(b"[+@a]"), of([0, 0], 3, 0));
+    assert_eq!(only_item(b"[+-@a]"), of([0, 0], 4, 1));
+    assert_eq!(only_item(b"[+ @a]"), of([0, 0], 4, 0));
+    assert_eq!(only_item(b"[++@a]"), of([2, 1], 4, 0));
+    assert_eq!(only_item(b"[ +@a]"), of([2, 1], 4, 0));
+    for text in [&b"[+]"[..], b"[+b]", b"[+;@a]", b"[+@a;b]"] {
+        assert_eq!(refused_at(text, 0), Refusal::NoGroup);
+    }
+    let text = b"[+@a;+@b]";
+    let mut areas = Areas::of(text);
+    assert_eq!(areas.look_up(text, 0, NOT_BUILT).unwrap().items, 2);
+    assert_eq!(areas.items[..16], of([0, 0], 3, 0));
+    assert_eq!(areas.items[16..32], of([5, 1], 7, 0));
+}
+
+// Between `[` and `]` every row of up to five of these symbols that begins with no `+`: with a `+` before it it is refused alike, or has the
+// same items, one place further.
+#[test]
+fn a_group_with_a_leading_plus_and_without() {
+    const SYMBOLS: [&[u8]; 12] = [b"@a", b"@", b"-", b"\\", b";", b",", b" ", b"\xC2\xA0", b"x", b"+", b"[", b"]"];
+    let mut found = 0;
+    for length in 0..=5 {
+        for number in 0..SYMBOLS.len().pow(length) {
+            let row: Vec<u8> = (0..length).flat_map(|i| SYMBOLS[number / SYMBOLS.len().pow(i) % SYMBOLS.len()]).copied().collect();
+            if row.first() == Some(&b'+') {
+                continue;
+            }
+            let (plain, plus) = (looked_up(&[b"[", &row[..], b"]"].concat()), looked_up(&[b"[+", &row[..], b"]"].concat()));
+            assert_eq!(plain.map(further), plus, "{row:?}");
+            found += usize::from(plus.is_ok());
+        }
+    }
+    assert!(found > 1_000, "{found} groups");
+}
+
+// The close of the group at the text's start and the records of its items, of which there are at most three here; zeros behind them.
+fn looked_up(text: &[u8]) -> Result<(usize, [u16; 48]), Refusal> {
+    let (mut index, mut records, mut items) = ([0; 16], [Bracket::default(); 16], [0; 48]);
+    let found = look_up(text, 0, NOT_BUILT, &mut index, &mut records, &mut items).map_err(|refused| refused.refusal)?;
+    Ok((found.close, items))
+}
+
+// The same one place further; a part that is missing stays 0 0.
+fn further((close, mut items): (usize, [u16; 48])) -> (usize, [u16; 48]) {
+    for record in items.chunks_mut(16) {
+        for pair in record[..10].chunks_mut(2).filter(|pair| pair[1] != 0) {
+            pair[0] += 1;
+        }
+    }
+    (close + 1, items)
 }
 
 #[test]

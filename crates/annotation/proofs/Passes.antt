@@ -57,10 +57,10 @@ module _ (text : List ℕ) (mode : ℕ) (pool : List ℕ) (n : ℕ) (all : List 
   defined-as s i g key = definition-same text (s .groups) groups₀ (s .items) items₀ g i n pool key ∙ defs key
 
   -- one more item of a numbered group
-  module _ (t : Tally) (s : Numbered) (k : ℕ) (integral : Bool) (i : Item) (rest : List ℕ) (small : k < 65535)
-      (a : Ag t s k (unnumberedRecord integral i ++ rest)) where
+  module _ (t : Tally) (s : Numbered) (k : ℕ) (i : Item) (rest : List ℕ) (small : k < 65535)
+      (a : Ag t s k (unnumberedRecord i ++ rest)) where
     its-key : keyIn text (s .items) k ≡ keyOf text i
-    its-key = rw (a .items) (key-at text (t .records) integral i rest k (a .count))
+    its-key = rw (a .items) (key-at text (t .records) i rest k (a .count))
 
     its-number : numberIn text (s .items) (s .sources) k ≡ numberOf (keyOf text i) (t .sources)
     its-number =
@@ -79,7 +79,7 @@ module _ (text : List ℕ) (mode : ℕ) (pool : List ℕ) (n : ℕ) (all : List 
         ∙ ap (λ (x : List ℕ). length (used x (t .sources))) its-key)
 
     its-suppressed : suppressedIn (s .items) k ≡ i .suppressed
-    its-suppressed = rw (a .items) (suppressed-at text (t .records) integral i rest k (a .count))
+    its-suppressed = rw (a .items) (suppressed-at text (t .records) i rest k (a .count))
 
     its-label : labelIn text mode pool n s k ≡ labelFor text mode all pool (t .sources) i
     unfolding labelIn labelFor
@@ -88,7 +88,7 @@ module _ (text : List ℕ) (mode : ℕ) (pool : List ℕ) (n : ℕ) (all : List 
     -- its record
     its-record : List ℕ
     its-record =
-        itemRecord integral i (numberOf (keyOf text i) (t .sources)) (useOf (hasPool pool) (keyOf text i) (t .sources))
+        itemRecord i (numberOf (keyOf text i) (t .sources)) (useOf (hasPool pool) (keyOf text i) (t .sources))
         (span (length (t .labels)) (length (labelFor text mode all pool (t .sources) i)))
 
     its-length : length its-record ≡ itemWidth
@@ -99,7 +99,7 @@ module _ (text : List ℕ) (mode : ℕ) (pool : List ℕ) (n : ℕ) (all : List 
     unfolding citeIn citeAs unnumberedRecord its-record
     its-items =
         rw (its-number, its-use, its-label, a .labels, a .items)
-        (set-last (t .records) integral i 0 0 missing rest k _ _ _ _ (a .count))
+        (set-last (t .records) i 0 0 missing rest k _ _ _ _ (a .count))
 
     its-field : (c : ℕ) → itemField (citeIn text mode pool n s k .items) k c ≡ getD (its-record ++ rest) c 0
     its-field c = rw its-items (item-field (t .records) (its-record ++ rest) k c (a .count))
@@ -113,7 +113,7 @@ module _ (text : List ℕ) (mode : ℕ) (pool : List ℕ) (n : ℕ) (all : List 
         (its-field 12)
         (λ p. its-field 13 ∙ rw p)
 
-    cite-agrees : Ag (numbered text mode all pool integral t i) (citeIn text mode pool n s k) (k + 1) rest
+    cite-agrees : Ag (numbered text mode all pool t i) (citeIn text mode pool n s k) (k + 1) rest
     unfolding citeIn citeAs numbered citedItem its-record
     cite-agrees = record {
       items = its-items ∙ sym (append-assoc (t .records) its-record rest);
@@ -126,18 +126,18 @@ module _ (text : List ℕ) (mode : ℕ) (pool : List ℕ) (n : ℕ) (all : List 
     }
 
   -- one more item of another group
-  on-agrees : (t : Tally) (s : Numbered) (k : ℕ) (integral : Bool) (i : Item) (rest : List ℕ) → Ag t s k (unnumberedRecord integral i ++ rest)
-      → Ag (unnumbered integral t i) s (k + 1) rest
+  on-agrees : (t : Tally) (s : Numbered) (k : ℕ) (i : Item) (rest : List ℕ) → Ag t s k (unnumberedRecord i ++ rest)
+      → Ag (unnumbered t i) s (k + 1) rest
   unfolding unnumbered unnumberedRecord itemRecord
-  on-agrees t s k integral i rest a = record {
-    items = a .items ∙ sym (append-assoc (t .records) (unnumberedRecord integral i) rest);
-    count = omega (arith, length-append (t .records) (unnumberedRecord integral i), a .count);
+  on-agrees t s k i rest a = record {
+    items = a .items ∙ sym (append-assoc (t .records) (unnumberedRecord i) rest);
+    count = omega (arith, length-append (t .records) (unnumberedRecord i), a .count);
     labels = a .labels;
     sources = a .sources;
     joined =
         rw (add-one k)
         (joined-on text (s .items) (hasPool pool) k (t .sources)
-        (rw (a .items) (item-field (t .records) (unnumberedRecord integral i ++ rest) k 12 (a .count)))
+        (rw (a .items) (item-field (t .records) (unnumberedRecord i ++ rest) k 12 (a .count)))
         (a .joined));
     same-items = a .same-items;
     same-groups = a .same-groups;
@@ -145,17 +145,17 @@ module _ (text : List ℕ) (mode : ℕ) (pool : List ℕ) (n : ℕ) (all : List 
 
   -- the items of a group
   add-numbered : (p : Placed) (t : Tally) (i : Item) → eqb (p .standing) 2 ≡ true
-      → addItem text mode all pool p t i ≡ numbered text mode all pool (p .group .integral) t i
+      → addItem text mode all pool p t i ≡ numbered text mode all pool t i
   unfolding addItem
   add-numbered p t i q = rw q
 
   add-unnumbered : (p : Placed) (t : Tally) (i : Item) → eqb (p .standing) 2 ≡ false
-      → addItem text mode all pool p t i ≡ unnumbered (p .group .integral) t i
+      → addItem text mode all pool p t i ≡ unnumbered t i
   unfolding addItem
   add-unnumbered p t i q = rw q
 
   cites-agree : (p : Placed) (is : List Item) (t : Tally) (s : Numbered) (k : ℕ) (rest : List ℕ) → eqb (p .standing) 2 ≡ true
-      → k + length is ≤ 65535 → Ag t s k (recordsIn (p .group .integral) is ++ rest)
+      → k + length is ≤ 65535 → Ag t s k (recordsIn is ++ rest)
       → Ag (fold (addItem text mode all pool p) t is) (citeFrom text mode pool n (length is) s k) (k + length is) rest
   unfolding fold citeFrom flatMap
   cites-agree p [] t s k rest q l a = let e : k ≡ k + 0 = omega arith in subst (λ (m : ℕ). Ag t s m rest) e a
@@ -164,14 +164,14 @@ module _ (text : List ℕ) (mode : ℕ) (pool : List ℕ) (n : ℕ) (all : List 
       subst (λ (m : ℕ). Ag (fold (addItem text mode all pool p) (addItem text mode all pool p t i) is) (citeFrom text mode pool n (length is) (citeIn text mode pool n s k) (k + 1)) m rest) e
       (cites-agree p is (addItem text mode all pool p t i) (citeIn text mode pool n s k) (k + 1) rest q (omega arith) one)
     where
-      one : Ag (addItem text mode all pool p t i) (citeIn text mode pool n s k) (k + 1) (recordsIn (p .group .integral) is ++ rest)
+      one : Ag (addItem text mode all pool p t i) (citeIn text mode pool n s k) (k + 1) (recordsIn is ++ rest)
       one =
           rw (add-numbered p t i q)
-          (cite-agrees t s k (p .group .integral) i (recordsIn (p .group .integral) is ++ rest) (omega arith)
-          (rw (append-assoc (unnumberedRecord (p .group .integral) i) (recordsIn (p .group .integral) is) rest) at a))
+          (cite-agrees t s k i (recordsIn is ++ rest) (omega arith)
+          (rw (append-assoc (unnumberedRecord i) (recordsIn is) rest) at a))
 
   passes-agree : (p : Placed) (is : List Item) (t : Tally) (s : Numbered) (k : ℕ) (rest : List ℕ) → eqb (p .standing) 2 ≡ false
-      → Ag t s k (recordsIn (p .group .integral) is ++ rest)
+      → Ag t s k (recordsIn is ++ rest)
       → Ag (fold (addItem text mode all pool p) t is) s (k + length is) rest
   unfolding fold flatMap
   passes-agree p [] t s k rest q a = let e : k ≡ k + 0 = omega arith in subst (λ (m : ℕ). Ag t s m rest) e a
@@ -180,11 +180,11 @@ module _ (text : List ℕ) (mode : ℕ) (pool : List ℕ) (n : ℕ) (all : List 
       subst (λ (m : ℕ). Ag (fold (addItem text mode all pool p) (addItem text mode all pool p t i) is) s m rest) e
       (passes-agree p is (addItem text mode all pool p t i) s (k + 1) rest q one)
     where
-      one : Ag (addItem text mode all pool p t i) s (k + 1) (recordsIn (p .group .integral) is ++ rest)
+      one : Ag (addItem text mode all pool p t i) s (k + 1) (recordsIn is ++ rest)
       one =
           rw (add-unnumbered p t i q)
-          (on-agrees t s k (p .group .integral) i (recordsIn (p .group .integral) is ++ rest)
-          (rw (append-assoc (unnumberedRecord (p .group .integral) i) (recordsIn (p .group .integral) is) rest) at a))
+          (on-agrees t s k i (recordsIn is ++ rest)
+          (rw (append-assoc (unnumberedRecord i) (recordsIn is) rest) at a))
 
   -- the group records stay
   cites-groups : (m : ℕ) (s : Numbered) (k : ℕ) → citeFrom text mode pool n m s k .groups ≡ s .groups
@@ -193,21 +193,21 @@ module _ (text : List ℕ) (mode : ℕ) (pool : List ℕ) (n : ℕ) (all : List 
   cites-groups (suc m) s k = cites-groups m (citeIn text mode pool n s k) (k + 1)
 
   -- every key of a group is defined
-  defined-agrees : (integral : Bool) (is : List Item) (before rest : List ℕ) (s : Numbered) (k : ℕ) → length before ≡ itemWidth * k
-      → s .items ≡ before ++ (recordsIn integral is ++ rest) → SameItems (s .items) items₀ → SameGroups (s .groups) groups₀
+  defined-agrees : (is : List Item) (before rest : List ℕ) (s : Numbered) (k : ℕ) → length before ≡ itemWidth * k
+      → s .items ≡ before ++ (recordsIn is ++ rest) → SameItems (s .items) items₀ → SameGroups (s .groups) groups₀
       → keysDefined text pool (s .groups) (s .items) n (length is) k ≡ allDefined text all pool is
   unfolding keysDefined keyDefined allDefined flatMap unnumberedRecord itemRecord
-  defined-agrees integral [] before rest s k h e si sg = refl
-  defined-agrees integral (i ∷ is) before rest s k h e si sg =
+  defined-agrees [] before rest s k h e si sg = refl
+  defined-agrees (i ∷ is) before rest s k h e si sg =
       rw (its, defined-as s si sg (keyOf text i))
       (ap (λ (b : Bool). isDefined (defOf text all pool (keyOf text i)) && b)
-      (defined-agrees integral is (before ++ unnumberedRecord integral i) rest s (k + 1) (omega (arith, length-append before (unnumberedRecord integral i)))
-      (e ∙ regroup before (unnumberedRecord integral i) (recordsIn integral is) rest) si sg))
+      (defined-agrees is (before ++ unnumberedRecord i) rest s (k + 1) (omega (arith, length-append before (unnumberedRecord i)))
+      (e ∙ regroup before (unnumberedRecord i) (recordsIn is) rest) si sg))
     where
       its : keyIn text (s .items) k ≡ keyOf text i
       its =
-          rw (e, append-assoc (unnumberedRecord integral i) (recordsIn integral is) rest)
-          (key-at text before integral i (recordsIn integral is ++ rest) k h)
+          rw (e, append-assoc (unnumberedRecord i) (recordsIn is) rest)
+          (key-at text before i (recordsIn is ++ rest) k h)
 
   -- the groups from `gs` on are still to be numbered: `g` group records, `done`, and `k` items are before them
   record Stands (restItems restGroups : List ℕ) (t : Tally) (s : Numbered) (g k : ℕ) (done : List ℕ) (before : Bool) (from : ℕ) (gs : List Group) : Type 0 where
@@ -233,11 +233,11 @@ module _ (text : List ℕ) (mode : ℕ) (pool : List ℕ) (n : ℕ) (all : List 
     unfolding inside more groupRecords placedBy
     group-is = a .groups ∙ ap (λ (l : List ℕ). done ++ l) (append-assoc (groupRecord k (placed x (pick inside 0 1))) more restGroups)
 
-    items-are : itemRecords (x ∷ gs) ++ restItems ≡ recordsIn (x .integral) (x .items) ++ (itemRecords gs ++ restItems)
+    items-are : itemRecords (x ∷ gs) ++ restItems ≡ recordsIn (x .items) ++ (itemRecords gs ++ restItems)
     unfolding flatMap recordsOf
-    items-are = append-assoc (recordsIn (x .integral) (x .items)) (itemRecords gs) restItems
+    items-are = append-assoc (recordsIn (x .items)) (itemRecords gs) restItems
 
-    here : Ag t s k (recordsIn (x .integral) (x .items) ++ (itemRecords gs ++ restItems))
+    here : Ag t s k (recordsIn (x .items) ++ (itemRecords gs ++ restItems))
     here = subst (λ (l : List ℕ). Ag t s k l) items-are (a .agrees)
 
     lies : LieAt (s .groups) (s .items) g k (placed x (pick inside 0 1) ∷ sweptFrom text inside (groupEnd x) gs) done restGroups (t .records) restItems
@@ -268,7 +268,7 @@ module _ (text : List ℕ) (mode : ℕ) (pool : List ℕ) (n : ℕ) (all : List 
           field-standing,
           field-items,
           field-first,
-          defined-agrees (x .integral) (x .items) (t .records) (itemRecords gs ++ restItems) s k (here .count) (here .items) (here .same-items) (here .same-groups),
+          defined-agrees (x .items) (t .records) (itemRecords gs ++ restItems) s k (here .count) (here .items) (here .same-items) (here .same-groups),
         )
         (go inside (allDefined text all pool (x .items)))
       where
@@ -286,7 +286,7 @@ module _ (text : List ℕ) (mode : ℕ) (pool : List ℕ) (n : ℕ) (all : List 
     unfolding numberGroup standing
     numbers-as = rw (numbered-as, field-items, field-first)
 
-    stands-agrees : Ag t standing k (recordsIn (x .integral) (x .items) ++ (itemRecords gs ++ restItems))
+    stands-agrees : Ag t standing k (recordsIn (x .items) ++ (itemRecords gs ++ restItems))
     unfolding standing standsNumbered
     stands-agrees = record {
       items = here .items;

@@ -70,7 +70,7 @@ module _ (text : List ℕ) (mode : ℕ) (all : List Group) (pool : List ℕ) whe
     where
       row : List ℕ
       row =
-          itemRecord (p .group .integral) i (numberOf (keyOf text i) (t .sources)) (useOf (hasPool pool) (keyOf text i) (t .sources))
+          itemRecord i (numberOf (keyOf text i) (t .sources)) (useOf (hasPool pool) (keyOf text i) (t .sources))
           (span (length (t .labels)) (length (labelFor text mode all pool (t .sources) i)))
 
       more : (x : List ℕ) (b : Bool) → same (keyOf text i) x ≡ b → usesOf x (used (keyOf text i) (t .sources)) ≡ usesIn x is + pick b 1 0
@@ -80,7 +80,7 @@ module _ (text : List ℕ) (mode : ℕ) (all : List Group) (pool : List ℕ) whe
       more x false q = omega (arith, uses-other x (keyOf text i) (t .sources) q, u .uses x)
 
       go : (b : Bool)
-          → UsedSo (hasPool pool) (pick b (numbered text mode all pool (p .group .integral) t i) (unnumbered (p .group .integral) t i))
+          → UsedSo (hasPool pool) (pick b (numbered text mode all pool t i) (unnumbered t i))
           (is ++ (pick b (some (keyOf text i)) none ∷ []))
       go true = record {
         count = count-more (t .records) row is (some (keyOf text i)) (u .count) refl;
@@ -88,8 +88,8 @@ module _ (text : List ℕ) (mode : ℕ) (all : List Group) (pool : List ℕ) whe
         uses = λ x. more x (same (keyOf text i) x) refl ∙ sym (uses-some-more x (keyOf text i) is);
       }
       go false = record {
-        count = count-more (t .records) (unnumberedRecord (p .group .integral) i) is none (u .count) refl;
-        cells = cells-on (hasPool pool) t is none (unnumberedRecord (p .group .integral) i) u refl;
+        count = count-more (t .records) (unnumberedRecord i) is none (u .count) refl;
+        cells = cells-on (hasPool pool) t is none (unnumberedRecord i) u refl;
         uses = λ x. u .uses x ∙ sym (uses-none-more x is);
       }
 

@@ -111,8 +111,8 @@ pub extern "C" fn citations_source_text(
 // CITATIONS_VERSION of include/citations.h. What is compiled against that header refers to this name, so it links with no archive of another
 // version. The number stands in the name too, and both are raised together.
 #[no_mangle]
-pub extern "C" fn citations_version_1() -> u32
-    ensures { λ r. ⌜ r ≡ 1 ⌝ }
+pub extern "C" fn citations_version_2() -> u32
+    ensures { λ r. ⌜ r ≡ 2 ⌝ }
 {
-    1
+    2
 }

@@ -101,7 +101,7 @@ module _ (text : List ℕ) (mode : ℕ) (all : List Group) (pool : List ℕ) whe
   key-of p i = pick (eqb (p .standing) 2) (some (keyOf text i)) none
 
   item-so : (p : Placed) (t : Tally) (i : Item) (rows : List ℕ) (ls : List (List ℕ)) (is : List (Option (List ℕ))) → So t rows ls is
-      → So (addItem text mode all pool p t i) (rows ++ unnumberedRecord (p .group .integral) i) (ls ++ (its p (t .sources) i ∷ [])) (is ++ (key-of p i ∷ []))
+      → So (addItem text mode all pool p t i) (rows ++ unnumberedRecord i) (ls ++ (its p (t .sources) i ∷ [])) (is ++ (key-of p i ∷ []))
   unfolding addItem numbered unnumbered citedItem unnumberedRecord itemRecord labelAfter
   item-so p t i rows ls is u = go (eqb (p .standing) 2)
     where
@@ -112,14 +112,14 @@ module _ (text : List ℕ) (mode : ℕ) (all : List Group) (pool : List ℕ) whe
       key = keyOf text i
 
       flat : List ℕ
-      flat = unnumberedRecord (p .group .integral) i
+      flat = unnumberedRecord i
 
       go : (b : Bool)
-          → So (pick b (numbered text mode all pool (p .group .integral) t i) (unnumbered (p .group .integral) t i)) (rows ++ flat)
+          → So (pick b (numbered text mode all pool t i) (unnumbered t i)) (rows ++ flat)
           (ls ++ (pick b label [] ∷ [])) (is ++ (pick b (some key) none ∷ []))
       go true =
           more t rows ls is u (used key (t .sources))
-          (itemRecord (p .group .integral) i (numberOf key (t .sources)) (useOf (hasPool pool) key (t .sources)) (span (length (t .labels)) (length label)))
+          (itemRecord i (numberOf key (t .sources)) (useOf (hasPool pool) key (t .sources)) (span (length (t .labels)) (length label)))
           flat label (some key) refl refl refl (ap length (u .joins)) refl
       go false =
           subst (λ (l : List ℕ). So (tally (t .sources) (t .records ++ flat) l) (rows ++ flat) (ls ++ ([] ∷ [])) (is ++ (none ∷ []))) (append-nil (t .labels))
@@ -145,18 +145,18 @@ module _ (text : List ℕ) (mode : ℕ) (all : List Group) (pool : List ℕ) whe
   items-so : (p : Placed) (more : List Item) (t : Tally) (rows : List ℕ) (ls : List (List ℕ)) (is : List (Option (List ℕ))) (ps : List Placed)
       (last : List Source)
       → fold (addGroup text mode all pool) (fold (addItem text mode all pool p) t more) ps .sources ≡ last → So t rows ls is
-      → So (fold (addItem text mode all pool p) t more) (rows ++ recordsIn (p .group .integral) more) (ls ++ map (its p last) more)
+      → So (fold (addItem text mode all pool p) t more) (rows ++ recordsIn more) (ls ++ map (its p last) more)
       (is ++ map (key-of p) more)
   unfolding fold flatMap
   items-so p [] t rows ls is ps last e u = rw (append-nil rows, append-nil ls, append-nil is) u
   items-so p (i ∷ more) t rows ls is ps last e u =
       rw (
-        ← append-assoc rows (unnumberedRecord (p .group .integral) i) (recordsIn (p .group .integral) more),
+        ← append-assoc rows (unnumberedRecord i) (recordsIn more),
         ← append-assoc ls (its p last i ∷ []) (map (its p last) more),
         ← append-assoc is (key-of p i ∷ []) (map (key-of p) more),
         ← its-stays p t i more ps ∙ ap (λ (ss : List Source). its p ss i) e,
       )
-      (items-so p more (addItem text mode all pool p t i) (rows ++ unnumberedRecord (p .group .integral) i) (ls ++ (its p (t .sources) i ∷ []))
+      (items-so p more (addItem text mode all pool p t i) (rows ++ unnumberedRecord i) (ls ++ (its p (t .sources) i ∷ []))
       (is ++ (key-of p i ∷ [])) ps last e (item-so p t i rows ls is u))
 
   groups-so : (ps : List Placed) (t : Tally) (rows : List ℕ) (ls : List (List ℕ)) (is : List (Option (List ℕ))) (last : List Source)
@@ -169,11 +169,11 @@ module _ (text : List ℕ) (mode : ℕ) (all : List Group) (pool : List ℕ) whe
       let labels : ls ++ itemLabels text mode all pool last (p ∷ ps) ≡ (ls ++ map (its p last) (p .group .items)) ++ itemLabels text mode all pool last ps
       = sym (append-assoc ls (map (its p last) (p .group .items)) (itemLabels text mode all pool last ps)) in
       rw (
-        ← append-assoc rows (recordsIn (p .group .integral) (p .group .items)) (itemRecords (groupsOf ps)),
+        ← append-assoc rows (recordsIn (p .group .items)) (itemRecords (groupsOf ps)),
         labels,
         ← append-assoc is (map (key-of p) (p .group .items)) (itemKeys text ps),
       )
-      (groups-so ps (fold (addItem text mode all pool p) t (p .group .items)) (rows ++ recordsIn (p .group .integral) (p .group .items))
+      (groups-so ps (fold (addItem text mode all pool p) t (p .group .items)) (rows ++ recordsIn (p .group .items))
       (ls ++ map (its p last) (p .group .items)) (is ++ map (key-of p) (p .group .items)) last e
       (items-so p (p .group .items) t rows ls is ps last e u))
 

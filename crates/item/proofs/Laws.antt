@@ -25,7 +25,7 @@ use Rattle.locator.specs.Locators.{locatorOf}
 use Rattle.item.specs.declared.Item.{Item}
 use Rattle.item.specs.declared.Parsed.the-variants.{Good, Bad}
 use Rattle.item.specs.Items.{atSign, keyServes, wins, winner, suppresses, prefixEnd, locatorStart, itemAt, itemIn, itemOf, isGood}
-use Rattle.item.specs.Pieces.{semicolonAt, integralAt, itemsStart}
+use Rattle.item.specs.Pieces.{semicolonAt, plusAt, itemsStart}
 
 abbrev item : Span → Span → Span → Locator → Bool → Item
 item prefix key locator parts suppressed =
@@ -33,11 +33,11 @@ item prefix key locator parts suppressed =
 
 -- the leading `+` ------------------------------------------------------------------------------------------------------------------
 
-pub integral-is : (s : List ℕ) (p : ℕ) {b : ℕ} → b ≡ byteAt s (p + 1) → eqb b 43 ≡ integralAt s p
-unfolding integralAt
-integral-is s p q = rw q
+pub plus-is : (s : List ℕ) (p : ℕ) {b : ℕ} → b ≡ byteAt s (p + 1) → eqb b 43 ≡ plusAt s p
+unfolding plusAt
+plus-is s p q = rw q
 
-module _ (s : List ℕ) (p : ℕ) {b : Bool} (q : b ≡ integralAt s p) where
+module _ (s : List ℕ) (p : ℕ) {b : Bool} (q : b ≡ plusAt s p) where
   pub after-plus : b ≡ true → p + 2 ≡ itemsStart s p
   unfolding itemsStart
   after-plus t = rw (sym q ∙ t)
@@ -181,7 +181,7 @@ module _ (s : List ℕ) (a e i : ℕ) {m b x : ℕ} {u v w : Span} {l : Locator}
   item-is m= b= x= u= v= w= l= t= = rw (u=, v=, w=, l=, t=, x=, b=, m=)
 
 pub ruleset laws = (
-  integral-is,
+  plus-is,
   after-plus,
   after-bracket,
   serves-none,

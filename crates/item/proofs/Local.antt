@@ -25,7 +25,7 @@ use Rattle.key.proofs.Laws.{key-out, key-not, key-yes}
 use Rattle.item.specs.declared.Parsed.the-variants.{Good, Bad}
 use Rattle.item.specs.Items.{atSign, keyServes, wins, winner, suppresses, prefixEnd, locatorStart, itemAt, itemIn, itemOf}
 use Rattle.item.specs.Moved.{movedItem, movedParsed}
-use Rattle.item.specs.Pieces.{stretch, semicolonAt, endsPiece, piecesIn, pieces, integralAt, itemsStart, piecesOf, parsed}
+use Rattle.item.specs.Pieces.{stretch, semicolonAt, endsPiece, piecesIn, pieces, plusAt, itemsStart, piecesOf, parsed}
 use Rattle.item.specs.Facts.{Before, Local, ItemLocal, PiecesLocal}
 use Rattle.item.proofs.Groups.{start-in}
 use Rattle.item.proofs.LocatorShift.{ltb-move, eqb-move, span-move, first-move, locator-move}
@@ -360,7 +360,7 @@ module _ (s : List ℕ) (c : ℕ) (close : byteAt s c ≡ 93) (inside : c < leng
 
   -- the items of a bracket begin after it or after a `+`
   start-before : (p : ℕ) → byteAt s p ≡ 91 → Before s (itemsStart s p)
-  unfolding itemsStart integralAt
+  unfolding itemsStart plusAt
   start-before p bracket = go (eqb (byteAt s (p + 1)) 43) refl
     where
       go : (t : Bool) → eqb (byteAt s (p + 1)) 43 ≡ t → Before s (pick t (p + 2) (p + 1))

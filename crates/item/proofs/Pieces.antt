@@ -14,7 +14,7 @@ use Rattle.base.proofs.Searches.{first-from, first-by}
 use Rattle.item.specs.declared.Parsed.{Parsed}
 use Rattle.item.specs.declared.Parsed.the-variants.{Good, Bad}
 use Rattle.item.specs.Items.{itemOf, isGood}
-use Rattle.item.specs.Pieces.{Stretch, stretch, semicolonAt, endsPiece, piecesIn, pieces, integralAt, itemsStart, parsed, allGood, kept, itemsIn}
+use Rattle.item.specs.Pieces.{Stretch, stretch, semicolonAt, endsPiece, piecesIn, pieces, plusAt, itemsStart, parsed, allGood, kept, itemsIn}
 
 -- a piece that began at `a` and goes on at `i`, with a `;` among the `n` bytes left
 in-more : (n : ℕ) (s : List ℕ) (a i q : ℕ) → q ≡ first (semicolonAt s) n i → q < i + n
@@ -95,7 +95,7 @@ module _ (s : List ℕ) (a e : ℕ) {q : ℕ} (p : q ≡ first (semicolonAt s) (
 module _ (s : List ℕ) (p : ℕ) {a : ℕ} (d : a ≡ itemsStart s p) where
   starts-after : p < a
   unfolding itemsStart
-  starts-after = rw d (go (integralAt s p))
+  starts-after = rw d (go (plusAt s p))
     where
       go : (t : Bool) → p < pick t (p + 2) (p + 1)
       go true = omega arith
@@ -103,7 +103,7 @@ module _ (s : List ℕ) (p : ℕ) {a : ℕ} (d : a ≡ itemsStart s p) where
 
   pub starts-by : a ≤ p + 2
   unfolding itemsStart
-  starts-by = rw d (go (integralAt s p))
+  starts-by = rw d (go (plusAt s p))
     where
       go : (t : Bool) → pick t (p + 2) (p + 1) ≤ p + 2
       go true = omega arith

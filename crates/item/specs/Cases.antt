@@ -17,12 +17,12 @@ use Rattle.locator.specs.Locators.{locatorOf, locatorFrom, labelled, valued, va
 use Rattle.item.specs.declared.Parsed.the-variants.{Good, Bad}
 use Rattle.item.specs.declared.Judged.the-variants.{Good as AllGood, Bad as FirstBad}
 use Rattle.item.specs.Items.{itemOf, itemIn, itemAt, locatorStart, prefixEnd, suppresses, winner, wins, keyServes, atSign}
-use Rattle.item.specs.Pieces.{piecesOf, pieces, piecesIn, semicolonAt, itemsStart, integralAt, stretch, parsed, allGood}
+use Rattle.item.specs.Pieces.{piecesOf, pieces, piecesIn, semicolonAt, itemsStart, plusAt, stretch, parsed, allGood}
 use Rattle.item.specs.Judge.{judgedOf, judgedIn, firstBad}
 
 -- one name that opens every definition which the cases reach
 unfoldable opened : ℕ
-unfolding judgedOf judgedIn firstBad allGood parsed piecesOf pieces piecesIn semicolonAt itemsStart integralAt
+unfolding judgedOf judgedIn firstBad allGood parsed piecesOf pieces piecesIn semicolonAt itemsStart plusAt
     itemOf itemIn itemAt locatorStart prefixEnd suppresses winner wins keyServes atSign
     locatorOf locatorFrom labelled valued valueEnd isLoose valueRun isValue labelOf orPage matchIn stands mayFollow
     fits lower skipBlanks matchers isFirst isMark isKey runEnd keyEnd

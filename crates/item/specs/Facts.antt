@@ -14,7 +14,7 @@ use Rattle.item.specs.declared.Parsed.the-variants.{Good}
 use Rattle.key.specs.Keys.{isKey}
 use Rattle.item.specs.Items.{itemOf}
 use Rattle.item.specs.Moved.{movedParsed}
-use Rattle.item.specs.Pieces.{Stretch, piecesOf, parsed, itemsOf}
+use Rattle.item.specs.Pieces.{Stretch, pieces, piecesOf, parsed, itemsOf}
 
 -- "pairs for prefix, key (without `@`), locator, value, suffix"
 unfoldable pub partsOf : Item → List Span
@@ -48,3 +48,9 @@ Local s q = parsed s q ≡ movedParsed (q .from) (itemOf (part s (q .from) (q .t
 -- so is every piece of a group, from its bracket at `p` to its close at `c`
 abbrev pub PiecesLocal : Type 0
 PiecesLocal = (s : List ℕ) (p c : ℕ) → p < c → c < length s → byteAt s p ≡ 91 → byteAt s c ≡ 93 → Each (Local s) (piecesOf s p c)
+
+-- document 02, W10: a `+` right after the bracket at `p` is passed over, once, and belongs to no piece; any other byte there begins the first
+abbrev pub PlusPassed : Type 0
+PlusPassed =
+    (s : List ℕ) (p c : ℕ) → p + 1 < c
+    → (byteAt s (p + 1) ≡ 43 → piecesOf s p c ≡ pieces s (p + 2) c) × ((byteAt s (p + 1) ≡ 43 → ⊥) → piecesOf s p c ≡ pieces s (p + 1) c)

@@ -3,13 +3,12 @@ use Prim.Native.Nat.{ℕ}
 use mathlib.Core.List.{List}
 use mathlib.Core.Bool.{Bool}
 use Rattle.item.specs.declared.Item.{Item}
-use Rattle.item.specs.Pieces.{integralAt, allGood, piecesOf, itemsOf}
+use Rattle.item.specs.Pieces.{allGood, piecesOf, itemsOf}
 
--- a group: the places of its bracket and of its close, whether its items are integral, and the items
+-- a group: the places of its bracket and of its close, and the items
 pub record Group : Type 0 where
   pub at : ℕ
   pub close : ℕ
-  pub integral : Bool
   pub items : List Item
 
 -- "only good items" between the bracket at `p` and the close at `c`
@@ -18,4 +17,4 @@ goodItems s p c = allGood s (piecesOf s p c)
 
 -- the group of the bracket at `p` with its close at `c`
 unfoldable pub groupOf : List ℕ → ℕ → ℕ → Group
-groupOf s p c = record { at = p; close = c; integral = integralAt s p; items = itemsOf s p c }
+groupOf s p c = record { at = p; close = c; items = itemsOf s p c }

@@ -13,10 +13,10 @@ ghost use mathlib.Core.Path.{_≡_};
 ghost use Prim.Native.Nat.{_+_, _-_, _≤_, _<_};
 ghost use lib.ListN.{length};
 ghost use Rattle.base.specs.First.{first};
-ghost use Rattle.item.specs.Facts.{ItemInOrder, ItemsInOrder, ItemLocal, PiecesLocal};
+ghost use Rattle.item.specs.Facts.{ItemInOrder, ItemsInOrder, ItemLocal, PiecesLocal, PlusPassed};
 ghost use Rattle.key.specs.Keys.{keyEnd};
 ghost use Rattle.item.specs.Items.{keyServes, wins, winner, suppresses, prefixEnd, itemAt, itemOf, isGood};
-ghost use Rattle.item.specs.Pieces.{semicolonAt, integralAt, itemsStart};
+ghost use Rattle.item.specs.Pieces.{semicolonAt, plusAt, itemsStart};
 ghost use Rattle.item.specs.Judge.{judgedOf};
 
 // An item. `parts` is what the locator is read as: nothing, plain or labelled.
@@ -40,10 +40,10 @@ pub enum Judged {
     Bad { item: usize },
 }
 
-// Whether a `+` right after the bracket at `p` marks all its items integral.
-pub fn is_integral(text: &[u8], p: usize) -> bool
+// Whether a `+` stands right after the bracket at `p`.
+fn has_plus(text: &[u8], p: usize) -> bool
     requires { ⌜ p < length (now text) ⌝ }
-    ensures { λ r. ⌜ r ≡ integralAt (now (text .entry)) p ⌝ }
+    ensures { λ r. ⌜ r ≡ plusAt (now (text .entry)) p ⌝ }
 {
     byte_at(text, p + 1) == b'+'
 }
@@ -53,7 +53,7 @@ pub fn items_start(text: &[u8], p: usize) -> usize
     requires { ⌜ p < length (now text) ⌝ }
     ensures { λ r. ⌜ r ≡ itemsStart (now (text .entry)) p ⌝ }
 {
-    if is_integral(text, p) { p + 2 } else { p + 1 }
+    if has_plus(text, p) { p + 2 } else { p + 1 }
 }
 
 // Where the piece that begins at `from` ends: at the first `;`, escaped or nested too, or at the later of `from` and `end`.
@@ -219,4 +219,5 @@ pub fn theorems()
     ensures items_in_order { λ _. ⌜ ItemsInOrder ⌝ }
     ensures item_local { λ _. ⌜ ItemLocal ⌝ }
     ensures pieces_local { λ _. ⌜ PiecesLocal ⌝ }
+    ensures plus_passed { λ _. ⌜ PlusPassed ⌝ }
 {}

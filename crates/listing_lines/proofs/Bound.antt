@@ -102,20 +102,20 @@ groups-short (p ∷ ps) text n rest items =
 
 -- keys -------------------------------------------------------------------------------------------------------------------------------
 
-key-there : (b : Bool) (it : Item) (more rest : List ℕ) → getD ((unnumberedRecord b it ++ more) ++ rest) 3 0 ≡ it .key .len
+key-there : (it : Item) (more rest : List ℕ) → getD ((unnumberedRecord it ++ more) ++ rest) 3 0 ≡ it .key .len
 unfolding unnumberedRecord itemRecord
-key-there b it more rest = refl
+key-there it more rest = refl
 
-record-sum : (is : List Item) (integral : Bool) (before rest : List ℕ) (n : ℕ) → length before ≡ itemWidth * n
-    → keySum (before ++ (recordsIn integral is ++ rest)) n (length is) + 2 * length is ≡ weight keyWeight is
+record-sum : (is : List Item) (before rest : List ℕ) (n : ℕ) → length before ≡ itemWidth * n
+    → keySum (before ++ (recordsIn is ++ rest)) n (length is) + 2 * length is ≡ weight keyWeight is
 unfolding keySum flatMap weight
-record-sum [] integral before rest n e = refl
-record-sum (i ∷ is) integral before rest n e =
-    let l : length (before ++ unnumberedRecord integral i) ≡ itemWidth * (n + 1) = let r = record-length integral i in rw length-append (omega arith) in
-    let h = record-sum is integral (before ++ unnumberedRecord integral i) rest (n + 1) l in
-    let q : (before ++ unnumberedRecord integral i) ++ (recordsIn integral is ++ rest) ≡ before ++ ((unnumberedRecord integral i ++ recordsIn integral is) ++ rest)
+record-sum [] before rest n e = refl
+record-sum (i ∷ is) before rest n e =
+    let l : length (before ++ unnumberedRecord i) ≡ itemWidth * (n + 1) = let r = record-length i in rw length-append (omega arith) in
+    let h = record-sum is (before ++ unnumberedRecord i) rest (n + 1) l in
+    let q : (before ++ unnumberedRecord i) ++ (recordsIn is ++ rest) ≡ before ++ ((unnumberedRecord i ++ recordsIn is) ++ rest)
     = simp append-assoc refl in
-    let f = item-field before ((unnumberedRecord integral i ++ recordsIn integral is) ++ rest) n 3 e ∙ key-there integral i (recordsIn integral is) rest in
+    let f = item-field before ((unnumberedRecord i ++ recordsIn is) ++ rest) n 3 e ∙ key-there i (recordsIn is) rest in
     let g = rw q at h in
     omega arith
 
@@ -128,15 +128,15 @@ records-sum : (gs : List Group) (before rest : List ℕ) (n : ℕ) → length be
 unfolding flatMap itemCount weights recordsOf recordsLength
 records-sum [] before rest n e = zero-sum (before ++ rest) n
 records-sum (g ∷ gs) before rest n e =
-    let l : length (before ++ recordsIn (g .integral) (g .items)) ≡ itemWidth * (n + length (g .items)) =
+    let l : length (before ++ recordsIn (g .items)) ≡ itemWidth * (n + length (g .items)) =
     let r = records-length g in rw length-append (omega arith) in
-    let h = records-sum gs (before ++ recordsIn (g .integral) (g .items)) rest (n + length (g .items)) l in
-    let here = record-sum (g .items) (g .integral) before (itemRecords gs ++ rest) n e in
-    let q : (before ++ recordsIn (g .integral) (g .items)) ++ (itemRecords gs ++ rest)
-    ≡ before ++ ((recordsIn (g .integral) (g .items) ++ itemRecords gs) ++ rest) = simp append-assoc refl in
-    let p : before ++ (recordsIn (g .integral) (g .items) ++ (itemRecords gs ++ rest))
-    ≡ before ++ ((recordsIn (g .integral) (g .items) ++ itemRecords gs) ++ rest) = simp append-assoc refl in
-    let s = sum-add (before ++ ((recordsIn (g .integral) (g .items) ++ itemRecords gs) ++ rest)) n (length (g .items)) (itemCount gs) in
+    let h = records-sum gs (before ++ recordsIn (g .items)) rest (n + length (g .items)) l in
+    let here = record-sum (g .items) before (itemRecords gs ++ rest) n e in
+    let q : (before ++ recordsIn (g .items)) ++ (itemRecords gs ++ rest)
+    ≡ before ++ ((recordsIn (g .items) ++ itemRecords gs) ++ rest) = simp append-assoc refl in
+    let p : before ++ (recordsIn (g .items) ++ (itemRecords gs ++ rest))
+    ≡ before ++ ((recordsIn (g .items) ++ itemRecords gs) ++ rest) = simp append-assoc refl in
+    let s = sum-add (before ++ ((recordsIn (g .items) ++ itemRecords gs) ++ rest)) n (length (g .items)) (itemCount gs) in
     let h′ = rw q at h in
     let here′ = rw p at here in
     omega arith

@@ -1,5 +1,5 @@
 -- Definitions from the records: they depend on no number, use, label or standing, and are those of the paper.
-use Prim.Native.Nat.{ℕ, suc, _+_, _-_, _*_, _%_, _<_}
+use Prim.Native.Nat.{ℕ, suc, _+_, _-_, _*_, _<_}
 use native.Mathlib.Omega.{arith}
 use mathlib.Core.Path.{_≡_, refl, sym, _∙_, ap}
 use mathlib.Core.List.{List, [], _∷_, _++_, flatMap, append-assoc}
@@ -15,7 +15,7 @@ use Rattle.base.specs.Sorted.{Each}
 use Rattle.item.specs.declared.Item.{Item}
 use Rattle.item.specs.Group.{Group}
 use Rattle.records.specs.ItemRecords.{marksOf, itemRecord, unnumberedRecord, recordsIn, recordsOf, recordsLength}
-use Rattle.records.specs.Widths.{itemWidth, group-first, group-place, group-length, group-count, group-standing}
+use Rattle.records.specs.Widths.{itemWidth, group-first, group-place, group-length, group-count, group-standing, item-marks, item-prefix-length, item-locator-length}
 use Rattle.records.proofs.RecordLaws.{records-length}
 use Rattle.pool.specs.Layout.{countOf, entryAt, entriesOf}
 use Rattle.standing.specs.GroupRecords.{Placed, groupRecord, groupRecords, placedBy, itemRecords}
@@ -42,7 +42,7 @@ unfolding keyIn
 key-same text items others k h = rw (h k 2 (omega arith), h k 3 (omega arith))
 
 bare-same : (items others : List ℕ) (k : ℕ) → SameItems items others → bareIn items k ≡ bareIn others k
-unfolding bareIn
+unfolding bareIn suppressedIn
 bare-same items others k h = rw (h k 1 (omega arith), h k 5 (omega arith), h k 11 (omega arith))
 
 close-same : (groups others : List ℕ) (g : ℕ) → SameGroups groups others → closeOfRecord groups g ≡ closeOfRecord others g
@@ -89,56 +89,47 @@ module _ (text groups otherGroups items otherItems : List ℕ) (h : SameGroups g
 -- one item and one group -------------------------------------------------------------------------------------------------------------
 
 -- the record of an item, after `k` others
-module _ (text before : List ℕ) (integral : Bool) (i : Item) (after : List ℕ) (k : ℕ) (h : length before ≡ itemWidth * k) where
-  pub key-at : keyIn text (before ++ (unnumberedRecord integral i ++ after)) k ≡ keyOf text i
+module _ (text before : List ℕ) (i : Item) (after : List ℕ) (k : ℕ) (h : length before ≡ itemWidth * k) where
+  pub key-at : keyIn text (before ++ (unnumberedRecord i ++ after)) k ≡ keyOf text i
   unfolding keyIn unnumberedRecord itemRecord
   key-at =
-      let here : List ℕ = unnumberedRecord integral i ++ after in
+      let here : List ℕ = unnumberedRecord i ++ after in
       rw (item-field before here k 2 h, item-field before here k 3 h)
 
-  pub suppressed-at : suppressedIn (before ++ (unnumberedRecord integral i ++ after)) k ≡ i .suppressed
+  pub suppressed-at : suppressedIn (before ++ (unnumberedRecord i ++ after)) k ≡ i .suppressed
   unfolding suppressedIn unnumberedRecord itemRecord marksOf
-  suppressed-at = rw (item-field before (unnumberedRecord integral i ++ after) k 11 h) (go (i .suppressed) integral)
+  suppressed-at = rw (item-field before (unnumberedRecord i ++ after) k item-marks h) (go (i .suppressed))
     where
-      go : (s b : Bool) → eqb ((pick s 1 0 + pick b 2 0) % 2) 1 ≡ s
-      go true true = refl
-      go true false = refl
-      go false true = refl
-      go false false = refl
+      go : (s : Bool) → eqb (pick s 1 0) 1 ≡ s
+      go true = refl
+      go false = refl
 
-  bare-at : bareIn (before ++ (unnumberedRecord integral i ++ after)) k ≡ bareItem i
+  bare-at : bareIn (before ++ (unnumberedRecord i ++ after)) k ≡ bareItem i
   unfolding bareIn bareItem unnumberedRecord itemRecord marksOf
   bare-at =
-      let here : List ℕ = unnumberedRecord integral i ++ after in
-      rw (item-field before here k 1 h, item-field before here k 5 h, item-field before here k 11 h)
-      (ap (λ (b : Bool). eqb (i .prefix .len) 0 && eqb (i .locator .len) 0 && b) (go (i .suppressed) integral))
-    where
-      go : (s b : Bool) → eqb ((pick s 1 0 + pick b 2 0) % 2) 0 ≡ not s
-      go true true = refl
-      go true false = refl
-      go false true = refl
-      go false false = refl
+      let here : List ℕ = unnumberedRecord i ++ after in
+      rw (suppressed-at, item-field before here k item-prefix-length h, item-field before here k item-locator-length h)
 
 -- "a group of one item, no prefix, no locator, not suppressed", and its key
-one-key : (text key before : List ℕ) (integral : Bool) (is : List Item) (after : List ℕ) (k : ℕ) (s c : Bool) → length before ≡ itemWidth * k
-    → (s && eqb (length is) 1 && bareIn (before ++ (recordsIn integral is ++ after)) k && c)
-    && same (keyIn text (before ++ (recordsIn integral is ++ after)) k) key
+one-key : (text key before : List ℕ) (is : List Item) (after : List ℕ) (k : ℕ) (s c : Bool) → length before ≡ itemWidth * k
+    → (s && eqb (length is) 1 && bareIn (before ++ (recordsIn is ++ after)) k && c)
+    && same (keyIn text (before ++ (recordsIn is ++ after)) k) key
     ≡ (s && onlyKey is && c) && same (definedKey text is) key
 unfolding onlyKey definedKey flatMap
-one-key text key before integral [] after k true c h = refl
-one-key text key before integral [] after k false c h = refl
-one-key text key before integral (i ∷ []) after k s c h =
-    rw (append-assoc (unnumberedRecord integral i) [] after, key-at text before integral i ([] ++ after) k h, bare-at text before integral i ([] ++ after) k h)
+one-key text key before [] after k true c h = refl
+one-key text key before [] after k false c h = refl
+one-key text key before (i ∷ []) after k s c h =
+    rw (append-assoc (unnumberedRecord i) [] after, key-at text before i ([] ++ after) k h, bare-at text before i ([] ++ after) k h)
     (go s)
   where
     go : (t : Bool) → (t && true && bareItem i && c) && same (keyOf text i) key ≡ (t && bareItem i && c) && same (keyOf text i) key
     go true = refl
     go false = refl
-one-key text key before integral (i ∷ j ∷ more) after k s c h = rw (ne-eqb (suc (suc (length more))) 1 (λ e. omega arith)) (go s)
+one-key text key before (i ∷ j ∷ more) after k s c h = rw (ne-eqb (suc (suc (length more))) 1 (λ e. omega arith)) (go s)
   where
     go : (t : Bool)
-        → (t && false && bareIn (before ++ (recordsIn integral (i ∷ j ∷ more) ++ after)) k && c)
-        && same (keyIn text (before ++ (recordsIn integral (i ∷ j ∷ more) ++ after)) k) key
+        → (t && false && bareIn (before ++ (recordsIn (i ∷ j ∷ more) ++ after)) k && c)
+        && same (keyIn text (before ++ (recordsIn (i ∷ j ∷ more) ++ after)) k) key
         ≡ (t && false && c) && same (keyOf text i) key
     go true = refl
     go false = refl
@@ -199,7 +190,7 @@ module _ (groups items : List ℕ) (g k : ℕ) (p : Placed) (ps : List Placed) (
   unfolding definesKeyIn definesIn definesKey defines flatMap recordsOf
   group-defines text key h =
       rw (group-at, item-count-lies, first-item-lies, group-close h, l .iis, append-assoc (recordsOf (p .group)) (itemRecords (groupsOf ps)) ia)
-      (one-key text key ib (p .group .integral) (p .group .items) (itemRecords (groupsOf ps) ++ ia) k
+      (one-key text key ib (p .group .items) (itemRecords (groupsOf ps) ++ ia) k
       (startsLine text (p .group .at)) (colonAfter text (p .group .close)) (l .icount))
 
 -- where the next group begins

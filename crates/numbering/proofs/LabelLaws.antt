@@ -1,5 +1,5 @@
 -- The label of an item record, in the form of the needs.
-use Prim.Native.Nat.{ℕ, _+_, _%_, _≤_, _<_}
+use Prim.Native.Nat.{ℕ, _+_, _≤_, _<_}
 use native.Mathlib.Omega.{arith}
 use mathlib.Core.Path.{_≡_, refl, sym, _∙_, ap}
 use mathlib.Core.List.{List}
@@ -74,12 +74,12 @@ unfolding lastAlike sameLabel suppressedIn
 before-found text items k number mode sources {j} o e h =
     let t : sameLabel text items k number j ≡ true =
     rw e (last-holds (sameLabel text items k number) k k (omega arith) (rw e at h)) in
-    let r = and-three (eqb (itemField items j item-number) number) (eqb (itemField items j item-marks % 2) (itemField items k item-marks % 2)) _ t in
+    let r = and-three (eqb (itemField items j item-number) number) (eqb (itemField items j item-marks) (itemField items k item-marks)) _ t in
     let z = eqb-false number 0 (or-false (eqb mode 0) (eqb number 0) (ltb sources number) o) in
     record {
       some = omega arith;
       numbered = eqb-true (itemField items j item-number) number (r .0);
-      mark = rw (eqb-true (itemField items j item-marks % 2) (itemField items k item-marks % 2) (r .1)) refl;
+      mark = rw (eqb-true (itemField items j item-marks) (itemField items k item-marks) (r .1)) refl;
       key = same-true (keyIn text items j) (keyIn text items k) (r .2);
     }
   where

@@ -26,14 +26,14 @@ use Rattle.numbering.proofs.ByLines.{key-same, definition-same}
 
 -- the records that a sweep leaves: none of them has a number ---------------------------------------------------------------------------
 
-records-unnumbered : (integral : Bool) (is : List Item) (after : List ℕ) (j : ℕ) → j < length is → itemField (recordsIn integral is ++ after) j item-number ≡ 0
+records-unnumbered : (is : List Item) (after : List ℕ) (j : ℕ) → j < length is → itemField (recordsIn is ++ after) j item-number ≡ 0
 unfolding flatMap unnumberedRecord itemRecord itemField
-records-unnumbered integral [] after j l = absurd (omega arith)
-records-unnumbered integral (i ∷ is) after zero l = refl
-records-unnumbered integral (i ∷ is) after (suc j) l =
+records-unnumbered [] after j l = absurd (omega arith)
+records-unnumbered (i ∷ is) after zero l = refl
+records-unnumbered (i ∷ is) after (suc j) l =
     let e : suc j ≡ 1 + j = omega arith in
-    rw (e, append-assoc (unnumberedRecord integral i) (recordsIn integral is) after)
-    (item-skip (unnumberedRecord integral i) (recordsIn integral is ++ after) 1 j 12 refl ∙ records-unnumbered integral is after j (omega arith))
+    rw (e, append-assoc (unnumberedRecord i) (recordsIn is) after)
+    (item-skip (unnumberedRecord i) (recordsIn is ++ after) 1 j 12 refl ∙ records-unnumbered is after j (omega arith))
 
 swept-numbers : (gs : List Group) (after : List ℕ) (j : ℕ) → j < itemCount gs → itemField (itemRecords gs ++ after) j item-number ≡ 0
 unfolding flatMap itemCount recordsOf recordsLength
@@ -46,7 +46,7 @@ swept-numbers (g ∷ gs) after j l =
 
     go : (t : Bool) → ltb j n ≡ t → (j - n < itemCount gs → itemField (itemRecords gs ++ after) (j - n) item-number ≡ 0)
         → itemField (recordsOf g ++ (itemRecords gs ++ after)) j item-number ≡ 0
-    go true p rec = records-unnumbered (g .integral) (g .items) (itemRecords gs ++ after) j (ltb-true j n p)
+    go true p rec = records-unnumbered (g .items) (itemRecords gs ++ after) j (ltb-true j n p)
     go false p rec =
         let q = ltb-false j n p in
         let e : n + (j - n) ≡ j = omega arith in

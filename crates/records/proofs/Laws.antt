@@ -1,9 +1,9 @@
 -- Readers of the records, in the form of the needs.
-use Prim.Native.Nat.{ℕ, _+_, _-_, _*_, _%_, _≤_, _<_}
+use Prim.Native.Nat.{ℕ, _+_, _-_, _*_, _≤_, _<_}
 use native.Mathlib.Omega.{arith}
 use mathlib.Core.Path.{_≡_, refl, sym, _∙_}
 use mathlib.Core.List.{List}
-use mathlib.Core.Bool.{_&&_}
+use mathlib.Core.Bool.{Bool, not, _&&_}
 use lib.ListN.{length, getD, set}
 use lib.Seq.{set-out}
 use lib.Dec.{eqb}
@@ -31,12 +31,12 @@ pub key-at : (text items : List ℕ) (k : ℕ) {at len : ℕ} {r : List ℕ} →
 unfolding keyIn
 key-at text items k p q e = e ∙ rw (p, q) refl
 
-pub suppressed-at : (items : List ℕ) (k : ℕ) {m : ℕ} → m ≡ itemField items k item-marks → eqb (m % 2) 1 ≡ suppressedIn items k
+pub suppressed-at : (items : List ℕ) (k : ℕ) {m : ℕ} → m ≡ itemField items k item-marks → eqb m 1 ≡ suppressedIn items k
 unfolding suppressedIn
 suppressed-at items k p = rw p refl
 
-pub bare-at : (items : List ℕ) (k : ℕ) {a b m : ℕ} → a ≡ itemField items k item-prefix-length → b ≡ itemField items k item-locator-length → m ≡ itemField items k item-marks
-    → (eqb a 0 && eqb b 0 && eqb (m % 2) 0) ≡ bareIn items k
+pub bare-at : (items : List ℕ) (k : ℕ) {a b : ℕ} {s : Bool} → a ≡ itemField items k item-prefix-length → b ≡ itemField items k item-locator-length
+    → s ≡ suppressedIn items k → (eqb a 0 && eqb b 0 && not s) ≡ bareIn items k
 unfolding bareIn
 bare-at items k p q e = rw (p, q, e) refl
 

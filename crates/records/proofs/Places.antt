@@ -1,12 +1,12 @@
--- What stands where in an item record: each place is computed.
+-- THEOREMS `ItemPlaces` and `MarksBelow`: each place of an item record is computed.
 -- Assumes nothing.
 use mathlib.Core.Path.{refl}
-use Rattle.records.specs.ItemRecords.{itemRecord}
-use Rattle.records.specs.Facts.{ItemPlaces}
+use Rattle.records.specs.ItemRecords.{marksOf, itemRecord}
+use Rattle.records.specs.Facts.{ItemPlaces, MarksBelow}
 
 pub item-places : ItemPlaces
 unfolding itemRecord
-item-places integral it number use-index label = record {
+item-places it number use-index label = record {
   width = refl;
   prefix = refl;
   prefix-length = refl;
@@ -23,3 +23,7 @@ item-places integral it number use-index label = record {
   the-label = refl;
   label-length = refl;
 }
+
+pub marks-below : MarksBelow
+unfolding itemRecord marksOf
+marks-below it number use-index label = (λ e. rw e refl, λ e. rw e refl)

@@ -17,7 +17,7 @@ use Rattle.item.specs.declared.Item.{Item}
 use Rattle.item.specs.declared.Parsed.{Parsed}
 use Rattle.item.specs.declared.Parsed.the-variants.{Good, Bad}
 use Rattle.item.specs.Items.{itemOf, isGood}
-use Rattle.item.specs.Pieces.{semicolonAt, pieces, integralAt, itemsStart, piecesOf, allGood, kept, itemsIn, itemsOf}
+use Rattle.item.specs.Pieces.{semicolonAt, pieces, itemsStart, piecesOf, allGood, kept, itemsIn, itemsOf}
 use Rattle.item.specs.Facts.{partsOf}
 use Rattle.item.proofs.Bounds.{item-within}
 use Rattle.item.proofs.Pieces.{items-more, items-last, first-good, rest-good}
@@ -29,18 +29,18 @@ use Rattle.records.specs.Widths.{itemWidth, item-prefix, item-key, item-
 
 -- how many numbers a record has ----------------------------------------------------------------------------------------------------------
 
-pub record-length : (b : Bool) (it : Item) → length (unnumberedRecord b it) ≡ itemWidth
+pub record-length : (it : Item) → length (unnumberedRecord it) ≡ itemWidth
 unfolding unnumberedRecord itemRecord
-record-length b it = refl
+record-length it = refl
 
-records-in-length : (b : Bool) (its : List Item) → length (recordsIn b its) ≡ itemWidth * length its
+records-in-length : (its : List Item) → length (recordsIn its) ≡ itemWidth * length its
 unfolding flatMap
-records-in-length b [] = refl
-records-in-length b (it ∷ its) = simp (length-append, record-length, records-in-length b its) (omega arith)
+records-in-length [] = refl
+records-in-length (it ∷ its) = simp (length-append, record-length, records-in-length its) (omega arith)
 
 pub records-length : (g : Group) → length (recordsOf g) ≡ recordsLength g
 unfolding recordsOf recordsLength
-records-length g = records-in-length (g .integral) (g .items)
+records-length g = records-in-length (g .items)
 
 -- one record -----------------------------------------------------------------------------------------------------------------------
 
@@ -52,18 +52,12 @@ pub marks-put : (row : List ℕ) (marks : ℕ) → set (set (set (set (set row i
 unfolding putAt
 marks-put row marks = refl
 
-module _ {a b : Bool} where
-  pub marks-both : a ≡ true → b ≡ true → 3 ≡ pick a 1 0 + pick b 2 0
-  marks-both p q = rw (p, q)
+module _ {a : Bool} where
+  pub marks-suppressed : a ≡ true → _≡_ {A = ℕ} 1 (pick a 1 0)
+  marks-suppressed p = rw p refl
 
-  pub marks-first : a ≡ true → b ≡ false → 1 ≡ pick a 1 0 + pick b 2 0
-  marks-first p q = rw (p, q)
-
-  pub marks-second : a ≡ false → b ≡ true → 2 ≡ pick a 1 0 + pick b 2 0
-  marks-second p q = rw (p, q)
-
-  pub marks-none : a ≡ false → b ≡ false → 0 ≡ pick a 1 0 + pick b 2 0
-  marks-none p q = rw (p, q)
+  pub marks-none : a ≡ false → _≡_ {A = ℕ} 0 (pick a 1 0)
+  marks-none p = rw p refl
 
 -- numbers put one after another: the pairs of an item, those of its locator with the code, and all of them with the marks
 module _ (row : List ℕ) {r₁ r₂ : List ℕ} where
@@ -77,17 +71,17 @@ module _ (row : List ℕ) {r₁ r₂ : List ℕ} where
   unfolding putAt
   locator-is l e₂ e₁ c w v = rw (e₂, e₁, c, w, v) refl
 
-  pub record-is : (b : Bool) (it : Item) {r₃ : List ℕ} {marks : ℕ} → r₃ ≡ putAt item-marks (marks ∷ 0 ∷ 0 ∷ 0 ∷ 0 ∷ []) r₂
+  pub record-is : (it : Item) {r₃ : List ℕ} {marks : ℕ} → r₃ ≡ putAt item-marks (marks ∷ 0 ∷ 0 ∷ 0 ∷ 0 ∷ []) r₂
       → r₂ ≡ putAt item-value (pairOf (valueOf (it .parts)) ++ pairOf (suffixOf (it .parts)) ++ (codeOf (it .parts) ∷ [])) r₁
       → r₁ ≡ putAt item-prefix (pairOf (it .prefix) ++ pairOf (it .key) ++ pairOf (it .locator)) row
-      → marks ≡ pick (it .suppressed) 1 0 + pick b 2 0 → itemWidth ≤ length row → r₃ ≡ written (unnumberedRecord b it) row
+      → marks ≡ pick (it .suppressed) 1 0 → itemWidth ≤ length row → r₃ ≡ written (unnumberedRecord it) row
   unfolding unnumberedRecord itemRecord marksOf putAt
-  record-is b it e₃ e₂ e₁ m h = rw (e₃, e₂, e₁, m) (put-written (unnumberedRecord b it) row (rw record-length h))
+  record-is it e₃ e₂ e₁ m h = rw (e₃, e₂, e₁, m) (put-written (unnumberedRecord it) row (rw record-length h))
 
 pub narrow-by : {p : Span} (r : Span) → r ≡ p → Narrow p → Narrow r
 narrow-by r e n = rw e n
 
-pub ruleset record-laws = (pair-put, marks-both, marks-first, marks-second, marks-none)
+pub ruleset record-laws = (pair-put, marks-suppressed, marks-none)
 
 -- an item's places fit a record ----------------------------------------------------------------------------------------------------
 
@@ -106,12 +100,12 @@ item-narrow s a e {it = it} q g h k =
       parts = record { value = narrow-within l (w .1 .1 .1 .0); suffix = narrow-within l (w .1 .1 .1 .1 .0) };
     }
 
-module _ (s : List ℕ) (a e : ℕ) (b : Bool) (row : List ℕ) {r : Parsed} (q : r ≡ itemOf s a e) where
-  pub piece-good : {it : Item} {out : List ℕ} → r ≡ Good it → out ≡ written (unnumberedRecord b it) row → out ≡ written (pieceRecord b (itemOf s a e)) row
+module _ (s : List ℕ) (a e : ℕ) (row : List ℕ) {r : Parsed} (q : r ≡ itemOf s a e) where
+  pub piece-good : {it : Item} {out : List ℕ} → r ≡ Good it → out ≡ written (unnumberedRecord it) row → out ≡ written (pieceRecord (itemOf s a e)) row
   unfolding pieceRecord
   piece-good g o = o ∙ rw (← q, g)
 
-  pub piece-bad : r ≡ Bad → row ≡ written (pieceRecord b (itemOf s a e)) row
+  pub piece-bad : r ≡ Bad → row ≡ written (pieceRecord (itemOf s a e)) row
   unfolding pieceRecord written
   piece-bad g = rw (← q, g)
 
@@ -120,44 +114,44 @@ pub ruleset piece-record-laws = (item-narrow, piece-good, piece-bad)
 -- all records of a group -----------------------------------------------------------------------------------------------------------
 
 -- a piece and those after it
-kept-records : (b : Bool) (r : Parsed) (rest : List Item) → recordsIn b (kept r rest) ≡ pieceRecord b r ++ recordsIn b rest
+kept-records : (r : Parsed) (rest : List Item) → recordsIn (kept r rest) ≡ pieceRecord r ++ recordsIn rest
 unfolding flatMap pieceRecord
-kept-records b (Good it) rest = refl
-kept-records b Bad rest = refl
+kept-records (Good it) rest = refl
+kept-records Bad rest = refl
 
 kept-length : (r : Parsed) (rest : List Item) → isGood r ≡ true → length (kept r rest) ≡ suc (length rest)
 kept-length (Good it) rest g = refl
 kept-length Bad rest g = absurd (true≢false (sym g))
 
-piece-length : (b : Bool) (r : Parsed) → isGood r ≡ true → length (pieceRecord b r) ≡ itemWidth
+piece-length : (r : Parsed) → isGood r ≡ true → length (pieceRecord r) ≡ itemWidth
 unfolding pieceRecord
-piece-length b (Good it) g = record-length b it
-piece-length b Bad g = absurd (true≢false (sym g))
+piece-length (Good it) g = record-length it
+piece-length Bad g = absurd (true≢false (sym g))
 
 -- The loop: the pieces from `from` on are left, and their records belong to `items` from `n` on.
-pub record Writing (s : List ℕ) (p c : ℕ) (items₀ : List ℕ) (b : Bool) (items : List ℕ) (from n : ℕ) : Type 0 where
+pub record Writing (s : List ℕ) (p c : ℕ) (items₀ : List ℕ) (items : List ℕ) (from n : ℕ) : Type 0 where
   pub long : length items ≡ length items₀
   pub good : allGood s (pieces s from c) ≡ true
   pub room : n + itemWidth * length (itemsIn s (pieces s from c)) ≤ length items
-  pub gives : written (recordsOf (groupOf s p c)) items₀ ≡ take n items ++ written (recordsIn b (itemsIn s (pieces s from c))) (drop n items)
+  pub gives : written (recordsOf (groupOf s p c)) items₀ ≡ take n items ++ written (recordsIn (itemsIn s (pieces s from c))) (drop n items)
 
-pub writing-start : (s : List ℕ) (p c : ℕ) (items : List ℕ) {b : Bool} {from : ℕ} → Writable s p c items → b ≡ integralAt s p → from ≡ itemsStart s p
-    → Writing s p c items b items from 0
+pub writing-start : (s : List ℕ) (p c : ℕ) (items : List ℕ) {from : ℕ} → Writable s p c items → from ≡ itemsStart s p
+    → Writing s p c items items from 0
 unfolding goodItems piecesOf recordsOf groupOf itemsOf recordsLength
-writing-start s p c items w e f = record {
+writing-start s p c items w f = record {
   long = refl;
   good = rw f (w .good);
   room = rw f (omega (arith, w .room));
-  gives = rw (f, e);
+  gives = rw f;
 }
 
-module _ {s : List ℕ} {p c : ℕ} {items₀ : List ℕ} {b : Bool} {items : List ℕ} {from n : ℕ} (w : Writing s p c items₀ b items from n)
+module _ {s : List ℕ} {p c : ℕ} {items₀ : List ℕ} {items : List ℕ} {from n : ℕ} (w : Writing s p c items₀ items from n)
     {q : ℕ} (d : q ≡ first (semicolonAt s) (c - from) from) where
   piece-good-is : isGood (itemOf s from q) ≡ true
   piece-good-is = first-good s from c d (w .good)
 
-  piece-record-length : length (pieceRecord b (itemOf s from q)) ≡ itemWidth
-  piece-record-length = piece-length b (itemOf s from q) piece-good-is
+  piece-record-length : length (pieceRecord (itemOf s from q)) ≡ itemWidth
+  piece-record-length = piece-length (itemOf s from q) piece-good-is
 
   more-room : q < c → n + itemWidth + itemWidth * length (itemsIn s (pieces s (q + 1) c)) ≤ length items
   more-room h =
@@ -178,34 +172,34 @@ module _ {s : List ℕ} {p c : ℕ} {items₀ : List ℕ} {b : Bool} {items : Li
   end-room h = rest-room items n itemWidth (last-room h)
 
   -- the rest of the area came back with the record of the piece
-  module _ {x : List ℕ} (o : x ≡ written (pieceRecord b (itemOf s from q)) (take (length items - n) (drop n items))) where
-    pub writing-next : q < c → Writing s p c items₀ b (take n items ++ (x ++ drop (length items - n) (drop n items))) (q + 1) (n + itemWidth)
+  module _ {x : List ℕ} (o : x ≡ written (pieceRecord (itemOf s from q)) (take (length items - n) (drop n items))) where
+    pub writing-next : q < c → Writing s p c items₀ (take n items ++ (x ++ drop (length items - n) (drop n items))) (q + 1) (n + itemWidth)
     writing-next h =
-        let r = pieceRecord b (itemOf s from q) in
+        let r = pieceRecord (itemOf s from q) in
         let its = itemsIn s (pieces s (q + 1) c) in
         let l = piece-record-length in
         let k = more-room h in
         let m : n + length r ≤ length items = omega arith in
         let e = back-length n items r m o in
-        let g = rw (items-more s from c d h, kept-records b (itemOf s from q) its) at (w .gives) in
+        let g = rw (items-more s from c d h, kept-records (itemOf s from q) its) at (w .gives) in
         record {
           long = e ∙ w .long;
           good = rest-good s from c d (w .good) h;
           room = rw e k;
-          gives = rw l at (back-next n items r m o (recordsIn b its) g);
+          gives = rw l at (back-next n items r m o (recordsIn its) g);
         }
 
     pub writing-end : c ≤ q → take n items ++ (x ++ drop (length items - n) (drop n items)) ≡ written (recordsOf (groupOf s p c)) items₀
     unfolding flatMap
     writing-end h =
-        let r = pieceRecord b (itemOf s from q) in
-        let g = rw (items-last s from c d h, kept-records b (itemOf s from q) [], append-nil r) at (w .gives) in
+        let r = pieceRecord (itemOf s from q) in
+        let g = rw (items-last s from c d h, kept-records (itemOf s from q) [], append-nil r) at (w .gives) in
         came-back n items r o ∙ sym g
 
     pub end-length : c ≤ q → length (take n items ++ (x ++ drop (length items - n) (drop n items))) ≡ length items₀
     end-length h =
         let l = piece-record-length in
         let k = last-room h in
-        back-length n items (pieceRecord b (itemOf s from q)) (omega arith) o ∙ w .long
+        back-length n items (pieceRecord (itemOf s from q)) (omega arith) o ∙ w .long
 
 pub ruleset writing-laws = (writing-start, next-room, end-room, writing-next, writing-end, end-length)

@@ -1,8 +1,8 @@
 -- Follows the code; nothing to believe: item and group records as they lie in the lent areas. Any numbers may stand there:
 -- what is past the end of an area counts as 0.
-use Prim.Native.Nat.{ℕ, _+_, _-_, _*_, _%_}
+use Prim.Native.Nat.{ℕ, _+_, _-_, _*_}
 use mathlib.Core.List.{List}
-use mathlib.Core.Bool.{Bool, _&&_}
+use mathlib.Core.Bool.{Bool, not, _&&_}
 use lib.ListN.{length, getD}
 use lib.Dec.{eqb, ltb}
 use Rattle.base.specs.Pick.{pick}
@@ -20,11 +20,11 @@ keyIn text items k = part text (itemField items k item-key) (itemField items k i
 
 -- item record `k` is marked as suppressed
 unfoldable pub suppressedIn : List ℕ → ℕ → Bool
-suppressedIn items k = eqb (itemField items k item-marks % 2) 1
+suppressedIn items k = eqb (itemField items k item-marks) 1
 
 -- item record `k` has no prefix and no locator, and is not suppressed
 unfoldable pub bareIn : List ℕ → ℕ → Bool
-bareIn items k = eqb (itemField items k item-prefix-length) 0 && eqb (itemField items k item-locator-length) 0 && eqb (itemField items k item-marks % 2) 0
+bareIn items k = eqb (itemField items k item-prefix-length) 0 && eqb (itemField items k item-locator-length) 0 && not (suppressedIn items k)
 
 -- the place of the close of group record `g`
 unfoldable pub closeOfRecord : List ℕ → ℕ → ℕ

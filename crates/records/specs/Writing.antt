@@ -14,9 +14,9 @@ use Rattle.item.specs.Group.{goodItems, groupOf}
 use Rattle.records.specs.ItemRecords.{unnumberedRecord, recordsLength}
 
 -- For the code that writes them. The record of what a piece of a group was parsed to.
-unfoldable pub pieceRecord : Bool → Parsed → List ℕ
-pieceRecord integral (Good it) = unnumberedRecord integral it
-pieceRecord integral Bad = []
+unfoldable pub pieceRecord : Parsed → List ℕ
+pieceRecord (Good it) = unnumberedRecord it
+pieceRecord Bad = []
 
 -- a row after some numbers were put at `k` and the places after it
 unfoldable pub putAt : ℕ → List ℕ → List ℕ → List ℕ

@@ -3,7 +3,6 @@
 use base::Span;
 use item::Item;
 use item::Parsed;
-use item::is_integral;
 use item::items_start;
 use item::parse_item;
 use item::piece_end;
@@ -35,13 +34,10 @@ fn write_pair(row: &mut [u16], k: usize, pair: Span)
 }
 
 // The marks of an item.
-fn marks(suppressed: bool, integral: bool) -> u16
-    ensures { λ r. ⌜ r ≡ pick suppressed 1 0 + pick integral 2 0 ⌝ }
+fn marks(suppressed: bool) -> u16
+    ensures { λ r. ⌜ r ≡ pick suppressed 1 0 ⌝ }
 {
-    if suppressed {
-        return if integral { 3 } else { 1 };
-    }
-    if integral { 2 } else { 0 }
+    if suppressed { 1 } else { 0 }
 }
 
 // The pairs of the prefix, the key and the locator.
@@ -85,24 +81,24 @@ fn write_marks(row: &mut [u16], marks: u16)
 }
 
 // The record of an item, at the front of `row`.
-fn write_record(item: Item, integral: bool, row: &mut [u16])
+fn write_record(item: Item, row: &mut [u16])
     requires { ⌜ (itemWidth ≤ length (now row)) × NarrowItem item ⌝ }
-    ensures { λ _. ⌜ now (row .exit) ≡ written (unnumberedRecord integral item) (now (row .entry)) ⌝ }
+    ensures { λ _. ⌜ now (row .exit) ≡ written (unnumberedRecord item) (now (row .entry)) ⌝ }
 {
     let l = item.parts;
     write_parts(row, item);
     write_locator(row, l);
-    write_marks(row, marks(item.suppressed, integral));
+    write_marks(row, marks(item.suppressed));
 }
 
 // The record of the item from `from` to `to`, at the front of `row`; nothing where it is bad.
-fn write_piece(text: &[u8], from: usize, to: usize, integral: bool, row: &mut [u16])
+fn write_piece(text: &[u8], from: usize, to: usize, row: &mut [u16])
     requires { ⌜ (to ≤ length (now text)) × (length (now text) ≤ 65535) × (itemWidth ≤ length (now row)) ⌝ }
-    ensures { λ _. ⌜ now (row .exit) ≡ written (pieceRecord integral (itemOf (now (text .entry)) from to)) (now (row .entry)) ⌝ }
+    ensures { λ _. ⌜ now (row .exit) ≡ written (pieceRecord (itemOf (now (text .entry)) from to)) (now (row .entry)) ⌝ }
 {
     let parsed = parse_item(text, from, to);
     match parsed {
-        Parsed::Good(it) => write_record(it, integral, row),
+        Parsed::Good(it) => write_record(it, row),
         Parsed::Bad => {}
     }
 }
@@ -112,15 +108,14 @@ pub fn write_records(text: &[u8], p: usize, c: usize, items: &mut [u16])
     requires { ⌜ Writable (now text) p c (now items) ⌝ }
     ensures { λ _. ⌜ now (items .exit) ≡ written (recordsOf (groupOf (now (text .entry)) p c)) (now (items .entry)) ⌝ }
 {
-    let integral = is_integral(text, p);
     let mut from = items_start(text, p);
     let mut to = piece_end(text, from, c);
     let mut n = 0;
     while to < c {
-        write_piece(text, from, to, integral, &mut items[n..]);
+        write_piece(text, from, to, &mut items[n..]);
         n += crate::ITEM_WIDTH;
         from = to + 1;
         to = piece_end(text, from, c);
     }
-    write_piece(text, from, to, integral, &mut items[n..]);
+    write_piece(text, from, to, &mut items[n..]);
 }

@@ -4,7 +4,7 @@ pub mod item_records;
 ghost use mathlib.Core.Path.{_≡_};
 ghost use Prim.Native.Nat.{_+_, _<_};
 ghost use lib.ListN.{getD, set};
-ghost use Rattle.records.specs.Facts.{ItemPlaces};
+ghost use Rattle.records.specs.Facts.{ItemPlaces, MarksBelow};
 ghost use Rattle.records.specs.Records.{groupField, keyIn, suppressedIn, bareIn, closeOfRecord, nextIn};
 ghost use Rattle.records.specs.Fields.{itemField};
 ghost use Rattle.records.specs.Bounds.{recordBound};
@@ -109,7 +109,7 @@ pub fn suppressed_in(items: &[u16], k: usize) -> bool
     requires { ⌜ k < recordBound ⌝ }
     ensures { λ r. ⌜ r ≡ suppressedIn (now (items .entry)) k ⌝ }
 {
-    item_field(items, k, ITEM_MARKS) % 2 == 1
+    item_field(items, k, ITEM_MARKS) == 1
 }
 
 // Whether it has no prefix, no locator, and is not suppressed.
@@ -119,8 +119,8 @@ pub fn bare_in(items: &[u16], k: usize) -> bool
 {
     let prefix = item_field(items, k, ITEM_PREFIX_LENGTH);
     let locator = item_field(items, k, ITEM_LOCATOR_LENGTH);
-    let marks = item_field(items, k, ITEM_MARKS);
-    (prefix == 0) & (locator == 0) & (marks % 2 == 0)
+    let suppressed = suppressed_in(items, k);
+    (prefix == 0) & (locator == 0) & !suppressed
 }
 
 // The place of the close of group record `g`.
@@ -144,7 +144,8 @@ pub fn next_in(text: &[u8], groups: &[u16], n: usize, g: usize) -> usize
     }
 }
 
-// The theorem of specs/Facts. The function does nothing; its contract states it.
+// The theorems of specs/Facts. The function does nothing; its contract states them.
 pub fn theorems()
     ensures item_places { λ _. ⌜ ItemPlaces ⌝ }
+    ensures marks_below { λ _. ⌜ MarksBelow ⌝ }
 {}

@@ -17,7 +17,7 @@ use Rattle.item.specs.declared.Item.{Item}
 use Rattle.item.specs.declared.Parsed.the-variants.{Good, Bad}
 use Rattle.item.specs.Items.{wins, winner, itemAt, itemIn, itemOf}
 use Rattle.item.proofs.Parts.{wins-by}
-use Rattle.item.specs.Pieces.{stretch, semicolonAt, endsPiece, piecesIn, pieces, integralAt, itemsStart, piecesOf, parsed, kept, itemsIn, itemsOf}
+use Rattle.item.specs.Pieces.{stretch, semicolonAt, endsPiece, piecesIn, pieces, plusAt, itemsStart, piecesOf, parsed, kept, itemsIn, itemsOf}
 
 -- the weights of items, added
 unfoldable pub weight : (Item → ℕ) → List Item → ℕ
@@ -72,7 +72,7 @@ module _ (s : List ℕ) (w : Item → ℕ) (light : Light s w) where
   -- the bracket's own byte stands for the `;` that the last piece lacks
   pub items-weight : (p c : ℕ) → p < c → weight w (itemsOf s p c) ≤ c - p
   unfolding itemsOf piecesOf pieces itemsStart
-  items-weight p c h = go (integralAt s p)
+  items-weight p c h = go (plusAt s p)
     where
       go : (t : Bool) → weight w (itemsIn s (piecesIn (c - pick t (p + 2) (p + 1)) s (pick t (p + 2) (p + 1)) (pick t (p + 2) (p + 1)))) ≤ c - p
       go true = let k = pieces-weight (c - (p + 2)) (p + 2) (p + 2) (omega arith) in omega arith

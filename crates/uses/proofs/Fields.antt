@@ -40,11 +40,11 @@ unfolding groupField
 group-field before here g c h = rw (← h) (getD-append-add before here c 0)
 
 -- the last four numbers of an item record
-pub set-last : (before : List ℕ) (integral : Bool) (i : Item) (n₀ u₀ : ℕ) (l₀ : Span) (after : List ℕ) (k n u at len : ℕ)
+pub set-last : (before : List ℕ) (i : Item) (n₀ u₀ : ℕ) (l₀ : Span) (after : List ℕ) (k n u at len : ℕ)
     → length before ≡ itemWidth * k
-    → setLast (before ++ (itemRecord integral i n₀ u₀ l₀ ++ after)) k n u at len ≡ before ++ (itemRecord integral i n u (span at len) ++ after)
+    → setLast (before ++ (itemRecord i n₀ u₀ l₀ ++ after)) k n u at len ≡ before ++ (itemRecord i n u (span at len) ++ after)
 unfolding setLast itemRecord
-set-last before integral i n₀ u₀ l₀ after k n u at len h =
+set-last before i n₀ u₀ l₀ after k n u at len h =
     rw (← h) (rw (set-append-add, set-append-add, set-append-add, set-append-add))
 
 -- the standing of a group record

@@ -54,11 +54,11 @@ module _ (text items key : List ℕ) (number mark j : ℕ) {a : ℕ} (p : a ≡ 
   alike-other h = rw (← p, ne-eqb a number h) refl
 
   module _ {b : ℕ} (e : a ≡ number) (q : b ≡ itemField items j item-marks) where
-    pub alike-unmarked : (b % 2 ≡ mark → ⊥) → false ≡ alikeAt text items number mark key j
-    alike-unmarked h = rw (← p, ← q, eq-eqb a number e, ne-eqb (b % 2) mark h) refl
+    pub alike-unmarked : (b ≡ mark → ⊥) → false ≡ alikeAt text items number mark key j
+    alike-unmarked h = rw (← p, ← q, eq-eqb a number e, ne-eqb b mark h) refl
 
-    pub alike-same : {own : List ℕ} {r : Bool} → b % 2 ≡ mark → own ≡ keyIn text items j → r ≡ same own key → r ≡ alikeAt text items number mark key j
-    alike-same h o s = s ∙ rw (← p, ← q, eq-eqb a number e, eq-eqb (b % 2) mark h, o) refl
+    pub alike-same : {own : List ℕ} {r : Bool} → b ≡ mark → own ≡ keyIn text items j → r ≡ same own key → r ≡ alikeAt text items number mark key j
+    alike-same h o s = s ∙ rw (← p, ← q, eq-eqb a number e, eq-eqb b mark h, o) refl
 
 -- the search for it
 module _ (text items : List ℕ) (k number i : ℕ) where
@@ -70,7 +70,7 @@ module _ (text items : List ℕ) (k number i : ℕ) where
   alike-end p = last-out (sameLabel text items k number) k i p
 
   module _ {w : ℕ} {b : Bool} {mark : ℕ} {key : List ℕ} (p : w ≡ last (sameLabel text items k number) i k) (l : 0 < i)
-      (o : mark ≡ itemField items k item-marks % 2) (e : key ≡ keyIn text items k)
+      (o : mark ≡ itemField items k item-marks) (e : key ≡ keyIn text items k)
       (q : b ≡ alikeAt text items number mark key (i - 1)) where
     alike-tested : b ≡ sameLabel text items k number (i - 1)
     unfolding sameLabel

@@ -30,11 +30,11 @@ lastUse text items k = last (sameUse text items k) k k
 -- item record `j` has this number, this mark of suppression and this key
 abbrev pub alikeAt : List ℕ → List ℕ → ℕ → ℕ → List ℕ → ℕ → Bool
 alikeAt text items number mark key j =
-    eqb (itemField items j item-number) number && eqb (itemField items j item-marks % 2) mark && same (keyIn text items j) key
+    eqb (itemField items j item-number) number && eqb (itemField items j item-marks) mark && same (keyIn text items j) key
 
 -- it has this number, and the mark of suppression and the key of record `k`
 unfoldable pub sameLabel : List ℕ → List ℕ → ℕ → ℕ → ℕ → Bool
-sameLabel text items k number j = alikeAt text items number (itemField items k item-marks % 2) (keyIn text items k) j
+sameLabel text items k number j = alikeAt text items number (itemField items k item-marks) (keyIn text items k) j
 
 -- the last such record before `k`; `k` where there is none
 unfoldable pub lastAlike : List ℕ → List ℕ → ℕ → ℕ → ℕ

@@ -49,7 +49,7 @@ fn is_alike(text: &[u8], items: &[u16], number: usize, mark: usize, key: &[u8], 
     if records::item_field(items, j, records::ITEM_NUMBER) != number {
         return false;
     }
-    if records::item_field(items, j, records::ITEM_MARKS) % 2 != mark {
+    if records::item_field(items, j, records::ITEM_MARKS) != mark {
         return false;
     }
     base::slices::is_same(records::key_in(text, items, j), key)
@@ -61,7 +61,7 @@ pub fn last_alike(text: &[u8], items: &[u16], k: usize, number: usize) -> usize
     requires { ⌜ k < recordBound ⌝ }
     ensures { λ r. ⌜ r ≡ lastAlike (now (text .entry)) (now (items .entry)) k number ⌝ }
 {
-    let mark = records::item_field(items, k, records::ITEM_MARKS) % 2;
+    let mark = records::item_field(items, k, records::ITEM_MARKS);
     let key = records::key_in(text, items, k);
     let mut j = k;
     while 0 < j {

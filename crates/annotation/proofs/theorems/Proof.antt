@@ -3,7 +3,7 @@ use Rattle.annotation.proofs.Truth.{annotate-true, annotate-leaves, ann
 use Rattle.annotation.proofs.Uses.{uses-added}
 use Rattle.annotation.proofs.Numbers.{sources-in-order, sources-differ, numbers-are-places, numbers-stay}
 use Rattle.annotation.proofs.Standings.{standings-stated}
-use Rattle.annotation.proofs.Records.{records-numbered}
+use Rattle.annotation.proofs.Records.{records-numbered, records-marked}
 use Rattle.annotation.proofs.UsesRun.{records-used, sources-used}
 use Rattle.annotation.proofs.References.{references-all, references-by-number, references-by-rank}
 use Rattle.annotation.proofs.Found.{swept-fits}
@@ -13,7 +13,7 @@ use Rattle.annotation.proofs.theorems.Statement.{statement}
 use Rattle.annotation.proofs.theorems.Tie as tie
 
 returns : tie.Need-returns
-returns c = (annotate-true, (annotate-leaves, (annotate-keeps, (sources-in-order, (sources-differ, (numbers-are-places, (numbers-stay, (standings-stated, (records-numbered, (records-used, (sources-used, (uses-added, (references-all, (references-by-number, (references-by-rank, (swept-fits, (definitions-agree, (numbers-agree, (references-agree, content-agrees)))))))))))))))))))
+returns c = (annotate-true, (annotate-leaves, (annotate-keeps, (sources-in-order, (sources-differ, (numbers-are-places, (numbers-stay, (standings-stated, (records-numbered, (records-marked, (records-used, (sources-used, (uses-added, (references-all, (references-by-number, (references-by-rank, (swept-fits, (definitions-agree, (numbers-agree, (references-agree, content-agrees))))))))))))))))))))
 
 pub theorems-spec : {M : Type 1} → statement M
 theorems-spec = tie.close (tie.spec returns)

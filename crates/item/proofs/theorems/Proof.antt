@@ -1,12 +1,13 @@
--- `item::theorems` meets its contract: the theorems of proofs/Parts, proofs/Groups and proofs/Local.
+-- `item::theorems` meets its contract: the theorems of proofs/Parts, proofs/Groups, proofs/Local and proofs/Plus.
 use Rattle.item.proofs.Parts.{item-in-order}
 use Rattle.item.proofs.Groups.{items-in-order}
 use Rattle.item.proofs.Local.{item-local, pieces-local}
+use Rattle.item.proofs.Plus.{plus-passed}
 use Rattle.item.proofs.theorems.Statement.{statement}
 use Rattle.item.proofs.theorems.Tie as tie
 
 returns : tie.Need-returns
-returns c = (item-in-order, (items-in-order, (item-local, pieces-local)))
+returns c = (item-in-order, (items-in-order, (item-local, (pieces-local, plus-passed))))
 
 pub theorems-spec : {M : Type 1} → statement M
 theorems-spec = tie.close (tie.spec returns)

@@ -1,6 +1,6 @@
 -- `uses::last_alike` meets its contract. The loop's invariant: the last such record below `j` is the last one below `k`. The measure is
 -- `j`. Assumes nothing.
-use Prim.Native.Nat.{_%_, _≤_}
+use Prim.Native.Nat.{_≤_}
 use mathlib.Core.Path.{_≡_}
 use Rattle.base.specs.LastPlace.{last}
 use Rattle.records.specs.Records.{keyIn}
@@ -13,7 +13,7 @@ use Rattle.uses.proofs.last_alike.Tie as tie
 use Rattle.records.specs.Widths.{item-marks}
 
 abbrev Inv-loop : tie.InvT-loop
-Inv-loop text items k number mark key j₀ j = (j ≤ k) × (mark ≡ itemField items k item-marks % 2) × (key ≡ keyIn text items k) × (lastAlike text items k number ≡ last (sameLabel text items k number) j k)
+Inv-loop text items k number mark key j₀ j = (j ≤ k) × (mark ≡ itemField items k item-marks) × (key ≡ keyIn text items k) × (lastAlike text items k number ≡ last (sameLabel text items k number) j k)
 
 abbrev μ-loop : tie.MeasureT-loop
 μ-loop text items k number mark key j₀ j = j

@@ -5,4 +5,4 @@ use Rattle.records.proofs.item_records.marks.Statement.{statement}
 use Rattle.records.proofs.item_records.marks.Tie as tie
 
 pub marks-spec : {M : Type 1} → statement M
-marks-spec = tie.close (tie.spec (λ c. search (record-laws, needs)) (λ c. search (record-laws, needs)) (λ c. search (record-laws, needs)) (λ c. search (record-laws, needs)))
+marks-spec = tie.close (tie.spec (λ c. search (record-laws, needs)) (λ c. search (record-laws, needs)))

@@ -12,11 +12,11 @@ use Rattle.records.proofs.item_records.write_records.Statement.{stateme
 use Rattle.records.proofs.item_records.write_records.Tie as tie
 
 abbrev Inv-loop : tie.InvT-loop
-Inv-loop text p c items₀ integral from₀ to₀ n₀ items from to n =
-    (from ≤ to) × (to ≤ length text) × (to ≡ first (semicolonAt text) (c - from) from) × Writing text p c items₀ integral items from n
+Inv-loop text p c items₀ from₀ to₀ n₀ items from to n =
+    (from ≤ to) × (to ≤ length text) × (to ≡ first (semicolonAt text) (c - from) from) × Writing text p c items₀ items from n
 
 abbrev μ-loop : tie.MeasureT-loop
-μ-loop text p c items₀ integral from₀ to₀ n₀ items from to n = c - from
+μ-loop text p c items₀ from₀ to₀ n₀ items from to n = c - from
 
 pub write-records-spec : {M : Type 1} → statement M
 write-records-spec =
@@ -24,7 +24,6 @@ write-records-spec =
     (tie.spec
     Inv-loop
     μ-loop
-    (λ c κs. search needs)
     (λ c κs. search needs)
     (λ c κs. search needs)
     (λ c. (search piece-laws, search (piece-laws, needs), search needs, search (writing-laws, needs)))
