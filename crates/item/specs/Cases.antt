@@ -12,7 +12,7 @@ use Rattle.text.specs.Trim.{trimStart, trimEnd}
 use Rattle.key.specs.Keys.{isFirst, isMark, isKey, runEnd, keyEnd}
 use Rattle.locator.specs.declared.Locator.the-variants.{Nothing, Plain, Labelled}
 use Rattle.locator.specs.Matchers.{matchers}
-use Rattle.locator.specs.Locators.{locatorOf, locatorFrom, labelled, valued, valueEnd, isLoose, valueRun, isValue, labelOf, orPage, matchIn, stands, mayFollow, fits, lower, skipBlanks}
+use Rattle.locator.specs.Locators.{locatorOf, locatorFrom, labelled, valued, valueEnd, isLoose, valueRun, inValue, romanEnd, lettersEnd, isDigitOrMark, isRoman, labelOf, orPage, matchIn, stands, mayFollow, fits, lower, skipBlanks}
 use Rattle.item.specs.declared.Parsed.the-variants.{Good, Bad}
 use Rattle.item.specs.declared.Judged.the-variants.{Good as AllGood, Bad as FirstBad}
 use Rattle.item.specs.Items.{itemOf, itemIn, itemAt, locatorStart, prefixEnd, suppresses, winner, wins, keyServes, atSign}
@@ -23,7 +23,7 @@ use Rattle.item.specs.Judge.{judgedOf, judgedIn, firstBad}
 page-three : itemOf (ascii "[x -@a, p. 3]") 1 12
     ≡ Good (record { prefix = span 1 1; key = span 5 1; whole = span 8 4; locator = Labelled 9 (span 11 1) missing; suppressed = true })
 unfolding itemOf itemIn itemAt locatorStart prefixEnd suppresses winner wins keyServes atSign
-    locatorOf locatorFrom labelled valued valueEnd isLoose valueRun isValue labelOf orPage matchIn stands mayFollow
+    locatorOf locatorFrom labelled valued valueEnd isLoose valueRun inValue romanEnd lettersEnd isDigitOrMark isRoman labelOf orPage matchIn stands mayFollow
     fits lower skipBlanks matchers isFirst isMark isKey runEnd keyEnd
     spaceWidth isWhite trimStart trimEnd escapedAt slashes first lastEnd spanOf ascii
 page-three = refl
@@ -32,7 +32,7 @@ page-three = refl
 comma : itemOf (ascii "[@a,]") 1 4
     ≡ Good (record { prefix = missing; key = span 2 1; whole = missing; locator = Nothing; suppressed = false })
 unfolding itemOf itemIn itemAt locatorStart prefixEnd suppresses winner wins keyServes atSign
-    locatorOf locatorFrom labelled valued valueEnd isLoose valueRun isValue labelOf orPage matchIn stands mayFollow
+    locatorOf locatorFrom labelled valued valueEnd isLoose valueRun inValue romanEnd lettersEnd isDigitOrMark isRoman labelOf orPage matchIn stands mayFollow
     fits lower skipBlanks matchers isFirst isMark isKey runEnd keyEnd
     spaceWidth isWhite trimStart trimEnd escapedAt slashes first lastEnd spanOf ascii
 comma = refl
@@ -40,7 +40,7 @@ comma = refl
 alone : itemOf (ascii "[ @a ]") 1 5
     ≡ Good (record { prefix = missing; key = span 3 1; whole = missing; locator = Nothing; suppressed = false })
 unfolding itemOf itemIn itemAt locatorStart prefixEnd suppresses winner wins keyServes atSign
-    locatorOf locatorFrom labelled valued valueEnd isLoose valueRun isValue labelOf orPage matchIn stands mayFollow
+    locatorOf locatorFrom labelled valued valueEnd isLoose valueRun inValue romanEnd lettersEnd isDigitOrMark isRoman labelOf orPage matchIn stands mayFollow
     fits lower skipBlanks matchers isFirst isMark isKey runEnd keyEnd
     spaceWidth isWhite trimStart trimEnd escapedAt slashes first lastEnd spanOf ascii
 alone = refl
@@ -49,7 +49,7 @@ alone = refl
 first-wins : itemOf (ascii "[@a, @b]") 1 7
     ≡ Good (record { prefix = missing; key = span 2 1; whole = span 5 2; locator = Plain (span 5 2); suppressed = false })
 unfolding itemOf itemIn itemAt locatorStart prefixEnd suppresses winner wins keyServes atSign
-    locatorOf locatorFrom labelled valued valueEnd isLoose valueRun isValue labelOf orPage matchIn stands mayFollow
+    locatorOf locatorFrom labelled valued valueEnd isLoose valueRun inValue romanEnd lettersEnd isDigitOrMark isRoman labelOf orPage matchIn stands mayFollow
     fits lower skipBlanks matchers isFirst isMark isKey runEnd keyEnd
     spaceWidth isWhite trimStart trimEnd escapedAt slashes first lastEnd spanOf ascii
 first-wins = refl
