@@ -59,8 +59,9 @@
  *   - A key is an ASCII letter, digit or `_`, then any of these or of `: . # $ % & + ? < > ~ / -`: that of `@a.` is `a.`.
  *   - A locator begins with a label from a fixed table, in any ASCII case (`p.` `pp.` `page` `pages`, `chap.`, `s.v.`, `§`, ..; the codes are
  *     enum citations_label_code), if after it the locator ends or a space, tab, digit, `§` or `¶` stands. Without one a first digit means
- *     page; anything else is all suffix. The value goes on over digits, IVXLCDM, ivxlcdm, spaces and `. , & -`, and loses these last five
- *     at its end. The rest is suffix.
+ *     page; anything else is all suffix. The value goes on over digits, spaces, `. , & -` and runs of ASCII letters that are all of IVXLCDM or
+ *     ivxlcdm; it ends before any other run, and loses spaces and `. , & -` at its end. The rest is suffix: `p. 12 cited` has the value `12`
+ *     and the suffix `cited`.
  *   - A definition line begins, at the text's start or after a line feed outside groups, with a group of one item (no prefix, no locator,
  *     not suppressed), then `:` and at least one space. It runs to the next line feed outside groups. If `{` comes right after the spaces,
  *     and then `}` before any group or line feed, its attributes stand between them: words `name=value`, parted by white space. `author` and

@@ -93,6 +93,7 @@ pub fn worst(size: usize) -> Vec<Text> {
         by_itself("deep nesting", "[@a,".repeat(nested) + &"]".repeat(nested)),
         by_itself("only `[`", "[".repeat(size)),
         by_itself("`[`, then only `;`", format!("[{}]", ";".repeat(size - 2))),
+        by_itself("one locator of `i`", format!("[@a, p. {}]", "i".repeat(size * 15 / 16))),
         by_itself("one group", format!("[@a{}]", ";@a".repeat(size * 15 / 16 / 3))),
         with_long_group(
             format!("{lines} definition lines, {} cited", lines / 5),

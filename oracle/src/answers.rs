@@ -53,6 +53,18 @@ pub fn locator(bytes: &[u8]) -> [usize; 6] {
     out
 }
 
+/// Whether document 02's rule of a value (W2) parts from the Rust's in a locator that the Rust gives this value and this suffix, pairs into
+/// `text`: they stand side by side, with an ASCII letter on each side.
+pub fn rules_part(text: &[u8], value: [usize; 2], suffix: [usize; 2]) -> bool {
+    let end = value[0] + value[1];
+    value[1] > 0 && suffix[1] > 0 && end == suffix[0] && text[end - 1].is_ascii_alphabetic() && text[end].is_ascii_alphabetic()
+}
+
+/// The same of an item by its record.
+pub fn rules_part_in(text: &[u8], item: &Record) -> bool {
+    rules_part(text, [item[6], item[7]], [item[8], item[9]])
+}
+
 /// The source text call: number and text.
 pub fn source_text(bytes: &[u8], entry: usize) -> (usize, String) {
     if bytes.is_empty() {

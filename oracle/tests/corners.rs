@@ -1,6 +1,6 @@
 //! The corners of document 01 that the Rust settles, asked of the oracle, and the index against the unlimited scan.
 
-use oracle::answers::Session;
+use oracle::answers::{self, Session};
 use oracle::generate;
 use oracle::protocol::{hex, Answer, Request};
 
@@ -134,12 +134,39 @@ fn locators() {
         ("§§3", "3|3|"),
         ("chapterIV", "0||chapterIV"),
         ("PP. 3-5, see", "9|3-5|see"),
-        ("p. 12 cited", "9|12 ci|ted"),
+        ("p. 12 cited", "9|12 ci|ted"), // the Rust's; document 02 (W2) has 12 and cited
         ("vol 3", "0||vol 3"),
         ("", "0||"),
     ];
     for (text, answer) in cases {
         assert_eq!(locator(text), answer, "{text}");
+    }
+}
+
+// Where document 02's rule of a value (W2) parts from the Rust's: exactly where the Rust cuts a run of ASCII letters.
+#[test]
+fn rules_part() {
+    let cases = [
+        ("p. 12 cited", true),
+        ("3ca", true),
+        ("p. cited", true),
+        ("p. 12cited", true),
+        ("p. XIVth", true),
+        ("p. 12 x.cited", true),
+        ("p. 12 mild days", true),
+        ("p. 12 mild", false),
+        ("p. 12 see", false),
+        ("p. 12-see", false),
+        ("p. 12 c\u{e9}", false),
+        ("3 d'or", false),
+        ("12c3ted", false),
+        ("p. 3\tiv", false),
+        ("3 ci", false),
+        ("chapterIV", false),
+    ];
+    for (text, parts) in cases {
+        let n = answers::locator(text.as_bytes());
+        assert_eq!(answers::rules_part(text.as_bytes(), [n[2], n[3]], [n[4], n[5]]), parts, "{text}");
     }
 }
 

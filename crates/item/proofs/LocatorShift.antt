@@ -17,7 +17,7 @@ use Rattle.base.proofs.Lasts.{last-end-shift}
 use Rattle.locator.specs.declared.Label.{Label}
 use Rattle.locator.specs.declared.Locator.the-variants.{Nothing, Plain}
 use Rattle.locator.specs.Matchers.{Matcher, matchers, no-code, code-page}
-use Rattle.locator.specs.Locators.{isBlank, isDigit, skipBlanks, lower, fits, isSign, mayFollow, label, stands, matchIn, orPage, labelOf, isValue, valueRun, isLoose, valueEnd, valued, labelled, locatorFrom, locatorOf}
+use Rattle.locator.specs.Locators.{isBlank, isDigit, skipBlanks, lower, fits, isSign, mayFollow, label, stands, matchIn, orPage, labelOf, isLetter, isRoman, isDigitOrMark, lettersEnd, romanEnd, inValue, valueRun, isLoose, valueEnd, valued, labelled, locatorFrom, locatorOf}
 use Rattle.item.specs.Moved.{movedSpan, movedLocator}
 
 -- tests and searches ---------------------------------------------------------------------------------------------------------------------
@@ -131,15 +131,28 @@ module _ (s t : List ℕ) (d e : ℕ) (same : (j : ℕ) → j < e → byteAt t j
       go true = refl
       go false = refl
 
+  letters-move : (k y : ℕ) → y ≤ e → lettersEnd s (k + d) (y + d) ≡ lettersEnd t k y + d
+  unfolding lettersEnd
+  letters-move k y h =
+      first-move d (λ j. not (isLetter (byteAt t j))) (λ j. not (isLetter (byteAt s j))) e k y h (λ z l. ap (λ b. not (isLetter b)) (same z l))
+
+  roman-move : (k y : ℕ) → y ≤ e → romanEnd s (k + d) (y + d) ≡ romanEnd t k y + d
+  unfolding romanEnd
+  roman-move k y h =
+      first-move d (λ j. not (isRoman (byteAt t j))) (λ j. not (isRoman (byteAt s j))) e k y h (λ z l. ap (λ b. not (isRoman b)) (same z l))
+
+  in-move : (y z : ℕ) → y ≤ e → z < e → inValue t y z ≡ inValue s (y + d) (z + d)
+  unfolding inValue
+  in-move y z h l = rw (letters-move z y h, roman-move z y h, eqb-move d (romanEnd t z y) (lettersEnd t z y), same z l) refl
+
   -- how far a value goes: the law to prove anew where that rule changes
   run-move : (v y : ℕ) → y ≤ e → valueRun s (v + d) (y + d) ≡ valueRun t v y + d
   unfolding valueRun
-  run-move v y h =
-      first-move d (λ k. not (isValue (byteAt t k))) (λ k. not (isValue (byteAt s k))) e v y h (λ z l. ap (λ b. not (isValue b)) (same z l))
+  run-move v y h = first-move d (λ k. not (inValue t y k)) (λ k. not (inValue s (y + d) k)) e v y h (λ z l. ap not (in-move y z h l))
 
   run-by : (v y : ℕ) → v < valueRun t v y → valueRun t v y ≤ y
   unfolding valueRun
-  run-by v y h = omega (arith, first-by (λ k. not (isValue (byteAt t k))) (y - v) v)
+  run-by v y h = omega (arith, first-by (λ k. not (inValue t y k)) (y - v) v)
 
   value-move : (v run : ℕ) → (v < run → run ≤ e) → valueEnd s (v + d) (run + d) ≡ valueEnd t v run + d
   unfolding valueEnd lastEnd

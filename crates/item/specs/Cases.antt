@@ -13,7 +13,7 @@ use Rattle.text.specs.Trim.{trimStart, trimEnd}
 use Rattle.key.specs.Keys.{isFirst, isMark, isKey, runEnd, keyEnd}
 use Rattle.locator.specs.declared.Locator.the-variants.{Nothing, Plain, Labelled}
 use Rattle.locator.specs.Matchers.{matchers}
-use Rattle.locator.specs.Locators.{locatorOf, locatorFrom, labelled, valued, valueEnd, isLoose, valueRun, isValue, labelOf, orPage, matchIn, stands, mayFollow, fits, lower, skipBlanks}
+use Rattle.locator.specs.Locators.{locatorOf, locatorFrom, labelled, valued, valueEnd, isLoose, valueRun, inValue, romanEnd, lettersEnd, isDigitOrMark, isRoman, labelOf, orPage, matchIn, stands, mayFollow, fits, lower, skipBlanks}
 use Rattle.item.specs.declared.Parsed.the-variants.{Good, Bad}
 use Rattle.item.specs.declared.Judged.the-variants.{Good as AllGood, Bad as FirstBad}
 use Rattle.item.specs.Items.{itemOf, itemIn, itemAt, locatorStart, prefixEnd, suppresses, winner, wins, keyServes, atSign}
@@ -24,7 +24,7 @@ use Rattle.item.specs.Judge.{judgedOf, judgedIn, firstBad}
 unfoldable opened : ℕ
 unfolding judgedOf judgedIn firstBad allGood parsed piecesOf pieces piecesIn semicolonAt itemsStart plusAt
     itemOf itemIn itemAt locatorStart prefixEnd suppresses winner wins keyServes atSign
-    locatorOf locatorFrom labelled valued valueEnd isLoose valueRun isValue labelOf orPage matchIn stands mayFollow
+    locatorOf locatorFrom labelled valued valueEnd isLoose valueRun inValue romanEnd lettersEnd isDigitOrMark isRoman labelOf orPage matchIn stands mayFollow
     fits lower skipBlanks matchers isFirst isMark isKey runEnd keyEnd
     spaceWidth isWhite trimStart trimEnd escapedAt slashes first lastEnd spanOf ascii
 opened = 0

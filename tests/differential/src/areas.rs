@@ -86,7 +86,13 @@ impl<T: Copy + Default + PartialEq + std::fmt::Debug> Area<T> {
 
     /// The first elements, so many, may be anything: what they are is right.
     pub fn accept(&mut self, count: usize) {
-        self.expected[GUARD..GUARD + count].copy_from_slice(&self.held[GUARD..GUARD + count]);
+        self.accept_from(0, count);
+    }
+
+    /// So many elements from a place on may be anything.
+    pub fn accept_from(&mut self, at: usize, count: usize) {
+        let part = GUARD + at..GUARD + at + count;
+        self.expected[part.clone()].copy_from_slice(&self.held[part]);
     }
 
     /// The first element that is not as it should be.

@@ -82,7 +82,17 @@ impl Runner for Lists {
             What::Annotate { .. } if !silent && number == 0 => answer[raw::ANNOTATION_SOURCES] as usize,
             _ => 0,
         };
-        Ok(Done { kind: call.what.kind(), number, built: after != note, silent, stray: false, sources, note: after })
+        Ok(Done {
+            kind: call.what.kind(),
+            number,
+            built: after != note,
+            silent,
+            stray: false,
+            sources,
+            locators: 0,
+            parted: 0,
+            note: after,
+        })
     }
 
     fn areas(&mut self) -> &mut Areas {

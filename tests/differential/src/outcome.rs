@@ -18,6 +18,9 @@ pub struct Done {
     pub stray: bool,
     /// How many sources an accepted annotation has.
     pub sources: usize,
+    /// How many locators it answered, and of how many value and suffix were not compared, since document 02's rule parts from the Rust's.
+    pub locators: usize,
+    pub parted: usize,
     /// The note after it.
     pub note: u8,
 }
@@ -62,6 +65,8 @@ pub struct Counts {
     silent: [u64; KINDS.len()],
     stray: [u64; KINDS.len()],
     sources: [u64; SOURCES.len()],
+    locators: u64,
+    parted: u64,
 }
 
 impl Counts {
@@ -77,6 +82,8 @@ impl Counts {
         for (count, least) in self.sources.iter_mut().zip(SOURCES) {
             *count += u64::from(done.sources >= least);
         }
+        self.locators += done.locators as u64;
+        self.parted += done.parted as u64;
     }
 
     pub fn add(&mut self, other: &Counts) {
@@ -93,6 +100,8 @@ impl Counts {
         for (count, more) in self.sources.iter_mut().zip(other.sources) {
             *count += more;
         }
+        self.locators += other.locators;
+        self.parted += other.parted;
     }
 
     /// A line for each kind: its calls, and how many had each answer.
@@ -121,6 +130,10 @@ impl Counts {
         let sources =
             SOURCES.iter().zip(self.sources).map(|(least, count)| format!("{} or more: {}", grouped(*least as u64), grouped(count)));
         out.push_str(&format!("  accepted annotations by their sources: {}\n", sources.collect::<Vec<_>>().join("; ")));
+        if self.locators > 0 {
+            let (parted, all) = (grouped(self.parted), grouped(self.locators));
+            out.push_str(&format!("  value and suffix not compared, where the two rules of a value part: {parted} of {all} locators\n"));
+        }
         out
     }
 }

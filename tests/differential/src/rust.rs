@@ -1,6 +1,7 @@
 //! The comparison of a case with the Rust: each call's answer, and every byte that it is lent.
 
 use citations::raw::Bracket;
+use citations::ITEM_RECORD;
 use oracle::answers::{self, Session};
 
 use crate::areas::{Areas, Lengths, Need};
@@ -30,6 +31,25 @@ impl Answer {
             What::Annotate { .. } if self.number == 0 => self.references.len(),
             _ => 0,
         }
+    }
+
+    // The locators of an accepted call, each by where the value pair and the suffix pair behind it stand: in the answer for the locator call,
+    // else in the item records.
+    fn locators(&self, what: &What) -> Vec<usize> {
+        match what {
+            _ if self.number != 0 => Vec::new(),
+            What::Locator => vec![2],
+            _ => (0..self.items.len()).step_by(ITEM_RECORD).filter(|item| self.items[item + 5] > 0).map(|item| item + 6).collect(),
+        }
+    }
+
+    // Whether document 02's rule parts from the Rust's in the locator whose pairs stand there.
+    fn rules_part(&self, what: &What, text: &[u8], at: usize) -> bool {
+        let number = |i: usize| match what {
+            What::Locator => self.values[i - 1],
+            _ => usize::from(self.items[i]),
+        };
+        answers::rules_part(text, [number(at), number(at + 1)], [number(at + 2), number(at + 3)])
     }
 }
 
@@ -100,6 +120,16 @@ impl Comparison {
         }
     }
 
+    // Value and suffix of these locators are right as they are.
+    fn accept(&mut self, what: &What, parted: &[usize]) {
+        for &at in parted {
+            match what {
+                What::Locator => self.areas.answer.accept_from(at, 4),
+                _ => self.areas.items.accept_from(at, 4),
+            }
+        }
+    }
+
     // What the areas should hold after the call.
     fn expect(&mut self, case: &Case, call: &Call, answer: &Answer, note: u8) {
         let areas = &mut self.areas;
@@ -160,6 +190,9 @@ impl Runner for Comparison {
             self.expect(case, call, &answer, note_after);
         }
         self.areas.call(call, lengths, note);
+        let locators = if silent { Vec::new() } else { answer.locators(&call.what) };
+        let parted: Vec<usize> = locators.iter().copied().filter(|&at| answer.rules_part(&call.what, &case.text, at)).collect();
+        self.accept(&call.what, &parted);
         match self.areas.wrong(call) {
             None => Ok(Done {
                 kind: call.what.kind(),
@@ -168,6 +201,8 @@ impl Runner for Comparison {
                 silent,
                 stray: case.note == 1 && call.what.note_place().is_some(),
                 sources: answer.sources(&call.what),
+                locators: locators.len(),
+                parted: parted.len(),
                 note: note_after,
             }),
             Some(wrong) => Err(Difference::of(wrong, &self.areas)),

@@ -20,9 +20,7 @@ value-run-spec =
     Inv-loop
     μ-loop
     (λ c. search (scans, needs))
-    (λ c. search (scans, needs))
     (λ c κs. search (scans, needs))
-    (λ c. search (scans, needs))
     (λ c. search (scans, needs))
     (λ c. search (scans, needs))
     (λ c. search (scans, needs))
