@@ -9,7 +9,7 @@ use Rattle.base.specs.Spans.{span, missing, spanOf}
 use Rattle.text.specs.Escape.{escapedAt, slashes}
 use Rattle.white.specs.White.{spaceWidth, isWhite}
 use Rattle.text.specs.Trim.{trimStart, trimEnd}
-use Rattle.key.specs.Keys.{isFirst, isMark, isKey, runEnd, keyEnd}
+use Rattle.key.specs.Keys.{isFirst, isMark, isKey, runEnd, withoutMarks, keyEnd}
 use Rattle.locator.specs.declared.Locator.the-variants.{Nothing, Plain, Labelled}
 use Rattle.locator.specs.Matchers.{matchers}
 use Rattle.locator.specs.Locators.{locatorOf, locatorFrom, labelled, valued, valueEnd, isLoose, valueRun, isValue, labelOf, orPage, matchIn, stands, mayFollow, fits, lower, skipBlanks}
@@ -24,7 +24,7 @@ page-three : itemOf (ascii "[x -@a, p. 3]") 1 12
     ≡ Good (record { prefix = span 1 1; key = span 5 1; whole = span 8 4; locator = Labelled 9 (span 11 1) missing; suppressed = true })
 unfolding itemOf itemIn itemAt locatorStart prefixEnd suppresses winner wins keyServes atSign
     locatorOf locatorFrom labelled valued valueEnd isLoose valueRun isValue labelOf orPage matchIn stands mayFollow
-    fits lower skipBlanks matchers isFirst isMark isKey runEnd keyEnd
+    fits lower skipBlanks matchers isFirst isMark isKey runEnd withoutMarks keyEnd
     spaceWidth isWhite trimStart trimEnd escapedAt slashes first lastEnd spanOf ascii
 page-three = refl
 
@@ -33,7 +33,7 @@ comma : itemOf (ascii "[@a,]") 1 4
     ≡ Good (record { prefix = missing; key = span 2 1; whole = missing; locator = Nothing; suppressed = false })
 unfolding itemOf itemIn itemAt locatorStart prefixEnd suppresses winner wins keyServes atSign
     locatorOf locatorFrom labelled valued valueEnd isLoose valueRun isValue labelOf orPage matchIn stands mayFollow
-    fits lower skipBlanks matchers isFirst isMark isKey runEnd keyEnd
+    fits lower skipBlanks matchers isFirst isMark isKey runEnd withoutMarks keyEnd
     spaceWidth isWhite trimStart trimEnd escapedAt slashes first lastEnd spanOf ascii
 comma = refl
 
@@ -41,7 +41,7 @@ alone : itemOf (ascii "[ @a ]") 1 5
     ≡ Good (record { prefix = missing; key = span 3 1; whole = missing; locator = Nothing; suppressed = false })
 unfolding itemOf itemIn itemAt locatorStart prefixEnd suppresses winner wins keyServes atSign
     locatorOf locatorFrom labelled valued valueEnd isLoose valueRun isValue labelOf orPage matchIn stands mayFollow
-    fits lower skipBlanks matchers isFirst isMark isKey runEnd keyEnd
+    fits lower skipBlanks matchers isFirst isMark isKey runEnd withoutMarks keyEnd
     spaceWidth isWhite trimStart trimEnd escapedAt slashes first lastEnd spanOf ascii
 alone = refl
 
@@ -50,14 +50,30 @@ first-wins : itemOf (ascii "[@a, @b]") 1 7
     ≡ Good (record { prefix = missing; key = span 2 1; whole = span 5 2; locator = Plain (span 5 2); suppressed = false })
 unfolding itemOf itemIn itemAt locatorStart prefixEnd suppresses winner wins keyServes atSign
     locatorOf locatorFrom labelled valued valueEnd isLoose valueRun isValue labelOf orPage matchIn stands mayFollow
-    fits lower skipBlanks matchers isFirst isMark isKey runEnd keyEnd
+    fits lower skipBlanks matchers isFirst isMark isKey runEnd withoutMarks keyEnd
     spaceWidth isWhite trimStart trimEnd escapedAt slashes first lastEnd spanOf ascii
 first-wins = refl
+
+-- "In `[@ant., p. 3]` a stop now stands before the comma, and no group is found"
+stop-before-comma : itemOf (ascii "[@ant., p. 3]") 1 12 ≡ Bad
+unfolding itemOf itemIn itemAt locatorStart prefixEnd suppresses winner wins keyServes atSign
+    isFirst isMark isKey runEnd withoutMarks keyEnd
+    spaceWidth isWhite trimStart trimEnd escapedAt slashes first lastEnd spanOf ascii
+stop-before-comma = refl
+
+-- and the next `@` is tried: `[@a.,@b]` has the key `b` and the prefix `@a.,`
+next-wins : itemOf (ascii "[@a.,@b]") 1 7
+    ≡ Good (record { prefix = span 1 4; key = span 6 1; whole = missing; locator = Nothing; suppressed = false })
+unfolding itemOf itemIn itemAt locatorStart prefixEnd suppresses winner wins keyServes atSign
+    locatorOf locatorFrom labelled valued valueEnd isLoose valueRun isValue labelOf orPage matchIn stands mayFollow
+    fits lower skipBlanks matchers isFirst isMark isKey runEnd withoutMarks keyEnd
+    spaceWidth isWhite trimStart trimEnd escapedAt slashes first lastEnd spanOf ascii
+next-wins = refl
 
 -- "`[\@a]` 5"
 escaped : itemOf (ascii "[\\@a]") 1 4 ≡ Bad
 unfolding itemOf itemIn itemAt locatorStart prefixEnd suppresses winner wins keyServes atSign
-    isFirst isMark isKey runEnd keyEnd
+    isFirst isMark isKey runEnd withoutMarks keyEnd
     spaceWidth isWhite trimStart trimEnd escapedAt slashes first lastEnd spanOf ascii
 escaped = refl
 
@@ -70,20 +86,20 @@ two-pieces = refl
 both-good : judgedOf (ascii "[+@a;@b]") 0 7 ≡ AllGood 2
 unfolding judgedOf judgedIn firstBad allGood parsed piecesOf pieces piecesIn semicolonAt itemsStart integralAt
     itemOf itemIn itemAt locatorStart prefixEnd suppresses winner wins keyServes atSign
-    isFirst isMark isKey runEnd keyEnd
+    isFirst isMark isKey runEnd withoutMarks keyEnd
     spaceWidth isWhite trimStart trimEnd escapedAt slashes first lastEnd spanOf ascii
 both-good = refl
 
 second-bad : judgedOf (ascii "[@a;b;]") 0 6 ≡ FirstBad 1
 unfolding judgedOf judgedIn firstBad allGood parsed piecesOf pieces piecesIn semicolonAt itemsStart integralAt
     itemOf itemIn itemAt locatorStart prefixEnd suppresses winner wins keyServes atSign
-    isFirst isMark isKey runEnd keyEnd
+    isFirst isMark isKey runEnd withoutMarks keyEnd
     spaceWidth isWhite trimStart trimEnd escapedAt slashes first lastEnd spanOf ascii
 second-bad = refl
 
 only-plus : judgedOf (ascii "[+]") 0 2 ≡ FirstBad 0
 unfolding judgedOf judgedIn firstBad allGood parsed piecesOf pieces piecesIn semicolonAt itemsStart integralAt
     itemOf itemIn itemAt locatorStart prefixEnd suppresses winner wins keyServes atSign
-    isFirst isMark isKey runEnd keyEnd
+    isFirst isMark isKey runEnd withoutMarks keyEnd
     spaceWidth isWhite trimStart trimEnd escapedAt slashes first lastEnd spanOf ascii
 only-plus = refl

@@ -1,11 +1,12 @@
--- `item::theorems` meets its contract: the theorems of proofs/Parts and proofs/Groups.
+-- `item::theorems` meets its contract: the theorems of proofs/Parts, proofs/Groups and proofs/Laws.
 use Rattle.item.proofs.Parts.{item-in-order}
 use Rattle.item.proofs.Groups.{items-in-order}
+use Rattle.item.proofs.Laws.{mark-serves-not}
 use Rattle.item.proofs.theorems.Statement.{statement}
 use Rattle.item.proofs.theorems.Tie as tie
 
 returns : tie.Need-returns
-returns c = (item-in-order, items-in-order)
+returns c = (item-in-order, (items-in-order, mark-serves-not))
 
 pub theorems-spec : {M : Type 1} → statement M
 theorems-spec = tie.close (tie.spec returns)
