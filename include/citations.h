@@ -56,7 +56,8 @@
  *   - An item, its prefix and its locator lose white space at both ends. An item is a prefix or none, `@` and a key, then its end, or a comma
  *     and a locator (`[@a,]` has none). The first unescaped `@` that fits counts; an item with none is not good. An unescaped `-` just before
  *     that `@` suppresses the author.
- *   - A key is an ASCII letter, digit or `_`, then any of these or of `: . # $ % & + ? < > ~ / -`: that of `@a.` is `a.`.
+ *   - A key is an ASCII letter, digit or `_`, then any of these or of `: . # $ % & + ? < > ~ / -`. Trailing marks are not of it: `[@a.]` is no
+ *     group. `_` is no such mark.
  *   - A locator begins with a label from a fixed table, in any ASCII case (`p.` `pp.` `page` `pages`, `chap.`, `s.v.`, `§`, ..; the codes are
  *     enum citations_label_code), if after it the locator ends or a space, tab, digit, `§` or `¶` stands. Without one a first digit means
  *     page; anything else is all suffix. The value goes on over digits, spaces, `. , & -` and runs of ASCII letters that are all of IVXLCDM or

@@ -116,8 +116,11 @@ fn fixed(kind: &str) -> Vec<Request> {
                 Request::Trim(s.into_bytes(), 0, to)
             })
             .collect(),
-        // every ASCII byte as a key's first byte, and as its second
-        "key" => (0..128u8).flat_map(|b| [Request::Key(vec![b'@', b], 1), Request::Key(vec![b'@', b'a', b, b'b'], 1)]).collect(),
+        // every ASCII byte as a key's first byte, as its second, and after its first
+        "key" => {
+            let keys = |b| [vec![b'@', b], vec![b'@', b'a', b, b'b'], vec![b'@', b'a', b]];
+            (0..128u8).flat_map(keys).map(|text| Request::Key(text, 1)).collect()
+        }
         "escaped" => (0..9).map(|n| Request::Escaped([vec![b'\\'; n], vec![b'[']].concat(), n)).collect(),
         "locator" => texts::MATCHERS
             .iter()

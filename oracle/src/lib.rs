@@ -1,4 +1,4 @@
-//! The given Rust source, built as it is, with stubs for the files that are not given.
+//! The given Rust source, built as it is but for one line of `parse_key` (build.rs), with stubs for the files that are not given.
 //! `citations::probe` reaches its private functions; `answers` puts what they return into document 01's layout.
 
 #[allow(dead_code, unused_imports, clippy::all)]

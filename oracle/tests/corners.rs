@@ -1,4 +1,5 @@
-//! The corners of document 01 that the Rust settles, asked of the oracle, and the index against the unlimited scan.
+//! The corners of document 01 that the Rust settles and those of document 02's W8, asked of the oracle; the index against the unlimited scan;
+//! and in what the Rust is built otherwise than it is given.
 
 use oracle::answers::{self, Session};
 use oracle::generate;
@@ -53,7 +54,6 @@ fn groups() {
         ("[@a,3]", "5 |a|3|3||9|0"),
         ("[@a,x]", "5 |a|x||x|0|0"),
         ("[@a,]", "4 |a||||0|0"),
-        ("[@a.]", "4 |a.||||0|0"),
         ("[+ @a]", "5 |a||||0|0"),
         ("[ +@a]", "5 +|a||||0|0"),
         ("[++@a]", "5 +|a||||0|0"),
@@ -85,6 +85,51 @@ fn groups() {
     assert_eq!(look_up("\\[@a]", 1), "no 4");
     assert_eq!(look_up("][@a]", 1), "4 |a||||0|0");
     assert_eq!(look_up("[@b,[@a]]", 4), "7 |a||||0|0");
+}
+
+// Document 02, W8: marks cannot end a key. What is left off stands between the key and the `,` or the end, and the next `@` is tried.
+#[test]
+fn marks_at_the_end_of_a_key() {
+    let none = [
+        "[@a.]", "[@ant.]", "[@ant., p. 3]", "[@a. ]", "[@a.,]", "[@a/]", "[@a.-]", "[@a..]", "[@a., p. 3]", "[@a_.]", "[@_.]", "[@.]",
+        "[@-]", "[@a.;@b]", "[@b;@a.]",
+    ];
+    for text in none {
+        assert_eq!(look_up(text, 0), "no 5", "{text}");
+    }
+    let cases = [
+        ("[@a.,@b]", "7 @a.,|b||||0|0"),
+        ("[@a., p. 3 @b,x]", "15 @a., p. 3|b|x||x|0|0"),
+        ("[@a-@b]", "6 @a|b||||0|1"),
+        ("[@a. @b]", "7 @a.|b||||0|0"),
+        ("[@_]", "3 |_||||0|0"),
+        ("[@__]", "4 |__||||0|0"),
+        ("[@a_]", "4 |a_||||0|0"),
+        ("[@a._]", "5 |a._||||0|0"),
+        ("[@a..b]", "6 |a..b||||0|0"),
+        ("[@x:1]", "5 |x:1||||0|0"),
+    ];
+    for (text, answer) in cases {
+        assert_eq!(look_up(text, 0), answer, "{text}");
+    }
+    // no group, so no definition line; and no item has the key of an entry with the id `a.`
+    assert_eq!(annotate("[@a.]: x\n[@a]", 0, b""), "1  []");
+    assert_eq!(annotate("[@a.] [@a]", 0, b"\x01\x00\x06\x00\x05\x00\x01\x02\x00a."), "1  []");
+}
+
+// The copy of citations.rs that is built differs from the given file in the last line of `parse_key` and in the two lines added after its
+// end, and in nothing else.
+#[test]
+fn one_line_is_altered() {
+    let given = std::fs::read_to_string(env!("CARVE_CITATIONS")).unwrap();
+    let built = include_str!(concat!(env!("OUT_DIR"), "/carve/citations.rs"));
+    let (given, built): (Vec<&str>, Vec<&str>) = (given.lines().collect(), built.lines().collect());
+    let altered: Vec<usize> = (0..given.len()).filter(|&i| given[i] != built[i]).collect();
+    assert_eq!(altered.len(), 1);
+    assert_eq!(given[altered[0]], "    Some((&text[start..end], end))");
+    assert!(built[altered[0]].contains("trim_end_matches(|c: char| !c.is_ascii_alphanumeric() && c != '_')"));
+    let added: Vec<&str> = built[given.len()..].iter().copied().filter(|line| !line.is_empty()).collect();
+    assert!(added.len() == 2 && added[0].starts_with("#[path = ") && added[1] == "pub mod probe;", "{added:?}");
 }
 
 #[test]

@@ -121,6 +121,17 @@ last-end-behind f (suc n) i d v h k t = go (f (i + n)) refl (λ l. last-end-behi
         let ne : v ≡ i + n → ⊥ = λ e. true≢false (sym t ∙ ap f e ∙ q) in
         rec (omega arith)
 
+-- where it ends behind `i`, the test holds at the place before
+pub last-end-holds : (f : ℕ → Bool) (n i d : ℕ) → d ≤ i → i < lastEnd f n i d → f (lastEnd f n i d - 1) ≡ true
+unfolding lastEnd
+last-end-holds f zero i d h l = absurd (omega arith)
+last-end-holds f (suc n) i d h l = go (f (i + n)) refl l (last-end-holds f n i d h)
+  where
+    go : (t : Bool) → f (i + n) ≡ t → i < pick t (suc (i + n)) (lastEnd f n i d) → (i < lastEnd f n i d → f (lastEnd f n i d - 1) ≡ true)
+        → f (pick t (suc (i + n)) (lastEnd f n i d) - 1) ≡ true
+    go true q k rec = let z : suc (i + n) - 1 ≡ i + n = omega arith in rw z q
+    go false q k rec = rec k
+
 -- whatever stands for nothing found
 pub last-end-or : (f : ℕ → Bool) (n i d : ℕ) → lastEnd f n i d ≡ pick (ltb i (lastEnd f n i i)) (lastEnd f n i i) d
 unfolding lastEnd

@@ -4,28 +4,30 @@ use Prim.Native.Nat.{ℕ, _+_, _-_, _≤_, _<_}
 use native.Mathlib.Omega.{arith}
 use mathlib.Core.Path.{_≡_, refl, sym, _∙_, ap}
 use mathlib.Core.List.{List}
-use mathlib.Core.Bool.{Bool, true, false, _&&_, not, or-false}
+use mathlib.Core.Logic.{⊎-elim}
+use mathlib.Core.Bool.{Bool, true, false, _&&_, not, or-false, true≢false}
 use lib.ListN.{length}
 use lib.Dec.{eqb, ltb}
-use borrow.Author.Tests.{eq-eqb, ne-eqb, lt-ltb, le-ltb, ltb-true}
+use borrow.Author.Tests.{eq-eqb, ne-eqb, lt-ltb, le-ltb, ltb-true, ltb-false}
 use Rattle.base.specs.Pick.{pick}
 use Rattle.base.specs.Lists.{byteAt}
 use Rattle.base.specs.First.{first, firstOf}
 use Rattle.base.specs.declared.Span.{Span}
 use Rattle.base.specs.Spans.{spanOf}
-use Rattle.base.proofs.Bools.{and-left}
+use Rattle.base.proofs.Bools.{and-left, split}
 use Rattle.base.proofs.Searches.{first-out, first-stop, first-more}
 use Rattle.text.specs.Escape.{escapedAt}
 use Rattle.text.specs.Trim.{trimStart, trimEnd}
 use Rattle.text.proofs.Trims.{end-by}
-use Rattle.key.specs.Keys.{keyEnd}
-use Rattle.key.proofs.Laws.{key-by}
+use Rattle.key.specs.Keys.{isMark, runEnd, keyEnd}
+use Rattle.key.proofs.Laws.{key-by, key-ends}
 use Rattle.locator.specs.declared.Locator.{Locator}
 use Rattle.locator.specs.Locators.{locatorOf}
 use Rattle.item.specs.declared.Item.{Item}
 use Rattle.item.specs.declared.Parsed.the-variants.{Good, Bad}
 use Rattle.item.specs.Items.{atSign, keyServes, wins, winner, suppresses, prefixEnd, locatorStart, itemAt, itemIn, itemOf, isGood}
 use Rattle.item.specs.Pieces.{semicolonAt, plusAt, itemsStart}
+use Rattle.item.specs.Facts.{MarkServesNot}
 
 abbrev item : Span → Span → Span → Locator → Bool → Item
 item prefix key locator parts suppressed =
@@ -66,6 +68,21 @@ module _ (s : List ℕ) (e k m : ℕ) where
   pub serves-end : k < m → e ≤ m → eqb m e ≡ keyServes s e k m
   unfolding keyServes
   serves-end h g = rw (lt-ltb _ _ h, le-ltb _ _ g) (sym (or-false (eqb m e)))
+
+-- a mark is no comma, so a key before one serves no item
+comma-no-mark : (b : ℕ) → isMark b ≡ true → b ≡ 44 → ⊥
+unfolding isMark
+comma-no-mark b h e = true≢false (sym h ∙ ap isMark e)
+
+pub mark-serves-not : MarkServesNot
+mark-serves-not s i x h g =
+    ⊎-elim
+    (λ m. let l = ltb-true i (keyEnd s i) m in sym (serves-comma s x i (keyEnd s i) l (omega arith)) ∙ ne-eqb _ _ (comma-no-mark _ (mark-after s i l h)))
+    (λ m. sym (serves-none s x i (keyEnd s i) (ltb-false i (keyEnd s i) m)))
+    (split (ltb i (keyEnd s i)))
+  where
+    mark-after : (s : List ℕ) (i : ℕ) → i < keyEnd s i → keyEnd s i < runEnd s (i + 1) → isMark (byteAt s (keyEnd s i)) ≡ true
+    mark-after s i l k = key-ends s i l .after (keyEnd s i) (omega arith) k
 
 module _ (s : List ℕ) (e i : ℕ) where
   pub wins-other : (byteAt s i ≡ 64 → ⊥) → false ≡ wins s e i

@@ -13,6 +13,7 @@ use Rattle.base.specs.First.{first}
 use Rattle.base.specs.Sorted.{Each}
 use Rattle.base.proofs.Bools.{both}
 use Rattle.base.proofs.Parts.{byte-past, part-length, part-byte}
+use Rattle.base.proofs.Lasts.{last-end-shift}
 use Rattle.base.proofs.Searches.{first-from, first-by, first-near, first-far}
 use Rattle.white.specs.White.{whiteOne, spaceWidth, isWhite}
 use Rattle.white.proofs.Whites.{widthBy, width-is, width-second, width-third, width-low, second-by}
@@ -20,8 +21,8 @@ use Rattle.white.proofs.Points.{width-by, byte-white, white-at}
 use Rattle.text.specs.Escape.{slashes, escapedAt}
 use Rattle.text.specs.Trim.{trimStart, trimEnd}
 use Rattle.text.proofs.Trims.{start-by, end-by, end-shift}
-use Rattle.key.specs.Keys.{isFirst, isMark, isKey, runEnd, keyEnd}
-use Rattle.key.proofs.Laws.{key-out, key-not, key-yes}
+use Rattle.key.specs.Keys.{isFirst, isMark, isKey, runEnd, withoutMarks, keyEnd}
+use Rattle.key.proofs.Laws.{key-out, key-not, key-yes, run-from, run-by}
 use Rattle.item.specs.declared.Parsed.the-variants.{Good, Bad}
 use Rattle.item.specs.Items.{atSign, keyServes, wins, winner, suppresses, prefixEnd, locatorStart, itemAt, itemIn, itemOf}
 use Rattle.item.specs.Moved.{movedItem, movedParsed}
@@ -191,6 +192,12 @@ module _ (s : List ℕ) (a e : ℕ) (l : a ≤ e) (h : e ≤ length s)
       go true y p = p
       go false y p = refl
 
+  without-same : (x y : ℕ) → x ≤ y → y ≤ n → withoutMarks s (x + a) (y + a) ≡ withoutMarks t x y + a
+  unfolding withoutMarks
+  without-same x y q r =
+      let z : y + a - (x + a) ≡ y - x = omega arith in
+      rw z (sym (last-end-shift (λ j. isFirst (byteAt t j)) (λ j. isFirst (byteAt s j)) a (y - x) x x (λ j m. ap isFirst (same j (omega arith)))))
+
   key-same : (x : ℕ) → x ≤ n → keyEnd s (x + a) ≡ keyEnd t x + a
   key-same x q = go (ltb x n) refl
     where
@@ -200,10 +207,13 @@ module _ (s : List ℕ) (a e : ℕ) (l : a ≤ e) (h : e ≤ length s)
       in-part : x < n → (b : Bool) → isFirst (byteAt t x) ≡ b → keyEnd s (x + a) ≡ keyEnd t x + a
       in-part p true r =
           let z : x + a + 1 ≡ x + 1 + a = omega arith in
-          key-yes s (x + a) (omega arith) (ap isFirst (same x p)) r
-          ∙ ap (runEnd s) z
-          ∙ run-same (x + 1) (omega arith)
-          ∙ ap (λ (m : ℕ). m + a) (sym (key-yes t x (omega (arith, k)) refl r))
+          let from = run-from t x {e = runEnd t (x + 1)} refl in
+          let by = run-by t x {e = runEnd t (x + 1)} refl (omega (arith, k)) in
+          sym (key-yes s (x + a) (omega arith) (ap isFirst (same x p)) r refl refl)
+          ∙ ap (λ (m : ℕ). withoutMarks s (x + a) (runEnd s m)) z
+          ∙ ap (withoutMarks s (x + a)) (run-same (x + 1) (omega arith))
+          ∙ without-same x (runEnd t (x + 1)) (omega arith) (omega (arith, k))
+          ∙ ap (λ (m : ℕ). m + a) (key-yes t x (omega (arith, k)) refl r refl refl)
       in-part p false r =
           sym (key-not s (x + a) (omega arith) (ap isFirst (same x p)) r)
           ∙ ap (λ (m : ℕ). m + a) (key-not t x (omega (arith, k)) refl r)

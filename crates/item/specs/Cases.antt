@@ -10,7 +10,7 @@ use Rattle.base.specs.Spans.{span, missing, spanOf}
 use Rattle.text.specs.Escape.{escapedAt, slashes}
 use Rattle.white.specs.White.{spaceWidth, isWhite}
 use Rattle.text.specs.Trim.{trimStart, trimEnd}
-use Rattle.key.specs.Keys.{isFirst, isMark, isKey, runEnd, keyEnd}
+use Rattle.key.specs.Keys.{isFirst, isMark, isKey, runEnd, withoutMarks, keyEnd}
 use Rattle.locator.specs.declared.Locator.the-variants.{Nothing, Plain, Labelled}
 use Rattle.locator.specs.Matchers.{matchers}
 use Rattle.locator.specs.Locators.{locatorOf, locatorFrom, labelled, valued, valueEnd, isLoose, valueRun, inValue, romanEnd, lettersEnd, isDigitOrMark, isRoman, labelOf, orPage, matchIn, stands, mayFollow, fits, lower, skipBlanks}
@@ -25,7 +25,7 @@ unfoldable opened : ℕ
 unfolding judgedOf judgedIn firstBad allGood parsed piecesOf pieces piecesIn semicolonAt itemsStart plusAt
     itemOf itemIn itemAt locatorStart prefixEnd suppresses winner wins keyServes atSign
     locatorOf locatorFrom labelled valued valueEnd isLoose valueRun inValue romanEnd lettersEnd isDigitOrMark isRoman labelOf orPage matchIn stands mayFollow
-    fits lower skipBlanks matchers isFirst isMark isKey runEnd keyEnd
+    fits lower skipBlanks matchers isFirst isMark isKey runEnd withoutMarks keyEnd
     spaceWidth isWhite trimStart trimEnd escapedAt slashes first lastEnd spanOf ascii
 opened = 0
 
@@ -52,6 +52,17 @@ first-wins : itemOf (ascii "[@a, @b]") 1 7
     ≡ Good (record { prefix = missing; key = span 2 1; locator = span 5 2; parts = Plain (span 5 2); suppressed = false })
 unfolding opened
 first-wins = refl
+
+-- "In `[@ant., p. 3]` a stop now stands before the comma, and no group is found"
+stop-before-comma : itemOf (ascii "[@ant., p. 3]") 1 12 ≡ Bad
+unfolding opened
+stop-before-comma = refl
+
+-- and the next `@` is tried: `[@a.,@b]` has the key `b` and the prefix `@a.,`
+next-wins : itemOf (ascii "[@a.,@b]") 1 7
+    ≡ Good (record { prefix = span 1 4; key = span 6 1; locator = missing; parts = Nothing; suppressed = false })
+unfolding opened
+next-wins = refl
 
 -- "`[\@a]` 5"
 escaped : itemOf (ascii "[\\@a]") 1 4 ≡ Bad

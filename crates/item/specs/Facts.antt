@@ -1,4 +1,4 @@
--- Theorems: what the paper claims of an item's parts, proved in proofs/.
+-- Theorems: what the papers claim of an item's parts, and of a key before a mark, proved in proofs/.
 use Prim.Native.Nat.{ℕ, _+_, _-_, _≤_, _<_}
 use mathlib.Core.Path.{_≡_}
 use mathlib.Core.List.{List, [], _∷_}
@@ -11,8 +11,8 @@ use Rattle.base.specs.InOrder.{presentOf, InOrder}
 use Rattle.locator.specs.Answers.{valueOf, suffixOf}
 use Rattle.item.specs.declared.Item.{Item}
 use Rattle.item.specs.declared.Parsed.the-variants.{Good}
-use Rattle.key.specs.Keys.{isKey}
-use Rattle.item.specs.Items.{itemOf}
+use Rattle.key.specs.Keys.{isKey, runEnd, keyEnd}
+use Rattle.item.specs.Items.{itemOf, keyServes}
 use Rattle.item.specs.Moved.{movedParsed}
 use Rattle.item.specs.Pieces.{Stretch, pieces, piecesOf, parsed, itemsOf}
 
@@ -54,3 +54,8 @@ abbrev pub PlusPassed : Type 0
 PlusPassed =
     (s : List ℕ) (p c : ℕ) → p + 1 < c
     → (byteAt s (p + 1) ≡ 43 → piecesOf s p c ≡ pieces s (p + 2) c) × ((byteAt s (p + 1) ≡ 43 → ⊥) → piecesOf s p c ≡ pieces s (p + 1) c)
+
+-- "In `[@ant., p. 3]` a stop now stands before the comma, and no group is found": a key from which a mark was left off neither ends the
+-- item nor meets `,`, wherever the item ends, its run lying in it
+abbrev pub MarkServesNot : Type 0
+MarkServesNot = (s : List ℕ) (i x : ℕ) → keyEnd s i < runEnd s (i + 1) → runEnd s (i + 1) ≤ x → keyServes s x i (keyEnd s i) ≡ false

@@ -13,7 +13,7 @@ ghost use mathlib.Core.Path.{_≡_};
 ghost use Prim.Native.Nat.{_+_, _-_, _≤_, _<_};
 ghost use lib.ListN.{length};
 ghost use Rattle.base.specs.First.{first};
-ghost use Rattle.item.specs.Facts.{ItemInOrder, ItemsInOrder, ItemLocal, PiecesLocal, PlusPassed};
+ghost use Rattle.item.specs.Facts.{ItemInOrder, ItemsInOrder, ItemLocal, PiecesLocal, PlusPassed, MarkServesNot};
 ghost use Rattle.key.specs.Keys.{keyEnd};
 ghost use Rattle.item.specs.Items.{keyServes, wins, winner, suppresses, prefixEnd, itemAt, itemOf, isGood};
 ghost use Rattle.item.specs.Pieces.{semicolonAt, plusAt, itemsStart};
@@ -220,4 +220,5 @@ pub fn theorems()
     ensures item_local { λ _. ⌜ ItemLocal ⌝ }
     ensures pieces_local { λ _. ⌜ PiecesLocal ⌝ }
     ensures plus_passed { λ _. ⌜ PlusPassed ⌝ }
+    ensures mark_serves_not { λ _. ⌜ MarkServesNot ⌝ }
 {}

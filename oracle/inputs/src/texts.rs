@@ -20,8 +20,8 @@ const AFTER: [&str; 30] = [
     "", " ", "  ", "\t", "3", "12", "iv", "XIV", "ci", "3-5", "12, 14", "& 7", ".", ",", "-", "§", "¶", "x", "see", "cited", "\n",
     "\u{a0}", "€", "é", "s", "\\", "p.", "3.", ", see", " \t",
 ];
-/// Keys of sources.
-pub const KEYS: [&str; 8] = ["a", "b", "c", "ant", "a.", "x:1", "_", "k9"];
+/// Keys of sources, and two that end with marks and so are none.
+pub const KEYS: [&str; 11] = ["a", "b", "c", "ant", "a.b", "x:1", "_", "k9", "a_", "a.", "a.."];
 /// What a damaged text gets in the place of a character.
 const MARKS: [&str; 16] = ["[", "]", "@", ";", ",", "\\", "-", "+", "\n", ":", " ", "(", "{", "}", "\u{a0}", "\u{2028}"];
 
