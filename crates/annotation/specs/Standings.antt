@@ -49,7 +49,7 @@ pub record StandsAs (text : List ℕ) (all : List Group) (pool : List ℕ) (upTo
   pub numbered : (StandsInLine text all upTo (p .group) → ⊥) → Each (KeyDefined text all pool) (p .group .items) → p .standing ≡ 2
   pub numbered-only : p .standing ≡ 2 → Each (KeyDefined text all pool) (p .group .items)
 
--- that of each of some groups, `before` being those before them, the last of these first
+-- the standing of each of some groups, `before` being the groups before them, the last of these first
 abbrev pub StandingsFrom : List ℕ → List Group → List ℕ → List Group → List Placed → Type 0
 StandingsFrom text all pool before [] = Unit {0}
 StandingsFrom text all pool before (p ∷ ps) =

@@ -34,7 +34,7 @@ sweptItems all rest = itemRecords all ++ rest
 abbrev pub sweptGroups : List ℕ → List Group → List ℕ → List ℕ
 sweptGroups text all rest = groupRecords 0 (sweptFrom text false 0 all) ++ rest
 
--- the same after the pass that numbers them
+-- the records of the sweep after the pass that numbers them
 abbrev pub numberedFrom : List ℕ → ℕ → List Group → List ℕ → List ℕ → List ℕ → Numbered
 numberedFrom text mode all pool restItems restGroups =
     numberAll text mode pool (length all) (sweptItems all restItems) (sweptGroups text all restGroups)
@@ -69,7 +69,7 @@ ReferencesAgree =
     → referencesThen text mode pool (length all) (itemCount all) (numberedFrom text mode all pool restItems restGroups)
     ≡ referencesOf text mode all pool (tallyOf text mode all pool .sources)
 
--- and so the content of the annotation, with its lengths
+-- numbers and references as the passes leave them are the content of the annotation, with its lengths
 pub record ContentAs (content : Areas) (all : List Group) (n : Numbered) (ordered restItems restGroups : List ℕ) : Type 0 where
   pub items : n .items ≡ content .items ++ restItems
   pub groups : n .groups ≡ content .groups ++ restGroups

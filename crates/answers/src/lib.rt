@@ -15,6 +15,18 @@ ghost use Rattle.base.specs.Lists.{written};
 ghost use Rattle.lookup.specs.Values.{lookUpValues, locatorValues, sizeValues};
 ghost use Rattle.source_text.specs.Values.{sourceTextValues};
 ghost use Rattle.answers.specs.Words.{Words};
+ghost use Rattle.answers.specs.Lengths.{lookUpAnswerLength, annotationAnswerLength, sizeAnswerLength, locatorAnswerLength, sourceTextAnswerLength};
+
+// How many numbers the answer of each call has, its number first.
+pub const LOOK_UP_ANSWER: usize = 4;
+
+pub const ANNOTATION_ANSWER: usize = 6;
+
+pub const SIZE_ANSWER: usize = 2;
+
+pub const LOCATOR_ANSWER: usize = 6;
+
+pub const SOURCE_TEXT_ANSWER: usize = 2;
 
 // Whether `answer` has room for `n` numbers.
 pub fn has_room(answer: &mut [u32], n: usize) -> bool
@@ -58,7 +70,7 @@ fn put_six(answer: &mut [u32], a: u32, b: u32, c: u32, d: u32, e: u32, f: u32)
 
 // Number, close, item count, note.
 pub fn write_look_up(a: LookUp, answer: &mut [u32])
-    requires { ⌜ (4 ≤ length (now answer)) × Words (lookUpValues a) ⌝ }
+    requires { ⌜ (lookUpAnswerLength ≤ length (now answer)) × Words (lookUpValues a) ⌝ }
     ensures { λ _. ⌜ now (answer .exit) ≡ written (lookUpValues a) (now (answer .entry)) ⌝ }
 {
     match a {
@@ -75,7 +87,7 @@ pub fn write_look_up(a: LookUp, answer: &mut [u32])
 
 // Number, groups, items, sources, label bytes, note.
 pub fn write_annotation(a: Annotation, answer: &mut [u32])
-    requires { ⌜ (6 ≤ length (now answer)) × Words (annotationValues a) ⌝ }
+    requires { ⌜ (annotationAnswerLength ≤ length (now answer)) × Words (annotationValues a) ⌝ }
     ensures { λ _. ⌜ now (answer .exit) ≡ written (annotationValues a) (now (answer .entry)) ⌝ }
 {
     match a {
@@ -108,7 +120,7 @@ pub fn write_annotation(a: Annotation, answer: &mut [u32])
 
 // Number, records.
 pub fn write_size(a: Size, answer: &mut [u32])
-    requires { ⌜ (2 ≤ length (now answer)) × Words (sizeValues a) ⌝ }
+    requires { ⌜ (sizeAnswerLength ≤ length (now answer)) × Words (sizeValues a) ⌝ }
     ensures { λ _. ⌜ now (answer .exit) ≡ written (sizeValues a) (now (answer .entry)) ⌝ }
 {
     match a {
@@ -119,7 +131,7 @@ pub fn write_size(a: Size, answer: &mut [u32])
 
 // Number, label code, value pair, suffix pair.
 pub fn write_locator(a: LocatorAnswer, answer: &mut [u32])
-    requires { ⌜ (6 ≤ length (now answer)) × Words (locatorValues a) ⌝ }
+    requires { ⌜ (locatorAnswerLength ≤ length (now answer)) × Words (locatorValues a) ⌝ }
     ensures { λ _. ⌜ now (answer .exit) ≡ written (locatorValues a) (now (answer .entry)) ⌝ }
 {
     match a {
@@ -143,7 +155,7 @@ pub fn write_locator(a: LocatorAnswer, answer: &mut [u32])
 
 // Number, bytes.
 pub fn write_source_text(a: SourceText, answer: &mut [u32])
-    requires { ⌜ (2 ≤ length (now answer)) × Words (sourceTextValues a) ⌝ }
+    requires { ⌜ (sourceTextAnswerLength ≤ length (now answer)) × Words (sourceTextValues a) ⌝ }
     ensures { λ _. ⌜ now (answer .exit) ≡ written (sourceTextValues a) (now (answer .entry)) ⌝ }
 {
     match a {

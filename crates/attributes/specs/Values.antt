@@ -11,7 +11,7 @@ unfoldable pub valueBytes : List ℕ → Value → Option (List ℕ)
 valueBytes s (Given p) = some (bytesOf s p)
 valueBytes s NoValue = none
 
--- it ends by `n`
+-- a value, where one is given, ends by `n`
 abbrev pub ValueWithin : ℕ → Value → Type 0
 ValueWithin n (Given p) = p .at + p .len ≤ n
 ValueWithin n NoValue = Unit {0}

@@ -31,7 +31,7 @@ fn fill(out: &mut [u8], k: usize, n: u64)
     let mut m = n;
     while 0 < j {
         j -= 1;
-        out[j] = 48 + (m % 10) as u8;
+        out[j] = b'0' + (m % 10) as u8;
         m = m / 10;
     }
 }

@@ -20,7 +20,7 @@ definedAs text groups n pool (Line g) = some (lineDefIn text groups n g)
 definedAs text groups n pool (EntryOf i) = some (entryDef i (entryAt pool i))
 definedAs text groups n pool Nothing = none
 
--- it is one of `n` groups, or of the pool's entries
+-- what was found is one of `n` groups, or of the pool's entries
 abbrev pub DefinedIn : List ℕ → ℕ → Defined → Type 0
 DefinedIn pool n (Line g) = g < n
 DefinedIn pool n (EntryOf i) = i < countOf pool

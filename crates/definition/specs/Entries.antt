@@ -23,6 +23,6 @@ entryIn pool key = first (entryHas pool key) (countOf pool) 0
 pub record GivesAuthor (pool : List ℕ) (r : Author) (o : Option (List ℕ)) : Type 0 where
   pub bytes : (text : List ℕ) → authorBytes text pool r ≡ o
 
--- a year, likewise
+-- a year with the bytes that are said, or none where none are said, whatever the text
 pub record GivesYear (pool : List ℕ) (r : Year) (o : Option (List ℕ)) : Type 0 where
   pub bytes : (text : List ℕ) → yearBytes text pool r ≡ o

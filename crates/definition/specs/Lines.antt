@@ -16,7 +16,7 @@ definesIn text groups items g =
     startsLine text (groupField groups g group-place) && eqb (groupField groups g group-count) 1 && bareIn items (groupField groups g group-first)
     && colonAfter text (closeOfRecord groups g)
 
--- and its key is this one
+-- group record `g` starts a definition line of this key
 unfoldable pub definesKeyIn : List ℕ → List ℕ → List ℕ → List ℕ → ℕ → Bool
 definesKeyIn text groups items key g = definesIn text groups items g && same (keyIn text items (groupField groups g group-first)) key
 

@@ -1,5 +1,5 @@
 // What defines a key: the last definition line of it among the group records, else the first entry of the pool.
-// And the author and the year that it gives.
+// The author and the year that a definition gives.
 use crate::Author;
 use crate::AuthorYear;
 use crate::Year;
@@ -64,7 +64,7 @@ fn line_given(text: &[u8], groups: &[u16], n: usize, g: usize) -> AuthorYear
     crate::author_and_year(text, definition_line::attributes(text, close, next))
 }
 
-// Those that the entry of the pool gives.
+// The author and the year that an entry of the pool gives.
 fn entry_given(pool: &[u8], number: usize) -> AuthorYear
     requires { ⌜ (wellFormed (now pool) ≡ true) × (number < countOf (now pool)) ⌝ }
     ensures { λ r. ⌜ ((text : List ℕ) → Gives text (now (pool .entry)) r (authorOf (entryAt (now (pool .entry)) number)) (yearOf (entryAt (now (pool .entry)) number))) ⌝ }
@@ -75,7 +75,7 @@ fn entry_given(pool: &[u8], number: usize) -> AuthorYear
     }
 }
 
-// Those that what was found gives.
+// The author and the year that a definition gives, by what was found.
 pub fn given_by(text: &[u8], pool: &[u8], groups: &[u16], n: usize, d: Defined) -> AuthorYear
     requires { ⌜ (n < recordBound) × (wellFormed (now pool) ≡ true) × DefinedIn (now pool) n d ⌝ }
     ensures { λ r. ⌜ Gives (now (text .entry)) (now (pool .entry)) r (defAuthor (definedAs (now (text .entry)) (now (groups .entry)) n (now (pool .entry)) d))

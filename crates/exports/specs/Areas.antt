@@ -16,6 +16,7 @@ use Rattle.source_text.specs.Values.{sourceTextNumbers}
 use Rattle.annotation.specs.Content.{Areas}
 use Rattle.annotation.specs.Call.{AnnotateRan, annotateRun}
 use Rattle.annotation.specs.Values.{annotationNumbers}
+use Rattle.answers.specs.Lengths.{lookUpAnswerLength, annotationAnswerLength, sizeAnswerLength, locatorAnswerLength, sourceTextAnswerLength}
 
 -- `answer` has room for `n` numbers
 abbrev pub hasRoom : ℕ → List ℕ → Bool
@@ -28,7 +29,7 @@ pub record LookUpAreas : Type 0 where
   pub items : List ℕ
   pub answer : List ℕ
 
--- these areas, by name
+-- the areas of a look-up, by name
 abbrev pub lookUpAreas : List ℕ → List Bracket → List ℕ → List ℕ → LookUpAreas
 lookUpAreas index records items answer = record { index = index; records = records; items = items; answer = answer }
 
@@ -39,7 +40,7 @@ lookUpDone ran answer = lookUpAreas (ran .index) (ran .records) (ran .answer .it
 -- run where `answer` has room for its four numbers, else untouched
 unfoldable pub afterLookUp : List ℕ → ℕ → ℕ → LookUpAreas → LookUpAreas
 afterLookUp text at note lent =
-    pick (hasRoom 4 (lent .answer)) (lookUpDone (lookUpRun text at note (lent .index) (lent .records) (lent .items)) (lent .answer)) lent
+    pick (hasRoom lookUpAnswerLength (lent .answer)) (lookUpDone (lookUpRun text at note (lent .index) (lent .records) (lent .items)) (lent .answer)) lent
 
 -- The areas that an annotation is lent. Its answer is the number, then "the counts of groups, items, sources and label bytes, and the note".
 pub record AnnotateAreas : Type 0 where
@@ -48,7 +49,7 @@ pub record AnnotateAreas : Type 0 where
   pub areas : Areas
   pub answer : List ℕ
 
--- these areas, by name
+-- the areas of an annotation, by name
 abbrev pub annotateAreas : List ℕ → List Bracket → Areas → List ℕ → AnnotateAreas
 annotateAreas index records areas answer = record { index = index; records = records; areas = areas; answer = answer }
 
@@ -59,24 +60,24 @@ annotateDone ran answer = annotateAreas (ran .index) (ran .records) (ran .answer
 -- run where `answer` has room for its six numbers, else untouched
 unfoldable pub afterAnnotate : List ℕ → ℕ → List ℕ → ℕ → AnnotateAreas → AnnotateAreas
 afterAnnotate text mode pool note lent =
-    pick (hasRoom 6 (lent .answer))
+    pick (hasRoom annotationAnswerLength (lent .answer))
     (annotateDone (annotateRun text mode pool note (lent .index) (lent .records) (lent .areas)) (lent .answer))
     lent
 
 -- the size call: number and records
 unfoldable pub afterSize : List ℕ → List ℕ → List ℕ
-afterSize text answer = pick (hasRoom 2 answer) (written (sizeNumbers (sizeCall text)) answer) answer
+afterSize text answer = pick (hasRoom sizeAnswerLength answer) (written (sizeNumbers (sizeCall text)) answer) answer
 
 -- the locator call: number, "label code, value pair and suffix pair"
 unfoldable pub afterLocator : List ℕ → List ℕ → List ℕ
-afterLocator text answer = pick (hasRoom 6 answer) (written (locatorNumbers (locatorCall text)) answer) answer
+afterLocator text answer = pick (hasRoom locatorAnswerLength answer) (written (locatorNumbers (locatorCall text)) answer) answer
 
 -- The areas that a source text call is lent. Its answer is the number and "the bytes written".
 pub record SourceAreas : Type 0 where
   pub area : List ℕ
   pub answer : List ℕ
 
--- these areas, by name
+-- the areas of the source text call, by name
 abbrev pub sourceAreas : List ℕ → List ℕ → SourceAreas
 sourceAreas area answer = record { area = area; answer = answer }
 
@@ -86,4 +87,4 @@ sourceDone ran answer = sourceAreas (ran .area) (written (sourceTextNumbers ran)
 
 -- run where `answer` has room for its two numbers, else untouched
 unfoldable pub afterSourceText : List ℕ → ℕ → SourceAreas → SourceAreas
-afterSourceText pool entry lent = pick (hasRoom 2 (lent .answer)) (sourceDone (sourceTextCall pool entry (lent .area)) (lent .answer)) lent
+afterSourceText pool entry lent = pick (hasRoom sourceTextAnswerLength (lent .answer)) (sourceDone (sourceTextCall pool entry (lent .area)) (lent .answer)) lent

@@ -23,7 +23,7 @@ pub extern "C" fn citations_look_up(
         × (now (items .exit) ≡ after .items)
         × (now (answer .exit) ≡ after .answer) ⌝ }
 {
-    if answers::has_room(answer, 4) {
+    if answers::has_room(answer, answers::LOOK_UP_ANSWER) {
         let a = calls::look_up(text, at, note, index, records, items);
         answers::write_look_up(a, answer);
     }
@@ -55,7 +55,7 @@ pub extern "C" fn citations_annotate<'a>(
         × (now (labels .exit) ≡ after .areas .labels)
         × (now (answer .exit) ≡ after .answer) ⌝ }
 {
-    if answers::has_room(answer, 6) {
+    if answers::has_room(answer, answers::ANNOTATION_ANSWER) {
         let a = calls::annotate(
             text,
             mode,
@@ -77,7 +77,7 @@ pub extern "C" fn citations_annotate<'a>(
 pub extern "C" fn citations_size(text: &[u8], answer: &mut [u32])
     ensures { λ _. ⌜ now (answer .exit) ≡ afterSize (now (text .entry)) (now (answer .entry)) ⌝ }
 {
-    if answers::has_room(answer, 2) {
+    if answers::has_room(answer, answers::SIZE_ANSWER) {
         answers::write_size(calls::size(text), answer);
     }
 }
@@ -87,7 +87,7 @@ pub extern "C" fn citations_size(text: &[u8], answer: &mut [u32])
 pub extern "C" fn citations_locator(text: &[u8], answer: &mut [u32])
     ensures { λ _. ⌜ now (answer .exit) ≡ afterLocator (now (text .entry)) (now (answer .entry)) ⌝ }
 {
-    if answers::has_room(answer, 6) {
+    if answers::has_room(answer, answers::LOCATOR_ANSWER) {
         answers::write_locator(calls::locator(text), answer);
     }
 }
@@ -103,7 +103,7 @@ pub extern "C" fn citations_source_text(
     ensures { λ _. let after = afterSourceText (now (pool .entry)) entry (sourceAreas (now (area .entry)) (now (answer .entry))) in
         ⌜ (now (area .exit) ≡ after .area) × (now (answer .exit) ≡ after .answer) ⌝ }
 {
-    if answers::has_room(answer, 2) {
+    if answers::has_room(answer, answers::SOURCE_TEXT_ANSWER) {
         answers::write_source_text(calls::source_text(pool, entry, area), answer);
     }
 }

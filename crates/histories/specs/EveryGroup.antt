@@ -58,7 +58,7 @@ pub record AnnotationFinds (text : List ℕ) (mode : ℕ) (pool : List ℕ) (n m
       → answer ≡ annotateRefused 10 (zeroFilled areas)
   pub found-only : answer .number ≡ 0 → answer ≡ annotateGives (sweepOf text) (said text mode pool) areas
 
--- the same of the calls as run, with this index, this note and these bracket records
+-- look-ups and annotations as run, with this index, this note and these bracket records, find the groups that the rules admit
 pub record CallsFind (text index : List ℕ) (note : ℕ) (records : List Bracket) : Type 0 where
   pub look-ups : (at : ℕ) (items : List ℕ)
       → LookUpFinds text at (length index) (length records) items (lookUpRun text at note index records items .answer)

@@ -47,7 +47,7 @@ abbrev pub callOf : RanCall → Call
 callOf (LookedUpOnce k at records items r index' records' items') = LookUpCall k at records items
 callOf (AnnotatedOnce k mode pool records areas r index' records' areas') = AnnotateCall k mode pool records areas
 
--- it met its promise, the index area and the note being those of a state
+-- a call that ran met its promise, the index area and the note being those of a state
 abbrev pub Met : List ℕ → State → RanCall → Type 0
 Met text st (LookedUpOnce k at records items r index' records' items') =
     LookUpPromise text at (st .note) (take k (st .index)) records items r index' records' items'
@@ -59,7 +59,7 @@ abbrev pub lookUpShows : LookUp → List ℕ → LookedUp
 lookUpShows (FoundOne close count note) items = record { number = 0; close = close; count = count; items = items }
 lookUpShows (FoundNone number note) items = record { number = number; close = 0; count = 0; items = items }
 
--- the same of an annotation
+-- what an annotation's answer and areas show, the note left off
 abbrev pub annotationShows : Annotation → Areas → Annotated
 annotationShows (Accepted groups items sources labelBytes note) areas =
     record { number = 0; groups = groups; items = items; sources = sources; labelBytes = labelBytes; areas = areas }

@@ -56,7 +56,7 @@ pub record SaysOf (text : List ℕ) (mode : ℕ) (pool : List ℕ) (all : List G
   pub label-offsets : (k : ℕ) → k < itemCount all
       → itemField (content .items) k item-label
       ≡ labelAfter (take k (itemLabels text mode all pool sources placed)) (getD (itemKeys text placed) k none)
-  -- and its length
+  -- the length of each item's label
   pub label-lengths : (k : ℕ) → k < itemCount all
       → itemField (content .items) k item-label-length ≡ length (getD (itemLabels text mode all pool sources placed) k [])
 

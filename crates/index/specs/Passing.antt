@@ -34,12 +34,12 @@ contentIn s a n content = lastEnd (λ i. not (isWhite s i)) n a content
 abbrev pub passed : List ℕ → Scan → Scan
 passed s c = nextWith c (c .depth) (c .inner) (c .bad) (readOn s (c .at) (c .reads))
 
--- the same after `n` of them
+-- the scan after `n` ordinary bytes
 unfoldable pub passing : ℕ → List ℕ → Scan → Scan
 passing zero s c = c
 passing (suc n) s c = passed s (passing n s c)
 
--- the same after all from here on
+-- the scan after all ordinary bytes from its place on
 unfoldable pub skipped : List ℕ → Scan → Scan
 skipped s c = passing (ordinaryEnd s (c .at) - c .at) s c
 
@@ -53,11 +53,11 @@ turnOf s c outer = record {
   mark = scanPlan s c outer .mark;
 }
 
--- the same with the record around taken from the lent ones
+-- the turn of the scan, the record around taken from the lent ones
 unfoldable pub turnAt : List ℕ → Scan → List Bracket → Plan
 turnAt s c records = turnOf s c (getD records (c .depth - 1) blank)
 
--- there is a turn to do
+-- whether the scan has a turn to do
 unfoldable pub unread : List ℕ → Scan → Bool
 unread s c = ltb (c .at) (length s)
 

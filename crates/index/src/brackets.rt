@@ -90,7 +90,7 @@ fn bracket_pairs(text: &[u8], index: &mut [u16], records: &mut [Bracket])
     clear(text, records);
 }
 
-// The same where it is wanted; else nothing.
+// Builds the index where that is wanted; else does nothing.
 pub fn build_when(want: bool, text: &[u8], index: &mut [u16], records: &mut [Bracket])
     requires { ⌜ (want ≡ true → Enough (now text) (length (now index)) (length (now records))) ⌝ }
     ensures { λ _. ⌜ (now (index .exit), now (records .exit)) ≡ builtWhen want (now (text .entry)) (now (index .entry)) (now (records .entry)) ⌝ }

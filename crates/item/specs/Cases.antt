@@ -58,7 +58,7 @@ stop-before-comma : itemOf (ascii "[@ant., p. 3]") 1 12 ≡ Bad
 unfolding opened
 stop-before-comma = refl
 
--- and the next `@` is tried: `[@a.,@b]` has the key `b` and the prefix `@a.,`
+-- where a key does not serve the next `@` is tried: `[@a.,@b]` has the key `b` and the prefix `@a.,`
 next-wins : itemOf (ascii "[@a.,@b]") 1 7
     ≡ Good (record { prefix = span 1 4; key = span 6 1; locator = missing; parts = Nothing; suppressed = false })
 unfolding opened

@@ -45,7 +45,7 @@ ItemLocal =
 abbrev pub Local : List ℕ → Stretch → Type 0
 Local s q = parsed s q ≡ movedParsed (q .from) (itemOf (part s (q .from) (q .to)) 0 (q .to - q .from))
 
--- so is every piece of a group, from its bracket at `p` to its close at `c`
+-- every piece of a group, from its bracket at `p` to its close at `c`, is parsed as its bytes are alone
 abbrev pub PiecesLocal : Type 0
 PiecesLocal = (s : List ℕ) (p c : ℕ) → p < c → c < length s → byteAt s p ≡ 91 → byteAt s c ≡ 93 → Each (Local s) (piecesOf s p c)
 

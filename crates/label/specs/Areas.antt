@@ -11,7 +11,7 @@ use Rattle.base.specs.Lists.{written}
 abbrev pub fitted : List ℕ → List ℕ → List ℕ
 fitted out area = pick (leb (length out) (length area)) (written out area) area
 
--- the same from place `at` of the area on
+-- `out` from place `at` of the area on, or the area as it was where the rest is too short
 unfoldable pub fittedAt : List ℕ → ℕ → List ℕ → List ℕ
 fittedAt out at area = take at area ++ fitted out (drop at area)
 

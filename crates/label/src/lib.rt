@@ -75,7 +75,7 @@ fn write_both(author: &[u8], year: &[u8], out: &mut [u8]) -> usize
     n
 }
 
-// The same with a number for a year.
+// An author, a space and a year that is a number, where they fit. Their length.
 fn write_both_signed(author: &[u8], negative: bool, magnitude: u64, out: &mut [u8]) -> usize
     ensures { λ r. ⌜ Fitted (now (author .entry) ++ (32 ∷ signedDecimal (signed negative magnitude))) (now (out .entry)) r (now (out .exit)) ⌝ }
 {
@@ -117,7 +117,7 @@ fn write_author_year(author: &[u8], year: &[u8], number: u16, out: &mut [u8]) ->
     write_number(number as u64, out)
 }
 
-// The same with a number for a year: something is left.
+// Author, space and a year that is a number, trimmed, where it fits: of these something is always left. Its length.
 fn write_author_signed(author: &[u8], negative: bool, magnitude: u64, out: &mut [u8]) -> usize
     ensures { λ r. ⌜ Fitted (trim (now (author .entry) ++ (32 ∷ signedDecimal (signed negative magnitude)))) (now (out .entry)) r (now (out .exit)) ⌝ }
 {

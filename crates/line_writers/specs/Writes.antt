@@ -14,7 +14,7 @@ pub record Put (k : ℕ) (bytes before after : List ℕ) (r : ℕ) : Type 0 wher
   pub end : r ≡ k + length bytes
   pub area : after ≡ writtenAt k bytes before
 
--- there is room for them
+-- an area has room for some bytes from place `k` on
 abbrev pub Room : ℕ → List ℕ → List ℕ → Type 0
 Room k bytes area = k + length bytes ≤ length area
 

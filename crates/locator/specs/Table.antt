@@ -17,7 +17,7 @@ startIn r = getD r 0 0
 abbrev pub endIn : List ℕ → ℕ
 endIn r = getD r 1 0
 
--- its code
+-- the code of a row
 abbrev pub codeIn : List ℕ → ℕ
 codeIn r = getD r 2 0
 

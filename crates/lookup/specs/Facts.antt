@@ -15,14 +15,14 @@ LookUpTrue =
     → Left s index note
     → lookUpRun s at note index records items .answer ≡ lookUpPlain s at (length index) (length records) items
 
--- and it leaves such an index
+-- a look-up that is lent an index and a note as earlier calls left them leaves such an index and note
 abbrev pub LookUpLeaves : Type 0
 LookUpLeaves =
     (s : List ℕ) (at note : ℕ) (index : List ℕ) (records : List Bracket) (items : List ℕ)
     → Left s index note
     → Left s (lookUpRun s at note index records items .index) (lookUpRun s at note index records items .note)
 
--- and it keeps the index area's length, and all of it where it is lent too little
+-- a look-up keeps the index area's length, and all of the area where it is lent too little
 abbrev pub LookUpKeeps : Type 0
 LookUpKeeps =
     (s : List ℕ) (at note : ℕ) (index : List ℕ) (records : List Bracket) (items : List ℕ)

@@ -37,7 +37,7 @@ finishedOf s at note (NotReady number) index items = Refused number note
 finishedOf s at note (Ready l) index items =
     lookUpReturns (lookUpAnswers (judge s at (closeAfter s at index l)) items) (noteAfter (isBuild l) note)
 
--- and the item area
+-- the item area after the second half, the index being as it is after the build
 unfoldable pub finishedItems : List ℕ → ℕ → Prepared → List ℕ → List ℕ → List ℕ
 finishedItems s at (NotReady number) index items = items
 finishedItems s at (Ready l) index items = lookUpAnswers (judge s at (closeAfter s at index l)) items .items

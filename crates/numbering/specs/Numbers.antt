@@ -28,7 +28,7 @@ start items groups = record { sources = 0; items = items; groups = groups; label
 unfoldable pub keyDefined : List ℕ → List ℕ → List ℕ → List ℕ → ℕ → ℕ → Bool
 keyDefined text pool groups items n k = isDefined (definitionIn text groups items n pool (keyIn text items k))
 
--- so are those of the `m` records from `k` on
+-- the keys of the `m` records from `k` on are defined
 unfoldable pub keysDefined : List ℕ → List ℕ → List ℕ → List ℕ → ℕ → ℕ → ℕ → Bool
 keysDefined text pool groups items n zero k = true
 keysDefined text pool groups items n (suc m) k =

@@ -58,7 +58,7 @@ GoodIsSpelled =
     (s : List ℕ) (at e : ℕ) → entryGood s at e ≡ true
     → (fill s at e ≡ true) × ContentsGood (fieldsOf s at e) × ((x : EntryShape) × (tagsOf (fieldsOf s at e) ≡ entryTags x))
 
--- and all such entries are good
+-- every entry whose tags spell the grammar, its contents being good, is good
 abbrev pub SpelledIsGood : Type 0
 SpelledIsGood =
     (s : List ℕ) (at e : ℕ) (x : EntryShape) → fill s at e ≡ true → ContentsGood (fieldsOf s at e) → tagsOf (fieldsOf s at e) ≡ entryTags x
@@ -74,7 +74,7 @@ abbrev pub nameFields : Name → List Field
 nameFields n =
     record { tag = 2; bytes = [] } ∷ (optionalField 3 (n .family) ++ (optionalField 4 (n .given) ++ optionalField 5 (n .literal)))
 
--- those of some names
+-- the fields of some names
 unfoldable pub namesFields : List Name → List Field
 namesFields [] = []
 namesFields (n ∷ ns) = nameFields n ++ namesFields ns

@@ -91,7 +91,7 @@ fn behind(number: usize) -> u16 {
     if number == 10 { 0 } else { UNUSED }
 }
 
-// The same for the area of labels.
+// What the area of labels holds behind its bytes: zeros after refusal 10, else what it held.
 fn behind_labels(number: usize) -> u8 {
     if number == 10 { 0 } else { BLANK }
 }
@@ -137,7 +137,7 @@ fn refill(area: &mut [u16], n: usize, all: bool) {
     fill(area, if all { m } else { n }, UNUSED);
 }
 
-// The same for the area of labels.
+// Makes the area of labels what it was before the call; `all` of it after refusal 10.
 fn refill_labels(labels: &mut [u8], n: usize, all: bool) {
     let m = labels.len();
     fill_bytes(labels, if all { m } else { n }, BLANK);

@@ -24,7 +24,7 @@ pub fn fill(area: &mut [u16], n: usize, value: u16) {
     }
 }
 
-// The same for bytes.
+// Puts `value` at the first `n` places of an area of bytes.
 pub fn fill_bytes(area: &mut [u8], n: usize, value: u8) {
     let mut i: usize = 0;
     while i < area.len() {

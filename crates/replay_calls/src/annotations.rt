@@ -117,7 +117,7 @@ fn session_agrees(
     s.same & is_index(body, s.note, index)
 }
 
-// The same with areas for a short text.
+// Whether every annotation of a body has the stored answer, with areas for a short text.
 fn short_agrees(body: &[u8]) -> bool {
     let mut index = [0u16; 1024];
     let mut items = [UNUSED; 5504];
@@ -134,7 +134,7 @@ fn short_agrees(body: &[u8]) -> bool {
     )
 }
 
-// The same with areas for any text.
+// Whether every annotation of a body has the stored answer, with areas for any text.
 fn long_agrees(body: &[u8]) -> bool {
     let mut index = [0u16; 65536];
     let mut items = [UNUSED; 349536];

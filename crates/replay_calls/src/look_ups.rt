@@ -66,14 +66,14 @@ fn session_agrees(body: &[u8], index: &mut [u16], items: &mut [u16]) -> bool {
     s.same & is_index(body, s.note, index)
 }
 
-// The same with areas for a short text.
+// Whether every look-up of a body has the stored answer, with areas for a short text.
 fn short_agrees(body: &[u8]) -> bool {
     let mut index = [0u16; 1024];
     let mut items = [UNUSED; 5504];
     session_agrees(body, &mut index, &mut items)
 }
 
-// The same with areas for any text.
+// Whether every look-up of a body has the stored answer, with areas for any text.
 fn long_agrees(body: &[u8]) -> bool {
     let mut index = [0u16; 65536];
     let mut items = [UNUSED; 349536];

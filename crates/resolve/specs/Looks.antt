@@ -23,7 +23,7 @@ abbrev pub Inside : List ℕ → ℕ → Close → Type 0
 Inside s p (At c) = (p < c) × (c < length s) × (byteAt s c ≡ 93)
 Inside s p Nothing = Unit {0}
 
--- the same of what a look gives
+-- the close that a look gives lies after its bracket and in the text
 abbrev pub LookInside : List ℕ → ℕ → Look → Type 0
 LookInside s p (LookAt c) = Inside s p (At c)
 LookInside s p LookNothing = Unit {0}

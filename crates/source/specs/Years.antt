@@ -16,7 +16,7 @@ writtenYear s (Number negative magnitude) = some (signedDecimal (signed negative
 writtenYear s (At p) = some (bytesOf s p)
 writtenYear s Missing = none
 
--- its bytes lie in the pool
+-- the bytes of a year that is no number lie in the pool
 abbrev pub YearInside : List ℕ → EntryYear → Type 0
 YearInside s (Number negative magnitude) = Unit {0}
 YearInside s (At p) = p .at + p .len ≤ length s

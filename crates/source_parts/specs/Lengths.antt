@@ -32,7 +32,7 @@ unfoldable pub nameLenBy : Found → Found → Found → ℕ
 nameLenBy (At p) family given = p .len
 nameLenBy Missing family given = familyLen family given
 
--- the same of a name
+-- the length of a name as it is written
 unfoldable pub nameLen : NameParts → ℕ
 nameLen n = nameLenBy (n .literal) (n .family) (n .given)
 

@@ -92,7 +92,7 @@ fn write_both(pool: &[u8], piece: Span, given: Found, out: &mut [u8])
     write_given(pool, given, &mut out[k..]);
 }
 
-// The same, or nothing where there is no family.
+// A family, where there is one, and what the given name adds to it, at the front of `out`.
 fn write_family(pool: &[u8], family: Found, given: Found, out: &mut [u8])
     requires { ⌜ (Inside (now pool) family) × (Inside (now pool) given) × (familyLen family given ≤ length (now out)) ⌝ }
     ensures { λ _. ⌜ now (out .exit) ≡ written

@@ -25,7 +25,7 @@ pub record NameFits (s : List ℕ) (n : NameParts) (area : List ℕ) (k : ℕ) :
   pub front : k ≤ length area
   pub room : length (addName (take k area) (nameAtParts s n)) ≤ length area
 
--- so has the name that the field at `i` begins, if it is a 2; the fields after it begin at `end`
+-- there is room for the name that the field at `i` begins, if it is a 2; the fields after it begin at `end`
 pub record NextFits (s : List ℕ) (i end e : ℕ) (area : List ℕ) (k : ℕ) : Type 0 where
   pub small : length s ≤ 32768
   pub tag : i < length s

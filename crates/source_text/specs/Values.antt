@@ -12,7 +12,7 @@ unfoldable pub sourceTextValues : SourceText → List ℕ
 sourceTextValues (Accepted bytes) = 0 ∷ bytes ∷ []
 sourceTextValues (Refused number) = number ∷ 0 ∷ []
 
--- the same numbers of the call by its definition
+-- number and bytes of the source text call by its definition
 unfoldable pub sourceTextNumbers : SourceAnswer → List ℕ
 sourceTextNumbers a = a .number ∷ a .bytes ∷ []
 

@@ -12,7 +12,7 @@ use Rattle.sweep.specs.Stops.{Stop, stopFrom}
 abbrev pub SizeEnough : Type 0
 SizeEnough = (text : List ℕ) → itemCount (sweepOf text) ≤ length text / 3
 
--- and none with any other index and note: a place that an index holds is taken only after its bracket and inside the text
+-- no sweep with any index and note has more items: a place that an index holds is taken only after its bracket and inside the text
 abbrev pub SizeEnoughRun : Type 0
 SizeEnoughRun = (text : List ℕ) (l : Lent) → itemCount (sweepRun text l .groups) ≤ length text / 3
 
@@ -24,6 +24,6 @@ goneOn text so-far l s =
     (so-far ++ (s .groups ++ stopFrom text (lentAfter (s .wants) text l .note) (lentAfter (s .wants) text l .index) (s .at) .groups))
     (lentAfter (s .wants) text l)
 
--- it is the sweep as run
+-- the sweep in two stretches, with the build between them, is the sweep as run
 abbrev pub SweepInTwo : Type 0
 SweepInTwo = (text : List ℕ) (l : Lent) → sweepRun text l ≡ goneOn text [] l (stopFrom text (l .note) (l .index) 0)

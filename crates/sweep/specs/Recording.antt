@@ -48,7 +48,7 @@ pub record ItemsRoom (text : List ℕ) (at close n : ℕ) (items : List ℕ) : T
   pub short : length text ≤ 65535
   pub room : itemWidth * (n + length (itemsOf text at close)) ≤ length items
 
--- that group can be recorded from the state `s`, the areas being `items` and `groups` numbers long
+-- the group from `at` to `close` can be recorded from the state `s`, the areas being `items` and `groups` numbers long
 pub record Recordable (text : List ℕ) (at close count : ℕ) (s : SweepState) (items groups : ℕ) : Type 0 where
   pub stands : GroupFrom text at close count
   pub short : length text ≤ 65535

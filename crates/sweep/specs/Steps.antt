@@ -23,7 +23,7 @@ sweepStep NoGroup = Next
 unfoldable pub stepAt : List ℕ → ℕ → List ℕ → ℕ → Step
 stepAt text note index at = pick (wantsAt text note at) Build (sweepStep (foundWith text note index at))
 
--- the same state at another place
+-- a state of the sweep at another place
 abbrev pub movedTo : SweepState → ℕ → Bool → SweepState
 movedTo s at wants = record {
   at = at;

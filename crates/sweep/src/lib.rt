@@ -63,7 +63,7 @@ fn step_at(text: &[u8], note: u8, index: &[u16], at: usize) -> Step
     }
 }
 
-// The same state at another place.
+// A state of the sweep at another place.
 fn move_to(s: SweepState, at: usize, wants: bool) -> SweepState
     ensures { λ r. ⌜ r ≡ movedTo s at wants ⌝ }
 {

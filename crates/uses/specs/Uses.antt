@@ -19,7 +19,7 @@ use Rattle.uses.specs.declared.Count.{Count}
 abbrev pub usedAt : List ℕ → List ℕ → List ℕ → ℕ → Bool
 usedAt text items key j = ltb 0 (itemField items j item-number) && same (keyIn text items j) key
 
--- it is numbered, and has the key of record `k`
+-- item record `j` is numbered, and has the key of record `k`
 unfoldable pub sameUse : List ℕ → List ℕ → ℕ → ℕ → Bool
 sameUse text items k j = usedAt text items (keyIn text items k) j
 
@@ -32,7 +32,7 @@ abbrev pub alikeAt : List ℕ → List ℕ → ℕ → ℕ → List ℕ → ℕ 
 alikeAt text items number mark key j =
     eqb (itemField items j item-number) number && eqb (itemField items j item-marks) mark && same (keyIn text items j) key
 
--- it has this number, and the mark of suppression and the key of record `k`
+-- item record `j` has this number, and the mark of suppression and the key of record `k`
 unfoldable pub sameLabel : List ℕ → List ℕ → ℕ → ℕ → ℕ → Bool
 sameLabel text items k number j = alikeAt text items number (itemField items k item-marks) (keyIn text items k) j
 
@@ -45,7 +45,7 @@ unfoldable pub numberIn : List ℕ → List ℕ → ℕ → ℕ → ℕ
 numberIn text items sources k =
     pick (ltb (lastUse text items k) k) (itemField items (lastUse text items k) item-number) ((sources + 1) % 65536)
 
--- its use: one more than that of the last such record; 0 without a pool
+-- the use of item record `k`: one more than that of the last record with its key; 0 without a pool
 unfoldable pub useIn : List ℕ → List ℕ → Bool → ℕ → ℕ
 useIn text items pooled k =
     pick pooled (pick (ltb (lastUse text items k) k) ((itemField items (lastUse text items k) item-use + 1) % 65536) 1) 0

@@ -41,7 +41,7 @@ codeBy a b c d =
 abbrev pub codeAt : List ℕ → ℕ → ℕ
 codeAt s i = codeBy (byteAt s i) (byteAt s (i + 1)) (byteAt s (i + 2)) (byteAt s (i + 3))
 
--- those from place `i` on, at most `turns` of them
+-- the code points from place `i` on, at most `turns` of them
 unfoldable pub decodedIn : ℕ → List ℕ → ℕ → List ℕ
 decodedIn zero s i = []
 decodedIn (suc turns) s i = pick (ltb i (length s)) (codeAt s i ∷ decodedIn turns s (i + charWidth s i)) []

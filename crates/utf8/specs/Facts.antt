@@ -15,10 +15,10 @@ Scalars cs = Each (λ c. isScalar c ≡ true) cs
 abbrev pub EncodedIsUtf8 : Type 0
 EncodedIsUtf8 = (cs : List ℕ) → Scalars cs → utf8 (encoded cs) ≡ true
 
--- the same the other way: bytes that are accepted are the encoding of a list of code points
+-- bytes that are accepted are the encoding of a list of code points
 abbrev pub Utf8IsEncoded : Type 0
 Utf8IsEncoded = (s : List ℕ) → utf8 s ≡ true → Scalars (decoded s) × (encoded (decoded s) ≡ s)
 
--- and of one only: each list of code points is read back from its encoding
+-- each list of code points is read back from its encoding, so that an accepted text encodes one list only
 abbrev pub DecodedIsBack : Type 0
 DecodedIsBack = (cs : List ℕ) → Scalars cs → decoded (encoded cs) ≡ cs

@@ -31,7 +31,7 @@ StandsAt s i k = (k < length whiteSpaces) × (part s i (i + length (whiteBytes k
 abbrev pub WhiteHasWidth : Type 0
 WhiteHasWidth = (s : List ℕ) (i k : ℕ) → StandsAt s i k → spaceWidth s i ≡ length (whiteBytes k)
 
--- and where a white character begins, one of them stands
+-- where a white character begins, the encoding of one of the 25 code points stands
 abbrev pub WidthIsWhite : Type 0
 WidthIsWhite = (s : List ℕ) (i : ℕ) → 0 < spaceWidth s i → (k : ℕ) × StandsAt s i k
 
@@ -39,6 +39,6 @@ WidthIsWhite = (s : List ℕ) (i : ℕ) → 0 < spaceWidth s i → (k : ℕ) × 
 abbrev pub BytesAreWhite : Type 0
 BytesAreWhite = (s : List ℕ) (i j k : ℕ) → StandsAt s i k → i ≤ j → j < i + length (whiteBytes k) → isWhite s j ≡ true
 
--- and a white byte is a byte of one of them
+-- a white byte is a byte of the encoding of one of the 25 code points
 abbrev pub WhiteIsByte : Type 0
 WhiteIsByte = (s : List ℕ) (j : ℕ) → isWhite s j ≡ true → (i : ℕ) × (k : ℕ) × StandsAt s i k × (i ≤ j) × (j < i + length (whiteBytes k))
