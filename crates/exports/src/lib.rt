@@ -1,5 +1,6 @@
 // The public calls for C and Rust, under the names of include/citations.h. A slice is a pointer and a length in elements.
 // `answer` gets the number (0 accepted), then the values in the paper's order; a call with a shorter one does nothing.
+#![tactic(auto)]
 ghost use Rattle.std.specs.Prelude.{◌≡◌};
 ghost use Rattle.annotation.specs.Content.{areas};
 ghost use Rattle.exports.specs.Areas.{look_up_areas, after_look_up, annotate_areas, after_annotate, after_size, after_locator, source_areas, after_source_text};

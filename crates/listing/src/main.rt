@@ -1,5 +1,6 @@
 // Lists the citations of a text of at most 4,096 bytes: reads it from standard input, and writes the counts of groups, items and sources and
 // a line for each item; or `refused N`. What is written for which text is what `listing_lines::list` promises.
+#![tactic(auto)]
 ghost use Rattle.std.specs.Prelude.{◌≡◌, length};
 
 use libc::{STDIN_FILENO, STDOUT_FILENO};

@@ -1,4 +1,5 @@
 // Numbers, uses and labels, over item and group records.
+#![tactic(auto)]
 pub mod numbers;
 
 ghost use Rattle.std.specs.Prelude.{◌≡◌, true, ◌≤◌};

@@ -1,5 +1,6 @@
 // Replays the Rust's stored answers, data/answers, against the proved functions, and says for each kind how many agree.
 // docs/DIFFERENCES.md says how the list was made and how it is laid out.
+#![tactic(auto)]
 ghost use Rattle.std.specs.Prelude.{◌≡◌, ◌<◌, ◌≤◌, length};
 
 use libc::STDOUT_FILENO;

@@ -8,10 +8,10 @@ use Rattle.utf8.proofs.Characters.{block_laws}
 use Rattle.utf8.proofs.is_ascii_block.Statement.{statement}
 use Rattle.utf8.proofs.is_ascii_block.Tie as tie
 
-abbrev invariant-loop : tie.invariant-loop
+abbrev invariant-loop : tie.invariant-loop-n
 invariant-loop text at ascii₀ n₀ ascii n = (n ≤ 64) × (ascii ≡ all_ascii n text at)
 
-abbrev decreases-loop : tie.decreases-loop
+abbrev decreases-loop : tie.decreases-loop-n
 decreases-loop text at ascii₀ n₀ ascii n = 64 - n
 
 pub is_ascii_block_spec : {M : Type 1} → statement M

@@ -9,10 +9,10 @@ use Rattle.utf8.proofs.Characters.{Rest, rest_laws, char_le, step_within}
 use Rattle.utf8.proofs.is_utf8.Statement.{statement}
 use Rattle.utf8.proofs.is_utf8.Tie as tie
 
-abbrev invariant-loop : tie.invariant-loop
+abbrev invariant-loop : tie.invariant-loop-at
 invariant-loop text at₀ at = Rest text at (utf8 text)
 
-abbrev decreases-loop : tie.decreases-loop
+abbrev decreases-loop : tie.decreases-loop-at
 decreases-loop text at₀ at = length text - at
 
 pub is_utf8_spec : {M : Type 1} → statement M
@@ -24,12 +24,12 @@ is_utf8_spec =
     (λ c. search rest_laws)
     (λ c. search rules)
     (λ c κs. search rules)
-    (λ c. omega (arith, step_within _ _ c.ascii-step.ensures))
-    (λ c. omega (arith, step_within _ _ c.ascii-step.ensures))
+    (λ c. omega (arith, step_within _ _ c.ascii_step-at.ensures))
+    (λ c. omega (arith, step_within _ _ c.ascii_step-at.ensures))
     (λ c. search rest_laws)
     (λ c κs. search rules)
     (λ c. search rest_laws)
-    (λ c. omega (arith, char_le _ _ c.before.char-width.ensures))
+    (λ c. omega (arith, char_le _ _ c.char_width-width.ensures))
     (λ c. search rules)
     (λ c. search rest_laws)
     (λ c. search rest_laws))

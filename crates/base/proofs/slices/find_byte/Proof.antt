@@ -8,10 +8,10 @@ use Rattle.base.proofs.Searches.{find_laws}
 use Rattle.base.proofs.slices.find_byte.Statement.{statement}
 use Rattle.base.proofs.slices.find_byte.Tie as tie
 
-abbrev invariant-loop : tie.invariant-loop
+abbrev invariant-loop : tie.invariant-loop-i
 invariant-loop s b a e i₀ i = first_of b s a e ≡ first_of b s i e
 
-abbrev decreases-loop : tie.decreases-loop
+abbrev decreases-loop : tie.decreases-loop-i
 decreases-loop s b a e i₀ i = e - i
 
 pub find_byte_spec : {M : Type 1} → statement M

@@ -9,10 +9,10 @@ use Rattle.base.proofs.Sames.{same_laws}
 use Rattle.base.proofs.slices.is_same.Statement.{statement}
 use Rattle.base.proofs.slices.is_same.Tie as tie
 
-abbrev invariant-loop : tie.invariant-loop
+abbrev invariant-loop : tie.invariant-loop-i
 invariant-loop a b i₀ i = (i ≤ length a) × (same a b ≡ same (drop i a) (drop i b))
 
-abbrev decreases-loop : tie.decreases-loop
+abbrev decreases-loop : tie.decreases-loop-i
 decreases-loop a b i₀ i = length a - i
 
 pub is_same_spec : {M : Type 1} → statement M

@@ -8,10 +8,10 @@ use Rattle.base.proofs.Searches.{skip_laws}
 use Rattle.base.proofs.slices.skip_byte.Statement.{statement}
 use Rattle.base.proofs.slices.skip_byte.Tie as tie
 
-abbrev invariant-loop : tie.invariant-loop
+abbrev invariant-loop : tie.invariant-loop-i
 invariant-loop s b a e i₀ i = first_other b s a e ≡ first_other b s i e
 
-abbrev decreases-loop : tie.decreases-loop
+abbrev decreases-loop : tie.decreases-loop-i
 decreases-loop s b a e i₀ i = e - i
 
 pub skip_byte_spec : {M : Type 1} → statement M
