@@ -21,7 +21,7 @@ DECLARED = re.compile(
 # Names that Rattle makes, which a proof file declares as they are.
 MADE = re.compile(r"(invariant|decreases)-|returns-\d|loop-")
 # Names that are bound and never declared.
-BOUND = ["otherItems", "otherGroups", "restG", "beforeGroups", "beforeItems", "afterGroups", "afterItems", "chapterIV"]
+BOUND = ["otherItems", "otherGroups", "restG", "beforeGroups", "beforeItems", "afterGroups", "afterItems"]
 # Two names of one spelling in one file: the lemma or the field gives way.
 SPECIAL = {
     "author-bytes": "author_as",
@@ -30,7 +30,6 @@ SPECIAL = {
     "item-records": "items_recorded",
     "in-line": "in_line_zero",
     "use-index": "use_as",
-    "chapterIV": "chapter_iv",
     "restG": "rest_g",
 }
 LEM = "all-defined all-good annotation-note annotation-shows close-after decoded-in final-use group-field item-field in-value key-at key-of label-by last-from locator-values look-up-note look-up-shows size-values pair-good read-on records-length uses-added width-by annotate-left keys-defined look-up-left look-up-refused source-refused same-label white-one word-start last-alike year-in year-text item-numbers records-fit defined-as is-blank key-by year-by next-at"

@@ -24,7 +24,7 @@ fn put(out: &mut [u8], k: usize, bytes: &[u8]) -> usize
     requires { Room k bytes.now out.old }
     ensures { Put k bytes.now out.old out.new result }
 {
-    bytes::copy(bytes, &mut out[k..]);
+    out[k..k + bytes.len()].copy_from_slice(bytes);
     k + bytes.len()
 }
 

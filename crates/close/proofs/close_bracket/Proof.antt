@@ -9,11 +9,11 @@ use Rattle.close.proofs.Laws.{laws}
 use Rattle.close.proofs.close_bracket.Statement.{statement}
 use Rattle.close.proofs.close_bracket.Tie as tie
 
-abbrev invariant-loop : tie.invariant-loop
+abbrev invariant-loop : tie.invariant-loop-i
 invariant-loop text at limit end i₀ d₀ i d =
     (end ≤ length text) × (0 < d.nest) × (d.nest ≤ i) × (close_within limit text at ≡ close_in (end - i) text i d)
 
-abbrev decreases-loop : tie.decreases-loop
+abbrev decreases-loop : tie.decreases-loop-i
 decreases-loop text at limit end i₀ d₀ i d = end - i
 
 pub close_bracket_spec : {M : Type 1} → statement M

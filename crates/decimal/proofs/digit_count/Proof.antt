@@ -7,11 +7,11 @@ use Rattle.decimal.specs.Decimal.{digit_count, count_in}
 use Rattle.decimal.proofs.digit_count.Statement.{statement}
 use Rattle.decimal.proofs.digit_count.Tie as tie
 
-abbrev invariant-loop : tie.invariant-loop
+abbrev invariant-loop : tie.invariant-loop-left
 invariant-loop n m₀ left₀ m left =
     (left ≤ 19) × (digit_count n + left ≡ 19 + count_in left m)
 
-abbrev decreases-loop : tie.decreases-loop
+abbrev decreases-loop : tie.decreases-loop-left
 decreases-loop n m₀ left₀ m left = left
 
 pub digit_count_spec : {M : Type 1} → statement M

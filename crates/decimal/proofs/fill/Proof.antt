@@ -9,11 +9,11 @@ use Rattle.decimal.specs.Decimal.{last_digits}
 use Rattle.decimal.proofs.fill.Statement.{statement}
 use Rattle.decimal.proofs.fill.Tie as tie
 
-abbrev invariant-loop : tie.invariant-loop
+abbrev invariant-loop : tie.invariant-loop-j
 invariant-loop out₀ k n j₀ m₀ out j m =
     (j ≤ k) × (length out ≡ length out₀) × (last_digits j m ++ drop j out ≡ last_digits k n ++ drop k out₀)
 
-abbrev decreases-loop : tie.decreases-loop
+abbrev decreases-loop : tie.decreases-loop-j
 decreases-loop out₀ k n j₀ m₀ out j m = j
 
 pub fill_spec : {M : Type 1} → statement M

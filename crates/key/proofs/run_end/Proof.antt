@@ -9,10 +9,10 @@ use Rattle.key.proofs.Laws.{laws}
 use Rattle.key.proofs.run_end.Statement.{statement}
 use Rattle.key.proofs.run_end.Tie as tie
 
-abbrev invariant-loop : tie.invariant-loop
+abbrev invariant-loop : tie.invariant-loop-i
 invariant-loop text start i₀ i = run_end text start ≡ run_end text i
 
-abbrev decreases-loop : tie.decreases-loop
+abbrev decreases-loop : tie.decreases-loop-i
 decreases-loop text start i₀ i = length text - i
 
 pub run_end_spec : {M : Type 1} → statement M

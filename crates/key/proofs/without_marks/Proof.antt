@@ -9,10 +9,10 @@ use Rattle.key.proofs.Laws.{laws}
 use Rattle.key.proofs.without_marks.Statement.{statement}
 use Rattle.key.proofs.without_marks.Tie as tie
 
-abbrev invariant-loop : tie.invariant-loop
+abbrev invariant-loop : tie.invariant-loop-e
 invariant-loop text start end e₀ e = (start ≤ e) × (e ≤ length text) × (without_marks text start end ≡ without_marks text start e)
 
-abbrev decreases-loop : tie.decreases-loop
+abbrev decreases-loop : tie.decreases-loop-e
 decreases-loop text start end e₀ e = e - start
 
 pub without_marks_spec : {M : Type 1} → statement M

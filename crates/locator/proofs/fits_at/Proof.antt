@@ -8,17 +8,17 @@ use Rattle.locator.proofs.Words.{words, fits_more}
 use Rattle.locator.proofs.fits_at.Statement.{statement}
 use Rattle.locator.proofs.fits_at.Tie as tie
 
-abbrev invariant-loop : tie.invariant-loop
+abbrev invariant-loop : tie.invariant-loop-w
 invariant-loop text i e words from to k₀ w₀ k w = fits (word_at words from to) text i e ≡ fits (word_at words w to) text k e
 
-abbrev decreases-loop : tie.decreases-loop
+abbrev decreases-loop : tie.decreases-loop-w
 decreases-loop text i e words from to k₀ w₀ k w = to - w
 
-loop-again : tie.Need-loop-preserved invariant-loop decreases-loop
+loop-again : tie.Need-loop-w-preserved invariant-loop decreases-loop
 loop-again c =
     let lowered = c.before.before in
     let turn = lowered.before.before.before in
-    fits_more _ _ _ _ _ _ turn.before.loop.invariant (search rules) (search rules) (search rules) lowered.to-lower.ensures c.if2.true
+    fits_more _ _ _ _ _ _ turn.before.loop.invariant (search rules) (search rules) (search rules) lowered.to-lower.ensures c.if-to_lower-words.true
 
 pub fits_at_spec : {M : Type 1} → statement M
 fits_at_spec =

@@ -10,10 +10,10 @@ use Rattle.locator.proofs.Rows.{rows as row_laws, row-order, row_room, match-nex
 use Rattle.locator.proofs.match_in.Statement.{statement}
 use Rattle.locator.proofs.match_in.Tie as tie
 
-abbrev invariant-loop : tie.invariant-loop
+abbrev invariant-loop : tie.invariant-loop-k
 invariant-loop text i e words rows first k₀ k = match_in matchers text i e ≡ match_in (drop k matchers) text i e
 
-abbrev decreases-loop : tie.decreases-loop
+abbrev decreases-loop : tie.decreases-loop-k
 decreases-loop text i e words rows first k₀ k = length rows - k
 
 -- back from a matcher that stands: its test, the row's end and start, the turn, and the function's entry
@@ -32,7 +32,7 @@ add_t29 c =
     let entry = turn.before.before.before.before.before.before in
     omega (arith, row_room _ _ _ entry.requires.2 turn.loop-test.true ended.wide2.ensures)
 
-returns : tie.Need-returns invariant-loop decreases-loop
+returns : tie.Need-returns-then-stands_at invariant-loop decreases-loop
 returns c =
     let tested = c.before.before.before in
     let ended = tested.before in
@@ -40,9 +40,9 @@ returns c =
     let turn = began.before.before in
     let entry = turn.before.before.before.before.before.before in
     match-here _ _ _ _ _ _ entry.requires.2 turn.before.loop.invariant turn.loop-test.true began.wide.ensures ended.wide2.ensures
-    tested.stands_at.ensures c.before.before.if1.true c.wide-code.ensures
+    tested.stands_at.ensures c.if-stands_at.true c.wide_code.ensures
 
-loop-again : tie.Need-loop-preserved invariant-loop decreases-loop
+loop-again : tie.Need-loop-k-preserved invariant-loop decreases-loop
 loop-again c =
     let tested = c.before in
     let ended = tested.before in
@@ -50,7 +50,7 @@ loop-again c =
     let turn = began.before.before in
     let entry = turn.before.before.before.before.before.before in
     match-next _ _ _ _ _ _ entry.requires.2 turn.before.loop.invariant turn.loop-test.true began.wide.ensures ended.wide2.ensures
-    tested.stands_at.ensures c.if1.false
+    tested.stands_at.ensures c.if-stands_at.false
 
 pub match_in_spec : {M : Type 1} → statement M
 match_in_spec =

@@ -8,7 +8,7 @@ use Rattle.locator.specs.Table.{word_at, is_row, is_table}
 use Rattle.locator.proofs.matcher_at.Statement.{statement}
 use Rattle.locator.proofs.matcher_at.Tie as tie
 
-match_in_requires : tie.Need-match-in-requires
+match_in_requires : tie.Need-match_in-requires
 unfolding is_table is_row word_at same matchers ascii
 match_in_requires c κs = (search rules, search rules, refl)
 

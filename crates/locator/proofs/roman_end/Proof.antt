@@ -7,10 +7,10 @@ use Rattle.locator.proofs.Scans.{scans}
 use Rattle.locator.proofs.roman_end.Statement.{statement}
 use Rattle.locator.proofs.roman_end.Tie as tie
 
-abbrev invariant-loop : tie.invariant-loop
+abbrev invariant-loop : tie.invariant-loop-k
 invariant-loop text i e k₀ k = roman_end text i e ≡ roman_end text k e
 
-abbrev decreases-loop : tie.decreases-loop
+abbrev decreases-loop : tie.decreases-loop-k
 decreases-loop text i e k₀ k = e - k
 
 pub roman_end_spec : {M : Type 1} → statement M

@@ -7,10 +7,10 @@ use Rattle.locator.proofs.Scans.{scans}
 use Rattle.locator.proofs.skip_blanks.Statement.{statement}
 use Rattle.locator.proofs.skip_blanks.Tie as tie
 
-abbrev invariant-loop : tie.invariant-loop
+abbrev invariant-loop : tie.invariant-loop-k
 invariant-loop text i e k₀ k = skip_blanks text i e ≡ skip_blanks text k e
 
-abbrev decreases-loop : tie.decreases-loop
+abbrev decreases-loop : tie.decreases-loop-k
 decreases-loop text i e k₀ k = e - k
 
 pub skip_blanks_spec : {M : Type 1} → statement M

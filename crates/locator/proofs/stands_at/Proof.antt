@@ -4,8 +4,8 @@ use Rattle.locator.proofs.Words.{words, stands-first}
 use Rattle.locator.proofs.stands_at.Statement.{statement}
 use Rattle.locator.proofs.stands_at.Tie as tie
 
-returns-3 : tie.Need-returns-3
-returns-3 c = stands-first _ _ _ _ _ _ c.before.before.before.before.requires.2 c.if1.false (search rules) (search rules)
+returns-3 : tie.Need-returns-else-words-from
+returns-3 c = stands-first _ _ _ _ _ _ c.requires.2 c.if-words-from.false (search rules) (search rules)
 
 pub stands_at_spec : {M : Type 1} → statement M
 stands_at_spec =

@@ -6,7 +6,7 @@ use Rattle.locator.proofs.to_lower.Statement.{statement}
 use Rattle.locator.proofs.to_lower.Tie as tie
 
 add_result : tie.Need-overflow-add-result
-add_result c = omega (arith, lower_room c.before.args.b c.if1.true)
+add_result c = omega (arith, lower_room c.args.b c.if-b.true)
 
 pub to_lower_spec : {M : Type 1} → statement M
 to_lower_spec = tie.close (tie.spec add_result (λ c. search (words, rules)) (λ c. search (words, rules)))

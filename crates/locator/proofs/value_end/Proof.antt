@@ -7,10 +7,10 @@ use Rattle.locator.proofs.Scans.{scans}
 use Rattle.locator.proofs.value_end.Statement.{statement}
 use Rattle.locator.proofs.value_end.Tie as tie
 
-abbrev invariant-loop : tie.invariant-loop
+abbrev invariant-loop : tie.invariant-loop-i
 invariant-loop text v run i₀ i = (i ≤ run) × (value_end text v run ≡ value_end text v i)
 
-abbrev decreases-loop : tie.decreases-loop
+abbrev decreases-loop : tie.decreases-loop-i
 decreases-loop text v run i₀ i = i - v
 
 pub value_end_spec : {M : Type 1} → statement M

@@ -7,10 +7,10 @@ use Rattle.locator.proofs.Scans.{scans}
 use Rattle.locator.proofs.value_run.Statement.{statement}
 use Rattle.locator.proofs.value_run.Tie as tie
 
-abbrev invariant-loop : tie.invariant-loop
+abbrev invariant-loop : tie.invariant-loop-k
 invariant-loop text v e k₀ k = value_run text v e ≡ value_run text k e
 
-abbrev decreases-loop : tie.decreases-loop
+abbrev decreases-loop : tie.decreases-loop-k
 decreases-loop text v e k₀ k = e - k
 
 pub value_run_spec : {M : Type 1} → statement M

@@ -7,11 +7,11 @@ use Rattle.pool.specs.Layout.{entries_good}
 use Rattle.pool.proofs.are_entries.Statement.{statement}
 use Rattle.pool.proofs.are_entries.Tie as tie
 
-abbrev invariant-loop : tie.invariant-loop
+abbrev invariant-loop : tie.invariant-loop-i
 invariant-loop pool count at₀ i₀ at i =
     (i ≤ count) × (entries_good count pool 0 (2 + 4 * count) ≡ entries_good (count - i) pool i at)
 
-abbrev decreases-loop : tie.decreases-loop
+abbrev decreases-loop : tie.decreases-loop-i
 decreases-loop pool count at₀ i₀ at i = count - i
 
 pub are_entries_spec : {M : Type 1} → statement M

@@ -8,7 +8,7 @@ use Rattle.pool.proofs.field_end.Tie as tie
 
 returns : tie.Need-returns
 unfolding field_end
-returns c = ap (λ (n : ℕ). c.before.before.args.at + 3 + n) c.u16-at.ensures.0
+returns c = ap (λ (n : ℕ). c.args.at + 3 + n) c.u16_at.ensures.0
 
 pub field_end_spec : {M : Type 1} → statement M
 field_end_spec =

@@ -7,11 +7,11 @@ use Rattle.pool.specs.Fields.{good_from, entry_good}
 use Rattle.pool.proofs.is_entry.Statement.{statement}
 use Rattle.pool.proofs.is_entry.Tie as tie
 
-abbrev invariant-loop : tie.invariant-loop
+abbrev invariant-loop : tie.invariant-loop-i
 invariant-loop pool at e last₀ i₀ last i =
     (i ≤ e) × (entry_good pool at e ≡ good_from last pool i e)
 
-abbrev decreases-loop : tie.decreases-loop
+abbrev decreases-loop : tie.decreases-loop-i
 decreases-loop pool at e last₀ i₀ last i = e - i
 
 pub is_entry_spec : {M : Type 1} → statement M
@@ -23,7 +23,7 @@ is_entry_spec =
     (λ c. search (entry_laws, rules))
     (λ c κs. search (entry_laws, rules))
     (λ c. search (entry_laws, rules))
-    (λ c κs. field_room _ _ _ _ c.before.before.is_field.ensures c.before.if1.true c.before.before.before.before.before.before.requires.1)
+    (λ c κs. field_room _ _ _ _ c.is_field.ensures c.if-is_field.true c.requires.1)
     (λ c. search (entry_laws, rules))
     (λ c. search (entry_laws, rules))
     (λ c. search (entry_laws, rules))

@@ -8,10 +8,10 @@ use borrow.Author.Rules.{rules}
 use Rattle.pool.proofs.le_at.Statement.{statement}
 use Rattle.pool.proofs.le_at.Tie as tie
 
-abbrev invariant-loop : tie.invariant-loop
+abbrev invariant-loop : tie.invariant-loop-k
 invariant-loop pool i width k₀ n₀ k n = (k ≤ width) × (n ≡ le_at (width - k) pool (i + k))
 
-abbrev decreases-loop : tie.decreases-loop
+abbrev decreases-loop : tie.decreases-loop-k
 decreases-loop pool i width k₀ n₀ k n = k
 
 pub le_at_spec : {M : Type 1} → statement M
@@ -24,9 +24,9 @@ le_at_spec =
     (λ c. search (le_laws, rules))
     (λ c. search (le_laws, rules))
     (λ c. search (le_laws, rules))
-    (λ c. omega (arith, c.shared-slice-known.given (c.before.before.before.args.i + (c.before.before.loop.k - 1))))
-    (λ c. omega (arith, le_room 8 c.before.before.before.args.width c.before.before.before.args.pool.now c.before.before.before.args.i c.before.before.loop.k c.before.before.loop.invariant.1 c.before.before.loop.invariant.0 c.before.loop-test.true c.before.before.before.requires.1 (λ j. (c.shared-slice-known.given j).fits)))
-    (λ c. omega (arith, le_room 8 c.before.before.before.args.width c.before.before.before.args.pool.now c.before.before.before.args.i c.before.before.loop.k c.before.before.loop.invariant.1 c.before.before.loop.invariant.0 c.before.loop-test.true c.before.before.before.requires.1 (λ j. (c.shared-slice-known.given j).fits)))
+    (λ c. omega (arith, c.shared_slice_known-1.given (c.args.i + (c.loop-k.k - 1))))
+    (λ c. omega (arith, le_room 8 c.args.width c.args.pool.now c.args.i c.loop-k.k c.loop-k.invariant.1 c.loop-k.invariant.0 c.loop-k-test.true c.requires.1 (λ j. (c.shared_slice_known-1.given j).fits)))
+    (λ c. omega (arith, le_room 8 c.args.width c.args.pool.now c.args.i c.loop-k.k c.loop-k.invariant.1 c.loop-k.invariant.0 c.loop-k-test.true c.requires.1 (λ j. (c.shared_slice_known-1.given j).fits)))
     (λ c. search (le_laws, rules))
     (λ c. search (le_laws, rules))
     (λ c. search (le_laws, rules)))

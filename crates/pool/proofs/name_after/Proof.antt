@@ -11,4 +11,4 @@ name_after_spec =
     (λ c κs. search rules)
     (λ c κs. search rules)
     (λ c κs. search rules)
-    (λ c. name_reads _ _ c.before.before.name-field.ensures c.before.name-field2.ensures c.name-field3.ensures))
+    (λ c. name_reads _ _ c.name_field-family.ensures c.name_field-given.ensures c.name_field-literal.ensures))

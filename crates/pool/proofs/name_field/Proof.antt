@@ -9,11 +9,11 @@ use Rattle.pool.specs.Places.{FieldsIn}
 use Rattle.pool.proofs.name_field.Statement.{statement}
 use Rattle.pool.proofs.name_field.Tie as tie
 
-abbrev invariant-loop : tie.invariant-loop
+abbrev invariant-loop : tie.invariant-loop-i
 invariant-loop pool at e tag i₀ i =
     FieldsIn pool i e × (in_name tag (fields_of pool at e) ≡ in_name tag (fields_of pool i e))
 
-abbrev decreases-loop : tie.decreases-loop
+abbrev decreases-loop : tie.decreases-loop-i
 decreases-loop pool at e tag i₀ i = e - i
 
 pub name_field_spec : {M : Type 1} → statement M

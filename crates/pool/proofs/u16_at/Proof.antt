@@ -11,10 +11,10 @@ u16_at_spec =
     tie.close
     (tie.spec
     (λ c. search rules)
-    (λ c. omega (arith, c.shared-slice-known.given c.before.args.i))
+    (λ c. omega (arith, c.shared_slice_known-1.given c.args.i))
     (λ c. search rules)
     (λ c. search rules)
-    (λ c. omega (arith, c.shared-slice-known2.given (c.before.before.args.i + 1)))
-    (λ c. omega (arith, c.shared-slice-known2.given (c.before.before.args.i + 1)))
-    (λ c. omega (arith, c.before.shared-slice-known.given c.before.before.args.i, c.shared-slice-known2.given (c.before.before.args.i + 1)))
-    (λ c. (two_is _ _, omega (arith, c.before.shared-slice-known.given c.before.before.args.i, c.shared-slice-known2.given (c.before.before.args.i + 1)))))
+    (λ c. omega (arith, c.shared_slice_known-2-1.given (c.args.i + 1)))
+    (λ c. omega (arith, c.shared_slice_known-2-1.given (c.args.i + 1)))
+    (λ c. omega (arith, c.shared_slice_known-1.given c.args.i, c.shared_slice_known-2-1.given (c.args.i + 1)))
+    (λ c. (two_is _ _, omega (arith, c.shared_slice_known-1.given c.args.i, c.shared_slice_known-2-1.given (c.args.i + 1)))))

@@ -8,10 +8,10 @@ use Rattle.text.proofs.Laws.{trim_laws}
 use Rattle.text.proofs.first_not_white.Statement.{statement}
 use Rattle.text.proofs.first_not_white.Tie as tie
 
-abbrev invariant-loop : tie.invariant-loop
+abbrev invariant-loop : tie.invariant-loop-i
 invariant-loop text a e i₀ i = trim_start text a e ≡ trim_start text i e
 
-abbrev decreases-loop : tie.decreases-loop
+abbrev decreases-loop : tie.decreases-loop-i
 decreases-loop text a e i₀ i = e - i
 
 pub first_not_white_spec : {M : Type 1} → statement M

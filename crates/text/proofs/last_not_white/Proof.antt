@@ -8,10 +8,10 @@ use Rattle.text.proofs.Laws.{trim_laws}
 use Rattle.text.proofs.last_not_white.Statement.{statement}
 use Rattle.text.proofs.last_not_white.Tie as tie
 
-abbrev invariant-loop : tie.invariant-loop
+abbrev invariant-loop : tie.invariant-loop-i
 invariant-loop text e a i₀ i = (i ≤ e) × (trim_end text a e ≡ trim_end text a i)
 
-abbrev decreases-loop : tie.decreases-loop
+abbrev decreases-loop : tie.decreases-loop-i
 decreases-loop text e a i₀ i = i - a
 
 pub last_not_white_spec : {M : Type 1} → statement M

@@ -8,10 +8,10 @@ use Rattle.text.proofs.Laws.{slashes_past, escape_laws}
 use Rattle.text.proofs.slashes_before.Statement.{statement}
 use Rattle.text.proofs.slashes_before.Tie as tie
 
-abbrev invariant-loop : tie.invariant-loop
+abbrev invariant-loop : tie.invariant-loop-n
 invariant-loop text at n₀ n = (n ≤ at) × (slashes text at ≡ slashes_past text at n)
 
-abbrev decreases-loop : tie.decreases-loop
+abbrev decreases-loop : tie.decreases-loop-n
 decreases-loop text at n₀ n = at - n
 
 pub slashes_before_spec : {M : Type 1} → statement M
