@@ -20,8 +20,8 @@ DECLARED = re.compile(
 )
 # Names that Rattle makes, which a proof file declares as they are.
 MADE = re.compile(r"(invariant|decreases)-|returns-\d|loop-")
-# Names that are bound and never declared.
-BOUND = ["otherItems", "otherGroups", "restG", "beforeGroups", "beforeItems", "afterGroups", "afterItems"]
+# Names that are bound and never declared, and declarations whose heads DECLARED does not read.
+BOUND = ["match-no-digit", "match-next", "match-here", "sign-in", "follow-by", "stands-first", "locator-plain", "locator-labelled", "row-order", "finished-answer", "finished-values", "finished-items", "otherItems", "otherGroups", "restG", "beforeGroups", "beforeItems", "afterGroups", "afterItems"]
 # Two names of one spelling in one file: the lemma or the field gives way.
 SPECIAL = {
     "author-bytes": "author_as",
