@@ -11,7 +11,7 @@ ghost use Rattle.records.specs.Bounds.{record_bound};
 use records::{group_field, item_field, key_in};
 
 // The numbers of an answer that the listing says: the number of a refusal, or 0 and the counts of groups, items and sources.
-#[derive(Drop)]
+#[derive(Clone, Copy)]
 pub struct Told {
     pub number: usize,
     pub groups: usize,
