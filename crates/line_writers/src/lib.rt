@@ -24,7 +24,7 @@ fn put(out: &mut [u8], k: usize, bytes: &[u8]) -> usize
     requires { Room k bytes.now out.old }
     ensures { Put k bytes.now out.old out.new result }
 {
-    out[k..k + bytes.len()].copy_from_slice(bytes);
+    source::write_bytes(bytes, &mut out[k..]);
     k + bytes.len()
 }
 

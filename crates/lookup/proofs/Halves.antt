@@ -237,10 +237,10 @@ module _ (s : List ℕ) (at note : ℕ) (index : List ℕ) (records : List Brack
       ≡ look_up_numbers (look_up_run s at note index records items)
   finished_values = ap look_up_values finished_answer ∙ run_values s at note index records items
 
-  pub finished_items
+  pub finished_items_lem
       : finished_items s at (prepared_of s at note index (length records)) after items ≡ (look_up_run s at note index records items).answer.items
   unfolding prepared_of prepared_wants finished_items look_up_run ran_with looked_up group_as_run look_up_refused index_after
-  finished_items = rw (e, q) (go (eqb (look_up_refusal s at (length index) (length records)) 0))
+  finished_items_lem = rw (e, q) (go (eqb (look_up_refusal s at (length index) (length records)) 0))
     where
       go : (t : Bool) → finished_items s at (P t) (index_after (prepared_wants (P t)) s index) items
           ≡ (pick t (look_up_answers (group_as_run s at note index) items) (look_up_refused r items)).items
