@@ -14,11 +14,11 @@ use Rattle.source_text.specs.Lengths.{add_len}
 use Rattle.source_text.proofs.names_len.Statement.{statement}
 use Rattle.source_text.proofs.names_len.Tie as tie
 
-abbrev invariant-loop : tie.invariant-loop
+abbrev invariant-loop : tie.invariant-loop-i
 invariant-loop pool at e n₀ i₀ n i =
     FieldsIn pool i e × (i ≤ e) × (length pool ≤ 32768) × (n ≤ 65540 * i) × (length (names_of (entry_from pool at e)) ≡ fold add_len n (names_in (fields_of pool i e)))
 
-abbrev decreases-loop : tie.decreases-loop
+abbrev decreases-loop : tie.decreases-loop-i
 decreases-loop pool at e n₀ i₀ n i = e - i
 
 pub names_len_spec : {M : Type 1} → statement M

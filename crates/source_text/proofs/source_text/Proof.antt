@@ -15,7 +15,7 @@ source_text_spec =
     (λ c κs. search (call_laws, rules))
     (λ c κs. search (call_laws, rules))
     (λ c. search (call_laws, rules))
-    (λ c κs. (call_entry _ _ c.before.before.before.before.entry_start.ensures c.before.before.before.entry_end.ensures c.before.before.before.before.before.before.before.before.is-well-formed.ensures c.before.before.before.before.before.before.before.if1.true c.before.before.before.before.before.before.entry-count.ensures c.before.before.before.before.before.if2.false, fits_room _ _ _ c.before.before.text-len.ensures c.before.if3.false))
+    (λ c κs. (call_entry _ _ c.entry_start-at.ensures c.entry_end-e.ensures c.is_well_formed.ensures c.if-is_well_formed.true c.entry_count.ensures c.if-entry_count-entry.false, fits_room _ _ _ c.text_len-n.ensures c.if-area-n.false))
     (λ c. search (call_laws, rules))
     (λ c. search (call_laws, rules))
     (λ c. search (call_laws, rules)))

@@ -5,11 +5,11 @@ use Prim.Native.Nat.{◌-◌}
 use Rattle.source_text.proofs.write_names.Statement.{statement}
 use Rattle.source_text.proofs.write_names.Tie as tie
 
-abbrev invariant-loop : tie.invariant-loop
+abbrev invariant-loop : tie.invariant-loop-i
 invariant-loop pool at e area₀ k₀ i₀ area k i =
     SoFar pool at e area₀ area k i
 
-abbrev decreases-loop : tie.decreases-loop
+abbrev decreases-loop : tie.decreases-loop-i
 decreases-loop pool at e area₀ k₀ i₀ area k i = e - i
 
 pub write_names_spec : {M : Type 1} → statement M
