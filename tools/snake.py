@@ -20,8 +20,8 @@ DECLARED = re.compile(
 )
 # Names that Rattle makes, which a proof file declares as they are.
 MADE = re.compile(r"(invariant|decreases)-|returns-\d|loop-")
-# Names that are bound and never declared.
-BOUND = ["otherItems", "otherGroups", "restG", "beforeGroups", "beforeItems", "afterGroups", "afterItems"]
+# Names that are bound and never declared, and declarations whose heads DECLARED does not read.
+BOUND = ["match-no-digit", "match-next", "match-here", "sign-in", "follow-by", "stands-first", "locator-plain", "locator-labelled", "row-order", "finished-answer", "finished-values", "finished-items", "otherItems", "otherGroups", "restG", "beforeGroups", "beforeItems", "afterGroups", "afterItems"]
 # Two names of one spelling in one file: the lemma or the field gives way.
 SPECIAL = {
     "author-bytes": "author_as",
@@ -31,6 +31,7 @@ SPECIAL = {
     "in-line": "in_line_zero",
     "use-index": "use_as",
     "restG": "rest_g",
+    "finished-items": "finished_items_lem",
 }
 LEM = "all-defined all-good annotation-note annotation-shows close-after decoded-in final-use group-field item-field in-value key-at key-of label-by last-from locator-values look-up-note look-up-shows size-values pair-good read-on records-length uses-added width-by annotate-left keys-defined look-up-left look-up-refused source-refused same-label white-one word-start last-alike year-in year-text item-numbers records-fit defined-as is-blank key-by year-by next-at"
 SPECIAL.update({n: n.replace("-", "_") + "_lem" for n in LEM.split()})

@@ -5,7 +5,7 @@ ghost use Rattle.annotation.specs.Call.{zeros};
 ghost use Rattle.annotation.specs.Halves.{Zeroed};
 
 // The answer of the annotation call; a definition (specs/Values) gives the paper's numbers for each case.
-#[derive(Drop)]
+#[derive(Clone, Copy)]
 pub enum Annotation {
     Accepted {
         groups: usize,

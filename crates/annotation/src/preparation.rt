@@ -11,7 +11,7 @@ use sweep::{start, sweep};
 use utf8::text_refusal;
 
 // An annotation before a build: a refusal, or the sweep so far.
-#[derive(Drop)]
+#[derive(Clone, Copy)]
 pub enum Prepared {
     Refused { number: u8 },
     Ready { sweep: SweepState },

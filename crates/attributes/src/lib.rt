@@ -9,7 +9,7 @@ ghost use Rattle.attributes.specs.Values.{value_bytes, ValueWithin};
 use base::{Span, slices};
 
 // The value of an attribute: a part of the slice that was read.
-#[derive(Drop)]
+#[derive(Clone, Copy)]
 pub enum Value {
     Given { part: Span },
     Missing,

@@ -13,7 +13,7 @@ ghost use Rattle.records.specs.Bounds.{record_bound};
 use crate::{Author, AuthorYear, Year};
 
 // What defines a key: the line that a group starts, by the group's number, or an entry of the pool, by its number.
-#[derive(Drop)]
+#[derive(Clone, Copy)]
 pub enum Defined {
     Line { group: usize },
     Entry { number: usize },

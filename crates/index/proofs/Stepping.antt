@@ -1,77 +1,75 @@
 -- Plain facts of the loop of `bracket_pairs`: what holds at its head, at the start, after a turn, and where the loop is left.
-use Prim.Native.Nat.{ℕ, ◌-◌, ◌<◌, ◌≤◌}
-use native.Mathlib.Omega.{arith}
-use mathlib.Core.Path.{◌≡◌, refl, ◌∙◌}
-use mathlib.Core.Bool.{true, false}
-use mathlib.Core.List.{List}
-use mathlib.Core.WellFounded.InvImage
-use mathlib.Core.WellFounded.{WellFounded}
-use lib.WfN.{lt-wf_rel}
-use lib.ListN.{length}
+use Rattle.std.proofs.Common.{ℕ, ◌-◌, ◌<◌, ◌≤◌, ◌≡◌, refl, ◌∙◌, ap, List, true, false, length, get_or, arith}
 use borrow.Author.Tests.{ltb-true, ltb-false}
 use Rattle.index.specs.declared.Bracket.{Bracket}
+use Rattle.index.specs.declared.Plan.{Plan}
 use Rattle.index.specs.declared.Scan.{Scan}
 use Rattle.index.specs.Built.{blank}
 use Rattle.index.specs.Building.{Both, built, Enough}
-use Rattle.index.specs.Passing.{turn_at, unread, filled}
+use Rattle.index.specs.Passing.{turn_of, turn_at, unread, filled}
 use Rattle.index.specs.Scan.{start, step_index, step_records}
+use Rattle.index.specs.Turn.{Ready}
 use Rattle.index.proofs.Turns.{KnownAt}
 use Rattle.index.proofs.Building.{turn_far, build_start, build_turn, build_end, fine, read_in, slot_in, place_in}
-use Rattle.index.specs.Turn.{Ready}
 
--- what a turn changes: the scan's state, the index and the records
-abbrev pub State : Type 0
-State = Scan × Both
-
-abbrev pub next : List ℕ → State → State
-next s x = ((turn_at s x.0 x.1.1).next, (step_index (turn_at s x.0 x.1.1) x.1.0, step_records (turn_at s x.0 x.1.1) x.1.1))
-
--- a state with less of the text left is below
-abbrev pub below : List ℕ → State → State → Type 0
-below s x y = length s - x.0.at < length s - y.0.at
-
-pub below_wf : (s : List ℕ) → WellFounded (below s)
-below_wf s = InvImage.wf (λ (x : State). length s - x.0.at) lt-wf_rel.wf
+-- the turn over the records as they were read
+pub turned : (s : List ℕ) (c : Scan) (records : List Bracket) {k : ℕ} {outer : Bracket} {p : Plan} → p ≡ turn_of s c outer
+    → outer ≡ get_or records k blank → k ≡ c.depth - 1 → p ≡ turn_at s c records
+unfolding turn_at
+turned s c records e o k = e ∙ ap (turn_of s c) (o ∙ ap (λ (n : ℕ). get_or records n blank) k)
 
 unread_is : (s : List ℕ) (c : Scan) → unread s c ≡ true → c.at < length s
 unfolding unread
 unread_is s c m = ltb-true c.at (length s) m
 
-module _ (s index₀ : List ℕ) (records₀ : List Bracket) (enough : Enough s (length index₀) (length records₀)) where
-  pub record Facts (x : State) : Type 0 where
-    pub known : KnownAt s index₀ records₀ enough.wide enough.long x.0 x.1.0 x.1.1
-    pub same_index : length x.1.0 ≡ length index₀
-    pub same_records : length x.1.1 ≡ length records₀
+-- what holds at the loop's head
+pub record Stepped (s index₀ : List ℕ) (records₀ : List Bracket) (c : Scan) (index : List ℕ) (records : List Bracket) : Type 0 where
+  pub enough : Enough s (length index₀) (length records₀)
+  pub known : KnownAt s index₀ records₀ enough.wide enough.long c index records
+  pub same_index : length index ≡ length index₀
+  pub same_records : length records ≡ length records₀
 
-  pub at_start : length (filled 0 (length s) index₀) ≡ length index₀ → Facts (start, (filled 0 (length s) index₀, records₀))
-  at_start e = record { known = build_start s index₀ records₀ enough.wide enough.long; same_index = e; same_records = refl }
+-- at the start: the index's front is zeros
+pub step_start : (s index₀ : List ℕ) (records₀ : List Bracket) → Enough s (length index₀) (length records₀) → {c : Scan} {index : List ℕ} → c ≡ start
+    → index ≡ filled 0 (length s) index₀ → length index ≡ length index₀ → Stepped s index₀ records₀ c index records₀
+step_start s index₀ records₀ n e i l = record {
+  enough = n;
+  known = rw (e, i) (build_start s index₀ records₀ n.wide n.long);
+  same_index = l;
+  same_records = refl;
+}
 
-  module _ (x : State) (f : Facts x) where
-    pub long : length s ≤ length x.1.1
-    long = let e = f.same_records in let l = enough.long in omega arith
+module _ (s index₀ : List ℕ) (records₀ : List Bracket) (c : Scan) (index : List ℕ) (records : List Bracket) (f : Stepped s index₀ records₀ c index records) where
+  -- a turn can be taken
+  pub step_ready : unread s c ≡ true → Ready s c index records
+  step_ready m =
+      let h = unread_is s c m in
+      let n = f.enough in
+      let place = place_in s index₀ records₀ n.wide n.long c index records f.known h in
+      record {
+        fine = fine s index₀ records₀ n.wide n.long c index records f.known m n.short;
+        read = read_in s index₀ records₀ n.wide n.long c index records f.known h;
+        slot = slot_in s index₀ records₀ n.wide n.long c index records f.known h;
+        place = let e = f.same_index in let l = n.wide in omega arith;
+      }
 
-    pub ready : unread s x.0 ≡ true → Ready s x.0 x.1.0 x.1.1
-    ready m =
-        let h = unread_is s x.0 m in
-        let w = f.known in
-        let place = place_in s index₀ records₀ enough.wide enough.long x.0 x.1.0 x.1.1 w h in
-        record {
-          fine = fine s index₀ records₀ enough.wide enough.long x.0 x.1.0 x.1.1 w m enough.short;
-          read = read_in s index₀ records₀ enough.wide enough.long x.0 x.1.0 x.1.1 w h;
-          slot = slot_in s index₀ records₀ enough.wide enough.long x.0 x.1.0 x.1.1 w h;
-          place = let e = f.same_index in let l = enough.wide in omega arith;
-        }
+  -- it leaves less of the text
+  pub step_less : {c' : Scan} → unread s c ≡ true → c' ≡ (turn_at s c records).next → length s - c'.at < length s - c.at
+  step_less m e = let h = unread_is s c m in let far = turn_far s c records in rw e (omega arith)
 
-    pub less : unread s x.0 ≡ true → below s (next s x) x
-    less m = let h = unread_is s x.0 m in omega (arith, turn_far s x.0 x.1.1)
+  -- after it
+  pub step_next : {c' : Scan} {index' : List ℕ} {records' : List Bracket} → unread s c ≡ true → c' ≡ (turn_at s c records).next
+      → index' ≡ step_index (turn_at s c records) index → records' ≡ step_records (turn_at s c records) records
+      → length index' ≡ length index → length records' ≡ length records → Stepped s index₀ records₀ c' index' records'
+  step_next m e i r li lr = record {
+    enough = f.enough;
+    known = rw (e, i, r) (build_turn s index₀ records₀ f.enough.wide f.enough.long c index records f.known (unread_is s c m));
+    same_index = li ∙ f.same_index;
+    same_records = lr ∙ f.same_records;
+  }
 
-    pub after : unread s x.0 ≡ true → length (next s x).1.0 ≡ length x.1.0 → length (next s x).1.1 ≡ length x.1.1 → Facts (next s x)
-    after m e₁ e₂ = record {
-      known = build_turn s index₀ records₀ enough.wide enough.long x.0 x.1.0 x.1.1 f.known (unread_is s x.0 m);
-      same_index = e₁ ∙ f.same_index;
-      same_records = e₂ ∙ f.same_records;
-    }
-
-    pub at_end : unread s x.0 ≡ false → ◌≡◌ {A = Both} (x.1.0, filled blank (length s) x.1.1) (built s index₀ records₀)
-    unfolding unread
-    at_end m = build_end s index₀ records₀ enough.wide enough.long x.0 x.1.0 x.1.1 f.known (ltb-false x.0.at (length s) m)
+  -- where the loop is left
+  pub step_end : {records' : List Bracket} → unread s c ≡ false → records' ≡ filled blank (length s) records
+      → ◌≡◌ {A = Both} (index, records') (built s index₀ records₀)
+  unfolding unread
+  step_end m e = rw e (build_end s index₀ records₀ f.enough.wide f.enough.long c index records f.known (ltb-false c.at (length s) m))

@@ -15,7 +15,7 @@ use locator::{Locator, parse_locator};
 use text::{is_escaped_at, trim, trim_end, trim_start};
 
 // An item. `parts` is what the locator is read as: nothing, plain or labelled.
-#[derive(Drop)]
+#[derive(Clone, Copy)]
 pub struct Item {
     pub prefix: Span,
     pub key: Span,
@@ -25,14 +25,14 @@ pub struct Item {
 }
 
 // What a stretch of the text is parsed to: an item, or none.
-#[derive(Drop)]
+#[derive(Clone, Copy)]
 pub enum Parsed {
     Good(Item),
     Bad,
 }
 
 // The items between a bracket and its close: how many, or which is the first bad one, from 0.
-#[derive(Drop)]
+#[derive(Clone, Copy)]
 pub enum Judged {
     Good { count: usize },
     Bad { item: usize },

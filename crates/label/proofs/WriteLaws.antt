@@ -6,7 +6,7 @@ use mathlib.Core.List.{List, [], ◌∷◌, ◌++◌, append_assoc}
 use lib.ListN.{length, take, drop, set, length-append}
 use borrow.Author.Tests.{le-leb, lt-leb}
 use Rattle.base.specs.Lists.{written}
-use Rattle.base.proofs.Areas.{copied, written_after, written_byte}
+use Rattle.base.proofs.Areas.{written_after, written_byte}
 use Rattle.label.specs.Areas.{fitted}
 
 -- what does not fit, what does
@@ -17,8 +17,8 @@ module _ (out s : List ℕ) {n : ℕ} (e : n ≡ length out) where
   pub is_fitted : {t : List ℕ} → n ≤ length s → t ≡ written out s → t ≡ fitted out s
   is_fitted h o = rw (le-leb (length out) (length s) (omega arith)) o
 
-pub copy_fitted : (b s : List ℕ) {t : List ℕ} → length b ≤ length s → t ≡ take (length b) b ++ drop (length b) s → t ≡ fitted b s
-copy_fitted b s h o = is_fitted b s refl h (copied b s o)
+pub copy_fitted : (b s : List ℕ) {t : List ℕ} → length b ≤ length s → t ≡ written b s → t ≡ fitted b s
+copy_fitted b s h o = is_fitted b s refl h o
 
 pub not_copied : (b s : List ℕ) → length s < length b → s ≡ fitted b s
 not_copied b s h = not_fitted b s refl h
@@ -28,8 +28,8 @@ pub ruleset copy_laws = (copy_fitted, not_copied)
 pub ruleset fitted_laws = (not_fitted, is_fitted)
 
 -- an author and a space
-pub author_put : (b s one : List ℕ) → length b < length s → one ≡ take (length b) b ++ drop (length b) s → set one (length b) 32 ≡ written (b ++ (32 ∷ [])) s
-author_put b s one h o = written_byte s one b (length b) 32 (copied b s o) refl h
+pub author_put : (b s one : List ℕ) → length b < length s → one ≡ written b s → set one (length b) 32 ≡ written (b ++ (32 ∷ [])) s
+author_put b s one h o = written_byte s one b (length b) 32 o refl h
 
 -- two joined by a space
 module _ (a b s : List ℕ) where
@@ -48,9 +48,9 @@ module _ (a b s : List ℕ) where
         (written_after s one (a ++ (32 ∷ [])) b p (length a + 1) o (sym l) (omega arith) g ∙ rw append_assoc refl)
 
     pub both_fitted : {p : List ℕ} → length a + 1 + length b ≤ length s
-        → p ≡ take (length b) b ++ drop (length b) (take (length one - (length a + 1)) (drop (length a + 1) one))
+        → p ≡ written b (take (length one - (length a + 1)) (drop (length a + 1) one))
         → take (length a + 1) one ++ (p ++ drop (length one - (length a + 1)) (drop (length a + 1) one)) ≡ fitted (a ++ (32 ∷ b)) s
-    both_fitted h g = both_written h (copied b (take (length one - (length a + 1)) (drop (length a + 1) one)) g)
+    both_fitted h g = both_written h g
 
     pub dated_fitted : {p : List ℕ} {n : ℕ} → n ≡ length b → length a + 1 + n ≤ length s
         → p ≡ written b (take (length one - (length a + 1)) (drop (length a + 1) one))

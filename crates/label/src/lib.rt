@@ -21,7 +21,7 @@ fn write_bytes(label: &[u8], out: &mut [u8]) -> usize
     if out.len() < n {
         return n;
     }
-    out[..label.len()].copy_from_slice(label);
+    source::write_bytes(label, out);
     n
 }
 
@@ -55,7 +55,7 @@ fn put_author(author: &[u8], out: &mut [u8])
     ensures { out.new ≡ written (author.now ++ (32 ∷ [])) out.old }
 {
     let k = author.len();
-    out[..author.len()].copy_from_slice(author);
+    source::write_bytes(author, out);
     out[k] = b' ';
 }
 
@@ -69,7 +69,7 @@ fn write_both(author: &[u8], year: &[u8], out: &mut [u8]) -> usize
         return n;
     }
     put_author(author, out);
-    out[k..k + year.len()].copy_from_slice(year);
+    source::write_bytes(year, &mut out[k..]);
     n
 }
 

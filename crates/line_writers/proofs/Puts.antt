@@ -9,7 +9,6 @@ use lib.ListN.{length, take, drop, set, length-append, length-take, length-drop}
 use lib.Seq.{sets-eq}
 use Rattle.base.specs.Lists.{written}
 use Rattle.decimal.specs.Decimal.{decimal}
-use Rattle.base.proofs.Areas.{copied}
 use Rattle.sweep.specs.Areas.{written_at}
 use Rattle.sweep.proofs.Areas.{written_none, written_length, written_more, written_part}
 use Rattle.line_writers.specs.Writes.{Put, Room}
@@ -35,11 +34,11 @@ room_first k x y a h = let e = length-append x y in omega arith
 
 -- a slice that is copied into the rest of an area
 module _ (k : ℕ) (bytes area : List ℕ) (h : Room k bytes area) where
-  pub put_copied : {back : List ℕ} → back ≡ take (length bytes) bytes ++ drop (length bytes) (take (length area - k) (drop k area))
+  pub put_copied : {back : List ℕ} → back ≡ written bytes (take (length area - k) (drop k area))
       → Put k bytes area (take k area ++ (back ++ drop (length area - k) (drop k area))) (k + length bytes)
   put_copied {back} e = record {
     end = refl;
-    area = written_part k area bytes back (omega arith) (copied bytes (take (length area - k) (drop k area)) e);
+    area = written_part k area bytes back (omega arith) e;
   }
 
 pub ruleset put_laws = (put_copied)

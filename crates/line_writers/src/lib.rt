@@ -11,7 +11,7 @@ ghost use Rattle.records.specs.Bounds.{record_bound};
 use records::{group_field, item_field, key_in};
 
 // The numbers of an answer that the listing says: the number of a refusal, or 0 and the counts of groups, items and sources.
-#[derive(Drop)]
+#[derive(Clone, Copy)]
 pub struct Told {
     pub number: usize,
     pub groups: usize,
@@ -24,7 +24,7 @@ fn put(out: &mut [u8], k: usize, bytes: &[u8]) -> usize
     requires { Room k bytes.now out.old }
     ensures { Put k bytes.now out.old out.new result }
 {
-    out[k..k + bytes.len()].copy_from_slice(bytes);
+    source::write_bytes(bytes, &mut out[k..]);
     k + bytes.len()
 }
 

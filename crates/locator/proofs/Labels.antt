@@ -37,13 +37,13 @@ fits_no_digit (x ∷ xs) s i e h t =
     let d = digit_by (byte_at s i) t in
     rw (digit_lower (byte_at s i) t, ne_eqb (byte_at s i) x (λ q. omega arith), and-false (ltb i e)) refl
 
-match-no-digit
+match_no_digit
     : (ms : List Matcher) (s : List ℕ) (i e : ℕ) → begins_above ms ≡ true → is_digit (byte_at s i) ≡ true → match_in ms s i e ≡ label no_code i
 unfolding match_in stands begins_above
-match-no-digit [] s i e h t = refl
-match-no-digit (m ∷ ms) s i e h t =
+match_no_digit [] s i e h t = refl
+match_no_digit (m ∷ ms) s i e h t =
     let f = fits_no_digit m.word s i e (and_left (ltb 57 (get_or m.word 0 0)) (begins_above ms) h) t in
-    rw f (match-no-digit ms s i e (and_right (ltb 57 (get_or m.word 0 0)) (begins_above ms) h) t)
+    rw f (match_no_digit ms s i e (and_right (ltb 57 (get_or m.word 0 0)) (begins_above ms) h) t)
 
 matchers_above : begins_above matchers ≡ true
 unfolding begins_above matchers ascii
@@ -54,7 +54,7 @@ module _ (s : List ℕ) (i e : ℕ) where
   unfolding label_of or_page
   label_digit q t =
       let d : is_digit (byte_at s i) ≡ true = sym q ∙ t in
-      rw (match-no-digit matchers s i e matchers_above d, d) refl
+      rw (match_no_digit matchers s i e matchers_above d, d) refl
 
   pub label_other : {b : Bool} {l : Label} → b ≡ is_digit (byte_at s i) → b ≡ false → l ≡ match_in matchers s i e → l ≡ label_of s i e
   unfolding label_of or_page

@@ -66,21 +66,21 @@ unfolding stands
 stands_word m w s i e q = rw q refl
 
 module _ (words : List ℕ) (rows : List (List ℕ)) (k : ℕ) where
-  pub row-order
+  pub row_order
       : {from to : ℕ} → is_table words rows matchers ≡ true → k < length rows → from ≡ start_in (get_or rows k []) → to ≡ end_in (get_or rows k [])
       → from < to
-  row-order t h p q = rw (p, q) (says words _ _ (at_row words rows matchers t k h)).order
+  row_order t h p q = rw (p, q) (says words _ _ (at_row words rows matchers t k h)).order
 
   pub row_room : {to : ℕ} → is_table words rows matchers ≡ true → k < length rows → to ≡ end_in (get_or rows k []) → to ≤ length words
   row_room t h q = rw q (says words _ _ (at_row words rows matchers t k h)).room
 
   module _ (s : List ℕ) (i e : ℕ) where
-    pub match-next
+    pub match_next
         : {from to : ℕ} {b : Bool} {l : Label} → is_table words rows matchers ≡ true → l ≡ match_in (drop k matchers) s i e → k < length rows
         → from ≡ start_in (get_or rows k []) → to ≡ end_in (get_or rows k []) → b ≡ stands (row (word_at words from to) no_code) s i e → b ≡ false
         → l ≡ match_in (drop (k + 1) matchers) s i e
     unfolding match_in
-    match-next t l h p q b f =
+    match_next t l h p q b f =
         let m = get_or matchers k blank in
         let c = says words (get_or rows k []) m (at_row words rows matchers t k h) in
         let g : k < length matchers = omega (arith, as_many words rows matchers t) in
@@ -88,12 +88,12 @@ module _ (words : List ℕ) (rows : List (List ℕ)) (k : ℕ) where
         let n : stands m s i e ≡ false = sym w ∙ rw (p, q) at (sym b ∙ f) in
         l ∙ rw (add-one k, drop-cons matchers k blank g, n) refl
 
-    pub match-here
+    pub match_here
         : {from to code : ℕ} {b : Bool} {l : Label} → is_table words rows matchers ≡ true → l ≡ match_in (drop k matchers) s i e → k < length rows
         → from ≡ start_in (get_or rows k []) → to ≡ end_in (get_or rows k []) → b ≡ stands (row (word_at words from to) no_code) s i e → b ≡ true
         → code ≡ code_in (get_or rows k []) → label code (i + (to - from)) ≡ l
     unfolding match_in word_at
-    match-here t l h p q b f u =
+    match_here t l h p q b f u =
         let m = get_or matchers k blank in
         let c = says words (get_or rows k []) m (at_row words rows matchers t k h) in
         let g : k < length matchers = omega (arith, as_many words rows matchers t) in
@@ -109,4 +109,4 @@ module _ (words : List ℕ) (rows : List (List ℕ)) (k : ℕ) where
         let z : drop k matchers ≡ [] = drop_of_length-le matchers {i = k} (omega (arith, as_many words rows matchers t)) in
         sym (l ∙ rw z refl)
 
-pub ruleset rows = (row-order, row_room, match_none)
+pub ruleset rows = (row_order, row_room, match_none)

@@ -39,17 +39,17 @@ module _ (s : List ℕ) (a e : ℕ) where
   unfolding locator_of locator_from
   locator_nothing {i} q h = rw (← q, le-leb e i h) refl
 
-  pub locator-plain
+  pub locator_plain
       : {i : ℕ} {l : Label} {p : Span} → i ≡ skip_blanks s a e → i < e → l ≡ label_of s i e → l.code ≡ 0 → p ≡ span_of i e
       → Plain p ≡ locator_of s a e
   unfolding locator_of locator_from labelled
-  locator-plain {i} {l} q h t z p = rw (← q, lt-leb e i h, ← t, eq-eqb l.code 0 z, ← p) refl
+  locator_plain {i} {l} q h t z p = rw (← q, lt-leb e i h, ← t, eq-eqb l.code 0 z, ← p) refl
 
-  pub locator-labelled
+  pub locator_labelled
       : {i : ℕ} {l : Label} {v : ℕ} {r : Locator} → i ≡ skip_blanks s a e → i < e → l ≡ label_of s i e → (l.code ≡ 0 → ⊥)
       → v ≡ skip_blanks s l.after e → r ≡ valued s l.code v e → r ≡ locator_of s a e
   unfolding locator_of locator_from labelled
-  locator-labelled {i} {l} q h t z p r = rw (← q, lt-leb e i h, ← t, ne_eqb l.code 0 z, ← p) r
+  locator_labelled {i} {l} q h t z p r = rw (← q, lt-leb e i h, ← t, ne_eqb l.code 0 z, ← p) r
 
 -- code, value and suffix of a locator, case by case
 module _ {l : Locator} where
@@ -95,4 +95,4 @@ pub ruleset answers =
     (code_nothing, value_nothing, suffix_nothing, code_plain, value_plain, suffix_plain, code_labelled, value_labelled, suffix_labelled)
 
 pub ruleset values =
-    (run_after, run_within, Valued-by, value_start, locator_nothing, locator-plain, locator-labelled)
+    (run_after, run_within, Valued-by, value_start, locator_nothing, locator_plain, locator_labelled)

@@ -28,11 +28,11 @@ module _ (b : ℕ) where
   lower_room t = leb-true b 90 (and_right (leb 65 b) (leb b 90) t)
 
 module _ (s : List ℕ) (k e : ℕ) where
-  pub sign-in
+  pub sign_in
       : k + 1 < e
       → (eqb (byte_at s k) 0xC2 && (eqb (byte_at s (k + 1)) 0xA7 || eqb (byte_at s (k + 1)) 0xB6)) ≡ is_sign s k e
   unfolding is_sign
-  sign-in h = rw (lt-ltb (k + 1) e h) refl
+  sign_in h = rw (lt-ltb (k + 1) e h) refl
 
   pub sign_out : e ≤ k + 1 → false ≡ is_sign s k e
   unfolding is_sign
@@ -42,11 +42,11 @@ module _ (s : List ℕ) (k e : ℕ) where
   unfolding may_follow
   follow_end h = rw (le-leb e k h) refl
 
-  pub follow-by
+  pub follow_by
       : {x y z : Bool} → k < e → x ≡ is_blank (byte_at s k) → y ≡ is_digit (byte_at s k) → z ≡ is_sign s k e
       → (x || y || z) ≡ may_follow s k e
   unfolding may_follow
-  follow-by h p q r = rw (lt-leb e k h, p, q, r) refl
+  follow_by h p q r = rw (lt-leb e k h, p, q, r) refl
 
 -- the word from `w` up to `to` of `words`, byte after byte
 module _ (words : List ℕ) (w to : ℕ) (s : List ℕ) (k e : ℕ) where
@@ -89,11 +89,11 @@ module _ (words : List ℕ) (from to : ℕ) (s : List ℕ) (i e : ℕ) where
   unfolding stands word_at
   Stands-by q t g p = p ∙ rw (← q, t, length-slice from to words g) refl
 
-  pub stands-first
+  pub stands_first
       : {b : ℕ} → b ≡ lower (byte_at s i) → (get_or words from 0 ≡ b → ⊥) → from < to → to ≤ length words
       → false ≡ stands (row (word_at words from to) no_code) s i e
   unfolding stands fits word_at
-  stands-first q n h g =
+  stands_first q n h g =
       rw (slice-cons from to words 0 h g, ← q, ne_eqb _ _ (λ t. n (sym t)), and-false (ltb i e)) refl
 
   pub stands_not : {b : Bool} → b ≡ fits (word_at words from to) s i e → b ≡ false → false ≡ stands (row (word_at words from to) no_code) s i e
@@ -103,10 +103,10 @@ module _ (words : List ℕ) (from to : ℕ) (s : List ℕ) (i e : ℕ) where
 pub ruleset words = (
   lower_up,
   lower_kept,
-  sign-in,
+  sign_in,
   sign_out,
   follow_end,
-  follow-by,
+  follow_by,
   fits_all,
   fits_end,
   Fits-not,

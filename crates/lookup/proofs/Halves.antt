@@ -222,25 +222,25 @@ module _ (s : List ℕ) (at note : ℕ) (index : List ℕ) (records : List Brack
   abbrev P : Bool → Prepared
   P t = pick t (Ready (look_of s at note index)) (NotReady r)
 
-  pub finished-answer
+  pub finished_answer
       : finished_of s at note (prepared_of s at note index (length records)) after items ≡ look_up_answer (look_up_run s at note index records items)
   unfolding prepared_of prepared_wants finished_of look_up_answer look_up_returns look_up_run ran_with looked_up group_as_run look_up_builds look_up_refused note_after index_after
-  finished-answer = rw (e, q) (go (eqb (look_up_refusal s at (length index) (length records)) 0) refl)
+  finished_answer = rw (e, q) (go (eqb (look_up_refusal s at (length index) (length records)) 0) refl)
     where
       go : (t : Bool) → eqb r 0 ≡ t → finished_of s at note (P t) (index_after (prepared_wants (P t)) s index) items
           ≡ look_up_returns (pick t (look_up_answers (group_as_run s at note index) items) (look_up_refused r items)) (note_after (t && wants_build s at note) note)
       go true z = rw (look_close s at note index, look_wants s at note index)
       go false z = rw z
 
-  pub finished-values
+  pub finished_values
       : look_up_values (finished_of s at note (prepared_of s at note index (length records)) after items)
       ≡ look_up_numbers (look_up_run s at note index records items)
-  finished-values = ap look_up_values finished-answer ∙ run_values s at note index records items
+  finished_values = ap look_up_values finished_answer ∙ run_values s at note index records items
 
-  pub finished-items
+  pub finished_items_lem
       : finished_items s at (prepared_of s at note index (length records)) after items ≡ (look_up_run s at note index records items).answer.items
   unfolding prepared_of prepared_wants finished_items look_up_run ran_with looked_up group_as_run look_up_refused index_after
-  finished-items = rw (e, q) (go (eqb (look_up_refusal s at (length index) (length records)) 0))
+  finished_items_lem = rw (e, q) (go (eqb (look_up_refusal s at (length index) (length records)) 0))
     where
       go : (t : Bool) → finished_items s at (P t) (index_after (prepared_wants (P t)) s index) items
           ≡ (pick t (look_up_answers (group_as_run s at note index) items) (look_up_refused r items)).items

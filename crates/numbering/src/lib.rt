@@ -9,7 +9,7 @@ ghost use Rattle.numbering.specs.Numbers.{number_all};
 ghost use Rattle.numbering.specs.Progress.{room_of, Holds, Unnumbered};
 
 // What became of numbering all groups: whether the labels fit, and the counts of sources and of label bytes.
-#[derive(Drop)]
+#[derive(Clone, Copy)]
 pub struct Numbering {
     pub fits: bool,
     pub sources: usize,

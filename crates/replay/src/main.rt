@@ -1,10 +1,16 @@
 // Replays the Rust's stored answers, data/answers, against the proved functions, and says for each kind how many agree.
 // docs/DIFFERENCES.md says how the list was made and how it is laid out.
 #![tactic(auto)]
-ghost use Rattle.std.specs.Prelude.{◌≡◌, ◌<◌, ◌≤◌, length};
 
-use libc::STDOUT_FILENO;
+ghost use Rattle.std.specs.Prelude.{◌≡◌, ◌<◌, ◌≤◌, IfOk, length, take};
+ghost use Rattle.std.specs.Io.{ReadsAtMost};
+ghost use Rattle.std.specs.Io.KnownBytes.{Consumes, IsAtEnd};
+
+use std::fs::File;
+use std::io;
+use std::io::{Read, Write};
 use std::num::wrapping_add_u64;
+use std::rt::Files;
 
 // The records of one kind: how many there are, how many agree, and the number of the first that does not, from 1; 0 for none.
 #[derive(Drop)]
@@ -132,19 +138,36 @@ fn block() -> [u8; 1048576]
     [0; 1048576]
 }
 
+// Reads until `buf` is full or the input ends, and returns how many bytes it put at the front of `buf`.
+fn read_full<R: Read>(reader: &mut R, buf: &mut [u8]) -> io::Result<usize>
+    ensures bound { ReadsAtMost result buf.new }
+    ensures bytes { IfOk result (λ n. Consumes (R.remaining reader.old) (R.remaining reader.new) (take n buf.new)) }
+    ensures end { IfOk result (λ n. n < length buf.new → IsAtEnd (R.remaining reader.new)) }
+{
+    let mut done = 0;
+    while done < buf.len() {
+        let n = reader.read(&mut buf[done..])?;
+        if n == 0 {
+            break;
+        }
+        done += n;
+    }
+    Ok(done)
+}
+
 // The tally with the next block of the list.
-fn replay_some(t: Tally, kind: u8, fd: i32) -> Step {
+fn replay_some<R: Read>(t: Tally, kind: u8, list: &mut R) -> io::Result<Step> {
     let mut buf = block();
-    let n = io::read_full(fd, &mut buf);
+    let n = read_full(list, &mut buf)?;
     let tally = replay_block(t, kind, &buf[..n]);
-    Step {
+    Ok(Step {
         tally: tally,
         more: n > 0,
-    }
+    })
 }
 
 // The tally of a kind over the whole list.
-fn replay_all(kind: u8, fd: i32) -> Tally {
+fn replay_all<R: Read>(kind: u8, list: &mut R) -> io::Result<Tally> {
     let mut tally = Tally {
         all: 0,
         same: 0,
@@ -152,54 +175,46 @@ fn replay_all(kind: u8, fd: i32) -> Tally {
     };
     let mut turns: u32 = 1000000;
     while turns > 0 {
-        let step = replay_some(tally, kind, fd);
+        let step = replay_some(tally, kind, list)?;
         tally = step.tally;
         if !step.more {
-            return tally;
+            return Ok(tally);
         }
         turns -= 1;
     }
-    tally
+    Ok(tally)
 }
 
 // Writes what became of a kind.
-fn say(name: &[u8], t: Tally) {
-    io::write_all(STDOUT_FILENO, name);
-    io::write_all(STDOUT_FILENO, b" ");
-    io::print_decimal(STDOUT_FILENO, t.same);
-    io::write_all(STDOUT_FILENO, b" of ");
-    io::print_decimal(STDOUT_FILENO, t.all);
-    io::write_all(STDOUT_FILENO, b" agree");
+fn say<W: Write>(out: &mut W, name: &[u8], t: Tally) -> io::Result<()> {
+    out.write_all(name)?;
+    write!(out, " {} of {} agree", t.same, t.all)?;
     if t.first > 0 {
-        io::write_all(STDOUT_FILENO, b", not number ");
-        io::print_decimal(STDOUT_FILENO, t.first);
+        write!(out, ", not number {}", t.first)?;
     }
-    io::write_all(STDOUT_FILENO, b"\n");
+    out.write_all(b"\n")
 }
 
-// Replays a kind, and writes what became of it.
-fn replay(name: &[u8], kind: u8) {
-    let path = b"answers";
-    let fd = os::open_read(path);
-    if fd < 0 {
-        os::fail(path);
-        return;
+// Replays a kind, and writes what became of it; where the list cannot be opened, why, to standard error.
+fn replay<R: Files + Print + Eprint>(rt: &R, name: &[u8], kind: u8) -> io::Result<()> {
+    let path = "answers";
+    match File::open(rt, path) {
+        Ok(mut list) => say(&mut io::writer(rt), name, replay_all(kind, &mut list)?),
+        Err(error) => eprintln!(rt; "{path}: {error}"),
     }
-    say(name, replay_all(kind, fd));
-    libc::close(fd);
 }
 
-fn main() {
-    replay(b"utf8", 1);
-    replay(b"escaped", 2);
-    replay(b"key", 3);
-    replay(b"white", 4);
-    replay(b"trim", 5);
-    replay(b"close", 6);
-    replay(b"locator", 7);
-    replay(b"item", 8);
-    replay(b"pool", 9);
-    replay(b"source", 10);
-    replay(b"lookup", 11);
-    replay(b"annotate", 12);
+fn main(rt: HostRuntime) -> io::Result<()> {
+    replay(&rt, b"utf8", 1)?;
+    replay(&rt, b"escaped", 2)?;
+    replay(&rt, b"key", 3)?;
+    replay(&rt, b"white", 4)?;
+    replay(&rt, b"trim", 5)?;
+    replay(&rt, b"close", 6)?;
+    replay(&rt, b"locator", 7)?;
+    replay(&rt, b"item", 8)?;
+    replay(&rt, b"pool", 9)?;
+    replay(&rt, b"source", 10)?;
+    replay(&rt, b"lookup", 11)?;
+    replay(&rt, b"annotate", 12)
 }

@@ -5,7 +5,7 @@ use crate::areas::{BLANK, UNUSED, fill, fill_bytes, has_bytes, has_numbers, has_
 use crate::body::{after, before, byte, number};
 
 // The numbers of an answer: refusal, and the counts of groups, items, sources and label bytes.
-#[derive(Drop)]
+#[derive(Clone, Copy)]
 pub struct Numbers {
     pub number: usize,
     pub groups: usize,

@@ -3,7 +3,7 @@ use crate::areas::{UNUSED, has_numbers, is_filled};
 use crate::body::{after, number};
 
 // The numbers of an answer.
-#[derive(Drop)]
+#[derive(Clone, Copy)]
 pub struct Numbers {
     pub number: usize,
     pub close: usize,

@@ -3,7 +3,7 @@ use crate::areas::{fill, is_filled};
 use crate::body::{after, byte, length, number};
 
 // Where the replay of a body is: the place of its next call, the note, and whether every answer was the stored one so far.
-#[derive(Drop)]
+#[derive(Clone, Copy)]
 pub struct Session {
     pub at: usize,
     pub note: u8,

@@ -11,7 +11,7 @@ use close::{Close, close_bracket};
 use item::{Judged, judge_items};
 
 // What a bracket gives before any build: the place of its close, none, or that the index has to be built first.
-#[derive(Drop)]
+#[derive(Clone, Copy)]
 pub enum Look {
     At(usize),
     Nothing,
@@ -19,7 +19,7 @@ pub enum Look {
 }
 
 // A group at a bracket, by its close and the count of its items.
-#[derive(Drop)]
+#[derive(Clone, Copy)]
 pub enum Matched {
     Group { close: usize, count: usize },
     Nothing,

@@ -19,7 +19,7 @@ ghost use Rattle.pool.specs.Places.{name_at_parts, FieldsIn, EntryIn};
 use pool::NameParts;
 
 // The answer of the source text call; a definition (specs/Values) gives the paper's numbers for each case.
-#[derive(Drop)]
+#[derive(Clone, Copy)]
 pub enum SourceText {
     Accepted { bytes: usize },
     Refused { number: u8 },

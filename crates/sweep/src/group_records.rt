@@ -12,7 +12,7 @@ use standing::{is_in_line, standing_of};
 
 // Where a sweep stands: its place, the counts of the groups and items so far, whether the last group stands in a definition line and
 // where it ended, whether all records so far fitted, and whether the bracket at its place wants a build.
-#[derive(Drop)]
+#[derive(Clone, Copy)]
 pub struct SweepState {
     pub at: usize,
     pub groups: usize,

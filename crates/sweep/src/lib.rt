@@ -16,7 +16,7 @@ use resolve::{Look, Matched, look_at, match_citation};
 use text::is_escaped_at;
 
 // What a place gives: no group, a group by its close and the count of its items, or that the index has to be built first.
-#[derive(Drop)]
+#[derive(Clone, Copy)]
 enum Step {
     Next,
     Group { close: usize, count: usize },

@@ -7,7 +7,7 @@ ghost use Rattle.uses.specs.Uses.{Counts};
 ghost use Rattle.records.specs.Bounds.{record_bound, source_bound};
 
 // The number and the use of an item record, and the sources after it.
-#[derive(Drop)]
+#[derive(Clone, Copy)]
 pub struct Count {
     pub number: u16,
     pub use_index: u16,

@@ -7,10 +7,10 @@ use Rattle.attributes.proofs.Words.{Rest, rest_laws}
 use Rattle.attributes.proofs.attr_value.Statement.{statement}
 use Rattle.attributes.proofs.attr_value.Tie as tie
 
-abbrev invariant-loop : tie.invariant-loop
+abbrev invariant-loop : tie.invariant-loop-at
 invariant-loop attributes key at₀ at = Rest attributes key at
 
-abbrev decreases-loop : tie.decreases-loop
+abbrev decreases-loop : tie.decreases-loop-at
 decreases-loop attributes key at₀ at = length attributes - at
 
 pub attr_value_spec : {M : Type 1} → statement M

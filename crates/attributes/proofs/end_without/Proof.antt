@@ -8,10 +8,10 @@ use Rattle.attributes.proofs.Words.{without_laws}
 use Rattle.attributes.proofs.end_without.Statement.{statement}
 use Rattle.attributes.proofs.end_without.Tie as tie
 
-abbrev invariant-loop : tie.invariant-loop
+abbrev invariant-loop : tie.invariant-loop-i
 invariant-loop s b a e i₀ i = (i ≤ e) × (end_without b s a e ≡ end_without b s a i)
 
-abbrev decreases-loop : tie.decreases-loop
+abbrev decreases-loop : tie.decreases-loop-i
 decreases-loop s b a e i₀ i = i - a
 
 pub end_without_spec : {M : Type 1} → statement M

@@ -11,10 +11,10 @@ use Rattle.attributes.proofs.Words.{word_laws}
 use Rattle.attributes.proofs.word_end.Statement.{statement}
 use Rattle.attributes.proofs.word_end.Tie as tie
 
-abbrev invariant-loop : tie.invariant-loop
+abbrev invariant-loop : tie.invariant-loop-i
 invariant-loop attributes from i₀ i = word_end attributes from ≡ first (λ k. is_white attributes k) (length attributes - i) i
 
-abbrev decreases-loop : tie.decreases-loop
+abbrev decreases-loop : tie.decreases-loop-i
 decreases-loop attributes from i₀ i = length attributes - i
 
 pub word_end_spec : {M : Type 1} → statement M

@@ -56,7 +56,7 @@ use Rattle.lookup.specs.declared.Prepared.{Prepared}
 use Rattle.lookup.specs.contracts.Prepared as P
 use Rattle.lookup.proofs.Prepared.TheLaws as P'
 use Rattle.lookup.specs.Halves.{prepared_of, prepared_wants, CanFinish, finished_of, finished_items}
-use Rattle.lookup.proofs.Halves.{can_finish, wanted_enough, finished-answer, finished-values, finished-items, ran_index, ran_records}
+use Rattle.lookup.proofs.Halves.{can_finish, wanted_enough, finished_answer, finished_values, finished_items, ran_index, ran_records}
 use Rattle.lookup.specs.contracts.prepare as prepare
 use Rattle.lookup.proofs.prepare.Symbol as prepare-def
 use Rattle.lookup.proofs.prepare.Symbol.{name as #lookup·prepare}
@@ -143,7 +143,7 @@ module _ {M : Type 1} {𝓤 : Ura M} (𝓛 : Logic 𝓤) (mem : Memory → SProp
       qed 𝓛 (‵ ((R.the_row).own_val answer (v ∷ [])) ∷ ‵ (flft κ₀ q₀) ∷ ‵ ((ShrSlice (named 0) κ₀ u8).own_val text (sv₀ ∷ [])) ∷ ‵ (flft κ₁ q₁) ∷ ‵ (finally u16 γ₁ is')
       ∷ ‵ (flft κ₂ q₂) ∷ ‵ ((MutSlice (named 2) κ₂ T.the_row).own_val (at_list b₂ o₂ γ₂ ys') (sv₂ ∷ [])) ∷ ‵ (flft κ₃ q₃) ∷ ‵ (finally u16 γ₃ js') ∷ []) ∵
       suffices ! _ (ends_at 𝓛 f.ended stayed (f.clauses 𝓛 mem run) (((κ₀, (κ₁, (κ₂, (κ₃, tt)))), (q₀, (q₁, (q₂, (q₃, tt)))), tt, a, vals), tt) v answer (tt, (tt, (tt, (is', (ys', (js', tt)))))) (tt, (tt, (tt, (e₁, (e₂, (e₃, tt))))))) $
-      says ! (finished-values ts at note is ys js refl refl, ran_index ts at note is ys js refl refl, ran_records ts at note is ys js refl refl refl, finished-items ts at note is ys js refl refl, finished-answer ts at note is ys js refl refl) $
+      says ! (finished_values ts at note is ys js refl refl, ran_index ts at note is ys js refl refl, ran_records ts at note is ys js refl refl refl, finished_items ts at note is ys js refl refl, finished_answer ts at note is ys js refl refl) $
       nothing ! $ move ! (8 ∷ 0 ∷ []) $ join ! $ move ! (6 ∷ 0 ∷ []) $ join ! $ move ! (4 ∷ 0 ∷ []) $ join ! $ move ! (2 ∷ 0 ∷ []) $ join ! $ frame ! $
       -- [answer; text; index last; records; items last]
       nothing ! $ move ! (5 ∷ 0 ∷ []) $ fjoin ! $ move ! (4 ∷ 0 ∷ []) $ fjoin ! $ move ! (3 ∷ 0 ∷ []) $ fjoin ! $ owned ! u8 (Is u8) (uint_Makes 𝓛 w8) note (vint w8 note ∷ []) (refl, note-fits) $ fjoin ! $ owned ! usize (Is usize) (uint_Makes 𝓛 w64) at (vint w64 at ∷ []) (refl, at-fits) $ fjoin ! $ move ! (2 ∷ 0 ∷ []) $ fjoin ! $ frame ! $ done !

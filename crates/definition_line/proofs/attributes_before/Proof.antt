@@ -18,5 +18,5 @@ attributes_before_spec =
     (λ c. search (attributes_laws, rules))
     (λ c. search rules)
     (λ c. search rules)
-    (λ c. brace_ge _ _ _ _ c.before.before.before.brace-or-break.ensures (search) (search))
+    (λ c. brace_ge _ _ _ _ c.brace_or_break-brace.ensures (search) (search))
     (λ c. search (attributes_laws, rules)))

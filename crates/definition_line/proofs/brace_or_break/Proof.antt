@@ -9,10 +9,10 @@ use Rattle.definition_line.proofs.Laws.{is_either, either_laws}
 use Rattle.definition_line.proofs.brace_or_break.Statement.{statement}
 use Rattle.definition_line.proofs.brace_or_break.Tie as tie
 
-abbrev invariant-loop : tie.invariant-loop
+abbrev invariant-loop : tie.invariant-loop-i
 invariant-loop text a e i₀ i = brace_or_break text a e ≡ first (is_either text) (e - i) i
 
-abbrev decreases-loop : tie.decreases-loop
+abbrev decreases-loop : tie.decreases-loop-i
 decreases-loop text a e i₀ i = e - i
 
 pub brace_or_break_spec : {M : Type 1} → statement M

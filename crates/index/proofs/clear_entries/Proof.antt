@@ -9,10 +9,10 @@ use Rattle.index.proofs.Passing.{passing_laws}
 use Rattle.index.proofs.clear_entries.Statement.{statement}
 use Rattle.index.proofs.clear_entries.Tie as tie
 
-abbrev invariant-loop : tie.invariant-loop
+abbrev invariant-loop : tie.invariant-loop-i
 invariant-loop text index₀ i₀ index i = (index ≡ filled 0 i index₀) × (length index ≡ length index₀) × (i ≤ length text)
 
-abbrev decreases-loop : tie.decreases-loop
+abbrev decreases-loop : tie.decreases-loop-i
 decreases-loop text index₀ i₀ index i = length text - i
 
 pub clear_entries_spec : {M : Type 1} → statement M

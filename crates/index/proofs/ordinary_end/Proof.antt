@@ -9,10 +9,10 @@ use Rattle.index.proofs.Passing.{passing_laws}
 use Rattle.index.proofs.ordinary_end.Statement.{statement}
 use Rattle.index.proofs.ordinary_end.Tie as tie
 
-abbrev invariant-loop : tie.invariant-loop
+abbrev invariant-loop : tie.invariant-loop-i
 invariant-loop text at i₀ i = ordinary_end text at ≡ ordinary_end text i
 
-abbrev decreases-loop : tie.decreases-loop
+abbrev decreases-loop : tie.decreases-loop-i
 decreases-loop text at i₀ i = length text - i
 
 pub ordinary_end_spec : {M : Type 1} → statement M

@@ -7,10 +7,10 @@ use Rattle.item.proofs.Laws.{laws}
 use Rattle.item.proofs.find_winner.Statement.{statement}
 use Rattle.item.proofs.find_winner.Tie as tie
 
-abbrev invariant-loop : tie.invariant-loop
+abbrev invariant-loop : tie.invariant-loop-i
 invariant-loop text a e i₀ i = winner text a e ≡ winner text i e
 
-abbrev decreases-loop : tie.decreases-loop
+abbrev decreases-loop : tie.decreases-loop-i
 decreases-loop text a e i₀ i = e - i
 
 pub find_winner_spec : {M : Type 1} → statement M

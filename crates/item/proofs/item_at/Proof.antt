@@ -11,7 +11,7 @@ item_at_spec =
     (tie.spec
     (λ c. search rules)
     (λ c κs. search rules)
-    (λ c. omega (arith, key_fits _ c.before.before.args.e _ c.parse-key.ensures (search rules) (search rules)))
+    (λ c. omega (arith, key_fits _ c.args.e _ c.parse_key-m.ensures (search rules) (search rules)))
     (λ c κs. search rules)
     (λ c κs. search rules)
     (λ c κs. search rules)

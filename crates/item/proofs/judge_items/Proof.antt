@@ -12,12 +12,12 @@ use Rattle.item.proofs.Pieces.{piece_laws, next_fits}
 use Rattle.item.proofs.judge_items.Statement.{statement}
 use Rattle.item.proofs.judge_items.Tie as tie
 
-abbrev invariant-loop : tie.invariant-loop
+abbrev invariant-loop : tie.invariant-loop-to
 invariant-loop text p c from₀ to₀ n₀ from to n =
     (from ≤ to) × (to ≤ length text) × (n < from) × (to ≡ first (semicolon_at text) (c - from) from) ×
     (judged_of text p c ≡ past n (judged_in text (pieces text from c)))
 
-abbrev decreases-loop : tie.decreases-loop
+abbrev decreases-loop : tie.decreases-loop-to
 decreases-loop text p c from₀ to₀ n₀ from to n = c - from
 
 pub judge_items_spec : {M : Type 1} → statement M
@@ -34,7 +34,7 @@ judge_items_spec =
     (λ c. search rules)
     (λ c κs. search rules)
     (λ c. search rules)
-    (λ c. (search piece_laws, next_fits _ _ _ c.piece-end2.ensures (search rules) (search rules), search (piece_laws, rules), search rules, search judge_laws))
+    (λ c. (search piece_laws, next_fits _ _ _ c.piece_end-to-then-is_good_item.ensures (search rules) (search rules), search (piece_laws, rules), search rules, search judge_laws))
     (λ c. search judge_laws)
     (λ c κs. search rules)
     (λ c. search rules)

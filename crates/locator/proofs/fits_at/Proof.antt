@@ -16,9 +16,7 @@ decreases-loop text i e words from to k₀ w₀ k w = to - w
 
 loop-again : tie.Need-loop-w-preserved invariant-loop decreases-loop
 loop-again c =
-    let lowered = c.before.before in
-    let turn = lowered.before.before.before in
-    fits_more _ _ _ _ _ _ turn.before.loop.invariant (search rules) (search rules) (search rules) lowered.to-lower.ensures c.if-to_lower-words.true
+    fits_more _ _ _ _ _ _ c.loop-w.invariant (search rules) (search rules) (search rules) c.to_lower.ensures c.if-to_lower-words.true
 
 pub fits_at_spec : {M : Type 1} → statement M
 fits_at_spec =

@@ -6,7 +6,7 @@ use lib.ListN.{length, drop}
 use borrow.Author.Rules.{rules}
 use Rattle.locator.specs.Matchers.{matchers}
 use Rattle.locator.specs.Locators.{match_in}
-use Rattle.locator.proofs.Rows.{rows as row_laws, row-order, row_room, match-next, match-here}
+use Rattle.locator.proofs.Rows.{rows as row_laws, row_order, row_room, match_next, match_here}
 use Rattle.locator.proofs.match_in.Statement.{statement}
 use Rattle.locator.proofs.match_in.Tie as tie
 
@@ -17,40 +17,23 @@ abbrev decreases-loop : tie.decreases-loop-k
 decreases-loop text i e words rows first k₀ k = length rows - k
 
 -- back from a matcher that stands: its test, the row's end and start, the turn, and the function's entry
-sub_t28 : tie.Need-overflow-sub-t28 invariant-loop decreases-loop
+sub_t28 : tie.Need-overflow_sub-result invariant-loop decreases-loop
 sub_t28 c =
-    let ended = c.before.before.before.before in
-    let began = ended.before.before in
-    let turn = began.before.before in
-    let entry = turn.before.before.before.before.before.before in
-    omega (arith, row-order _ _ _ entry.requires.2 turn.loop-test.true began.wide.ensures ended.wide2.ensures)
+    omega (arith, row_order _ _ _ c.requires.2 c.loop-k-test.true c.wide-from.ensures c.wide-to.ensures)
 
-add_t29 : tie.Need-overflow-add-t29 invariant-loop decreases-loop
+add_t29 : tie.Need-overflow_add-result invariant-loop decreases-loop
 add_t29 c =
-    let ended = c.before.before.before.before in
-    let turn = ended.before.before.before.before in
-    let entry = turn.before.before.before.before.before.before in
-    omega (arith, row_room _ _ _ entry.requires.2 turn.loop-test.true ended.wide2.ensures)
+    omega (arith, row_room _ _ _ c.requires.2 c.loop-k-test.true c.wide-to.ensures)
 
 returns : tie.Need-returns-then-stands_at invariant-loop decreases-loop
 returns c =
-    let tested = c.before.before.before in
-    let ended = tested.before in
-    let began = ended.before.before in
-    let turn = began.before.before in
-    let entry = turn.before.before.before.before.before.before in
-    match-here _ _ _ _ _ _ entry.requires.2 turn.before.loop.invariant turn.loop-test.true began.wide.ensures ended.wide2.ensures
-    tested.stands_at.ensures c.if-stands_at.true c.wide_code.ensures
+    match_here _ _ _ _ _ _ c.requires.2 c.loop-k.invariant c.loop-k-test.true c.wide-from.ensures c.wide-to.ensures
+    c.stands_at.ensures c.if-stands_at.true c.wide_code.ensures
 
 loop-again : tie.Need-loop-k-preserved invariant-loop decreases-loop
 loop-again c =
-    let tested = c.before in
-    let ended = tested.before in
-    let began = ended.before.before in
-    let turn = began.before.before in
-    let entry = turn.before.before.before.before.before.before in
-    match-next _ _ _ _ _ _ entry.requires.2 turn.before.loop.invariant turn.loop-test.true began.wide.ensures ended.wide2.ensures
-    tested.stands_at.ensures c.if-stands_at.false
+    match_next _ _ _ _ _ _ c.requires.2 c.loop-k.invariant c.loop-k-test.true c.wide-from.ensures c.wide-to.ensures
+    c.stands_at.ensures c.if-stands_at.false
 
 pub match_in_spec : {M : Type 1} → statement M
 match_in_spec =

@@ -5,7 +5,7 @@ use Rattle.locator.proofs.Words.{words, lower_room}
 use Rattle.locator.proofs.to_lower.Statement.{statement}
 use Rattle.locator.proofs.to_lower.Tie as tie
 
-add_result : tie.Need-overflow-add-result
+add_result : tie.Need-overflow_add-result
 add_result c = omega (arith, lower_room c.args.b c.if-b.true)
 
 pub to_lower_spec : {M : Type 1} → statement M

@@ -12,7 +12,7 @@ stored_close_spec =
     (λ c. search (stored_laws, rules))
     (λ c. search (stored_laws, rules))
     (λ c. search (stored_laws, rules))
-    (λ c. omega (arith, c.shared-slice-known.given c.before.before.args.p))
+    (λ c. omega (arith, c.shared_slice_known-1.given c.args.p))
     (λ c. stored_before _ _ _ (omega arith))
     (λ c. search (stored_laws, rules))
     (λ c. search (stored_laws, rules))

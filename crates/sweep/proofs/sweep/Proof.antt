@@ -10,11 +10,11 @@ use Rattle.sweep.proofs.Turns.{sweep_laws}
 use Rattle.sweep.proofs.sweep.Statement.{statement}
 use Rattle.sweep.proofs.sweep.Tie as tie
 
-abbrev invariant-loop : tie.invariant-loop
+abbrev invariant-loop : tie.invariant-loop-r
 invariant-loop text note index items₀ groups₀ r₀ items groups r =
     Onward text note index r₀ items₀ groups₀ r items groups × (r.wants ≡ false)
 
-abbrev decreases-loop : tie.decreases-loop
+abbrev decreases-loop : tie.decreases-loop-r
 decreases-loop text note index items₀ groups₀ r₀ items groups r = length text - r.at
 
 pub sweep_spec : {M : Type 1} → statement M

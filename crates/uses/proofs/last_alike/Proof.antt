@@ -12,10 +12,10 @@ use Rattle.uses.proofs.last_alike.Statement.{statement}
 use Rattle.uses.proofs.last_alike.Tie as tie
 use Rattle.records.specs.Widths.{item_marks}
 
-abbrev invariant-loop : tie.invariant-loop
+abbrev invariant-loop : tie.invariant-loop-j
 invariant-loop text items k number mark key j₀ j = (j ≤ k) × (mark ≡ item_field items k item_marks) × (key ≡ key_in text items k) × (last_alike text items k number ≡ last (same_label text items k number) j k)
 
-abbrev decreases-loop : tie.decreases-loop
+abbrev decreases-loop : tie.decreases-loop-j
 decreases-loop text items k number mark key j₀ j = j
 
 pub last_alike_spec : {M : Type 1} → statement M

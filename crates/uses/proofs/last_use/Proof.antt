@@ -10,10 +10,10 @@ use Rattle.uses.proofs.UseLaws.{use_laws}
 use Rattle.uses.proofs.last_use.Statement.{statement}
 use Rattle.uses.proofs.last_use.Tie as tie
 
-abbrev invariant-loop : tie.invariant-loop
+abbrev invariant-loop : tie.invariant-loop-j
 invariant-loop text items k key j₀ j = (j ≤ k) × (key ≡ key_in text items k) × (last_use text items k ≡ last (same_use text items k) j k)
 
-abbrev decreases-loop : tie.decreases-loop
+abbrev decreases-loop : tie.decreases-loop-j
 decreases-loop text items k key j₀ j = j
 
 pub last_use_spec : {M : Type 1} → statement M

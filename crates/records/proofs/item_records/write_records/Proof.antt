@@ -11,11 +11,11 @@ use Rattle.records.proofs.RecordLaws.{Writing, writing_laws}
 use Rattle.records.proofs.item_records.write_records.Statement.{statement}
 use Rattle.records.proofs.item_records.write_records.Tie as tie
 
-abbrev invariant-loop : tie.invariant-loop
+abbrev invariant-loop : tie.invariant-loop-to
 invariant-loop text p c items₀ from₀ to₀ n₀ items from to n =
     (from ≤ to) × (to ≤ length text) × (to ≡ first (semicolon_at text) (c - from) from) × Writing text p c items₀ items from n
 
-abbrev decreases-loop : tie.decreases-loop
+abbrev decreases-loop : tie.decreases-loop-to
 decreases-loop text p c items₀ from₀ to₀ n₀ items from to n = c - from
 
 pub write_records_spec : {M : Type 1} → statement M
@@ -36,7 +36,7 @@ write_records_spec =
     (λ c. search rules)
     (λ c κs. search rules)
     (λ c. search rules)
-    (λ c. (search piece_laws, next_fits _ _ _ c.piece-end2.ensures (search rules) (search rules), search rules, search (writing_laws, rules)))
+    (λ c. (search piece_laws, next_fits _ _ _ c.piece_end-to-in-loop-to.ensures (search rules) (search rules), search rules, search (writing_laws, rules)))
     (λ c. search rules)
     (λ c. search rules)
     (λ c. search rules)

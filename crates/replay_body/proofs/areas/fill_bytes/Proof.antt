@@ -7,10 +7,10 @@ use mathlib.Core.Path.{◌≡◌}
 use Rattle.replay_body.proofs.areas.fill_bytes.Statement.{statement}
 use Rattle.replay_body.proofs.areas.fill_bytes.Tie as tie
 
-abbrev invariant-loop : tie.invariant-loop
+abbrev invariant-loop : tie.invariant-loop-i
 invariant-loop area₀ n value i₀ area i = (i ≤ length area₀) × (length area ≡ length area₀)
 
-abbrev decreases-loop : tie.decreases-loop
+abbrev decreases-loop : tie.decreases-loop-i
 decreases-loop area₀ n value i₀ area i = length area₀ - i
 
 pub fill_bytes_spec : {M : Type 1} → statement M

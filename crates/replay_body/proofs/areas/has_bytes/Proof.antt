@@ -5,10 +5,10 @@ use Prim.Native.Nat.{◌≤◌, ◌-◌}
 use Rattle.replay_body.proofs.areas.has_bytes.Statement.{statement}
 use Rattle.replay_body.proofs.areas.has_bytes.Tie as tie
 
-abbrev invariant-loop : tie.invariant-loop
+abbrev invariant-loop : tie.invariant-loop-i
 invariant-loop area n body i₀ i = i ≤ n
 
-abbrev decreases-loop : tie.decreases-loop
+abbrev decreases-loop : tie.decreases-loop-i
 decreases-loop area n body i₀ i = n - i
 
 pub has_bytes_spec : {M : Type 1} → statement M

@@ -6,10 +6,10 @@ use lib.ListN.{length}
 use Rattle.replay_body.proofs.areas.has_only.Statement.{statement}
 use Rattle.replay_body.proofs.areas.has_only.Tie as tie
 
-abbrev invariant-loop : tie.invariant-loop
+abbrev invariant-loop : tie.invariant-loop-i
 invariant-loop area at value i₀ i = Unit {0}
 
-abbrev decreases-loop : tie.decreases-loop
+abbrev decreases-loop : tie.decreases-loop-i
 decreases-loop area at value i₀ i = length area - i
 
 pub has_only_spec : {M : Type 1} → statement M

@@ -6,10 +6,10 @@ use lib.ListN.{length}
 use Rattle.replay_body.proofs.areas.is_filled.Statement.{statement}
 use Rattle.replay_body.proofs.areas.is_filled.Tie as tie
 
-abbrev invariant-loop : tie.invariant-loop
+abbrev invariant-loop : tie.invariant-loop-i
 invariant-loop area at value i₀ i = Unit {0}
 
-abbrev decreases-loop : tie.decreases-loop
+abbrev decreases-loop : tie.decreases-loop-i
 decreases-loop area at value i₀ i = length area - i
 
 pub is_filled_spec : {M : Type 1} → statement M

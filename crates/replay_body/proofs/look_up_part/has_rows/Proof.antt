@@ -5,10 +5,10 @@ use Prim.Native.Nat.{◌≤◌, ◌-◌}
 use Rattle.replay_body.proofs.look_up_part.has_rows.Statement.{statement}
 use Rattle.replay_body.proofs.look_up_part.has_rows.Tie as tie
 
-abbrev invariant-loop : tie.invariant-loop
+abbrev invariant-loop : tie.invariant-loop-k
 invariant-loop rows count items k₀ k = k ≤ count
 
-abbrev decreases-loop : tie.decreases-loop
+abbrev decreases-loop : tie.decreases-loop-k
 decreases-loop rows count items k₀ k = count - k
 
 pub has_rows_spec : {M : Type 1} → statement M

@@ -6,10 +6,10 @@ use lib.ListN.{length}
 use Rattle.replay_body.proofs.session.has_entries.Statement.{statement}
 use Rattle.replay_body.proofs.session.has_entries.Tie as tie
 
-abbrev invariant-loop : tie.invariant-loop
+abbrev invariant-loop : tie.invariant-loop-i
 invariant-loop body n index k₀ i₀ k i = i ≤ length index
 
-abbrev decreases-loop : tie.decreases-loop
+abbrev decreases-loop : tie.decreases-loop-i
 decreases-loop body n index k₀ i₀ k i = length index - i
 
 pub has_entries_spec : {M : Type 1} → statement M

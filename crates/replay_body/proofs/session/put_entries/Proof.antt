@@ -7,10 +7,10 @@ use mathlib.Core.Path.{◌≡◌}
 use Rattle.replay_body.proofs.session.put_entries.Statement.{statement}
 use Rattle.replay_body.proofs.session.put_entries.Tie as tie
 
-abbrev invariant-loop : tie.invariant-loop
+abbrev invariant-loop : tie.invariant-loop-left
 invariant-loop body index₀ left₀ index left = (left ≤ 65535) × (length index ≡ length index₀)
 
-abbrev decreases-loop : tie.decreases-loop
+abbrev decreases-loop : tie.decreases-loop-left
 decreases-loop body index₀ left₀ index left = left
 
 pub put_entries_spec : {M : Type 1} → statement M
