@@ -10,10 +10,10 @@ use Rattle.definition.proofs.EntryLaws.{entry_laws}
 use Rattle.definition.proofs.entries.entry_in.Statement.{statement}
 use Rattle.definition.proofs.entries.entry_in.Tie as tie
 
-abbrev invariant-loop : tie.invariant-loop
+abbrev invariant-loop : tie.invariant-loop-i
 invariant-loop pool key count i₀ i = (count ≡ count_of pool) × (entry_in pool key ≡ first (entry_has pool key) (count - i) i)
 
-abbrev decreases-loop : tie.decreases-loop
+abbrev decreases-loop : tie.decreases-loop-i
 decreases-loop pool key count i₀ i = count - i
 
 pub entry_in_spec : {M : Type 1} → statement M

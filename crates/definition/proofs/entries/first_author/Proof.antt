@@ -12,10 +12,10 @@ use Rattle.definition.proofs.EntryLaws.{author_laws}
 use Rattle.definition.proofs.entries.first_author.Statement.{statement}
 use Rattle.definition.proofs.entries.first_author.Tie as tie
 
-abbrev invariant-loop : tie.invariant-loop
+abbrev invariant-loop : tie.invariant-loop-i
 invariant-loop pool at e i₀ i = FieldsIn pool i e × (author_by (names_in (fields_of pool at e)) ≡ author_by (names_in (fields_of pool i e)))
 
-abbrev decreases-loop : tie.decreases-loop
+abbrev decreases-loop : tie.decreases-loop-i
 decreases-loop pool at e i₀ i = e - i
 
 pub first_author_spec : {M : Type 1} → statement M

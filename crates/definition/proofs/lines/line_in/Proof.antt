@@ -9,10 +9,10 @@ use Rattle.definition.proofs.LineLaws.{line_laws}
 use Rattle.definition.proofs.lines.line_in.Statement.{statement}
 use Rattle.definition.proofs.lines.line_in.Tie as tie
 
-abbrev invariant-loop : tie.invariant-loop
+abbrev invariant-loop : tie.invariant-loop-i
 invariant-loop text groups items n lines key i₀ i = (i ≤ n) × (line_in text groups items n key ≡ last (defines_key_in text groups items key) i n)
 
-abbrev decreases-loop : tie.decreases-loop
+abbrev decreases-loop : tie.decreases-loop-i
 decreases-loop text groups items n lines key i₀ i = i
 
 pub line_in_spec : {M : Type 1} → statement M

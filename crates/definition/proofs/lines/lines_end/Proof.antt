@@ -6,10 +6,10 @@ use Rattle.definition.proofs.LineLaws.{lines_laws}
 use Rattle.definition.proofs.lines.lines_end.Statement.{statement}
 use Rattle.definition.proofs.lines.lines_end.Tie as tie
 
-abbrev invariant-loop : tie.invariant-loop
+abbrev invariant-loop : tie.invariant-loop-end
 invariant-loop text groups items n end₀ end = LinesBelow text groups items n end
 
-abbrev decreases-loop : tie.decreases-loop
+abbrev decreases-loop : tie.decreases-loop-end
 decreases-loop text groups items n end₀ end = end
 
 pub lines_end_spec : {M : Type 1} → statement M
