@@ -1,7 +1,7 @@
 /*
  * citations.h: bracketed citations, from text to numbered sources. C99 and C++.
  *
- * Link with target/staticlib/libexports.a, which `rt staticlib exports` writes (x86-64 Linux):
+ * Link with target/staticlib/libexports.a, which `tests/library` writes (x86-64 Linux):
  *
  *     cc -std=c99 -Iinclude program.c target/staticlib/libexports.a
  *

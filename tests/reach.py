@@ -30,7 +30,9 @@ def imported(text, uses):
     """Adds what a `use` line names: local name -> (crate, file, name)."""
     m = re.match(r'([^\s{]+?)\.?(?:\{(.*)\})?;?\s*$', text)
     module, names = m.group(1), m.group(2)
-    ours = re.match(r'Rattle·([a-z_0-9]+)(?:·specs)?\.specs\.(.*)$', module)
+    ours = re.match(r'Rattle\.([a-z_0-9]+)\.specs\.(.*)$', module)
+    if ours and names is None and os.path.isdir(f'crates/{ours.group(1)}'):
+        sys.exit(f'reach: {text}: a whole module is imported, whose names are not followed: import each by its name')
     if names is None or not ours:
         return
     for n in filter(None, (x.strip() for x in names.split(','))):
@@ -81,6 +83,18 @@ class SpecFile:
             current.lines.append(line)
 
 
+def cases_of(crate):
+    """The names of the cases that stand in the crate's proofs: of files that proofs/Lib.antt names and that begin as a file of cases does."""
+    names = set()
+    for path in glob.glob(f'crates/{crate}/proofs/*.antt'):
+        text = open(path, encoding='utf-8').read()
+        own = os.path.basename(path)[:-len('.antt')]
+        if not re.match(r'-- Cases: .+', text) or not re.search(rf'(?m)^(?:pub )?mod {own}$', open(f'crates/{crate}/proofs/Lib.antt', encoding='utf-8').read()):
+            continue
+        names |= set(re.findall(rf'(?m)^{MODIFIERS}(\S+)(?:\s+\{{[^}}]*\}})?\s*:(?:\s|$)', text))
+    return names
+
+
 files = {}
 for path in sorted(glob.glob('crates/*/specs/**/*.antt', recursive=True)):
     crate, rest = re.match(r'crates/(\w+)/specs/(.*)\.antt', path).groups()
@@ -122,7 +136,7 @@ def named_by(lines, uses, own):
     for line in lines:
         for word in SEPARATORS.split(line):
             word = word.lstrip('λ')
-            for candidate in (word, '_' + word + '_', word.split('.')[0]):
+            for candidate in (word, '◌' + word + '◌', word.split('.')[0]):
                 if candidate in own:
                     yield own[candidate]
                     break
@@ -148,11 +162,15 @@ def reached(starts):
 
 
 def contracts(path):
-    """For each function of a file: its name, whether its body is empty, whether it is public, and the definitions that its contract cites."""
+    """For each function of a file: its name, whether its body is empty, whether it is public, and the definitions that its clauses cite.
+    The name of a parameter is no citation, even where a definition has it too."""
     text = open(path, encoding='utf-8').read()
     uses = {}
     for m in re.finditer(r'^ghost use ([^;]*);', text, flags=re.M):
         imported(re.sub(r'\s+', ' ', m.group(1)), uses)
-    for m in re.finditer(r'^(pub )?(?:extern "C" )?fn (\w+).*?^(\{\}$|\{|\}$)', text, flags=re.M | re.S):
-        cited = [d for d in named_by([m.group(0).replace('\n', ' ')], uses, {}) if d is not None]
-        yield m.group(2), m.group(3) == '{}', bool(m.group(1)), cited
+    for m in re.finditer(r'^(pub )?(?:unsafe )?(?:extern "C" )?fn (\w+)(.*?)^(\{\}$|\{|\}$)', text, flags=re.M | re.S):
+        signature, _, clauses = re.sub(r'(\brequires|\bensures)\b', r'\0\1', m.group(3), count=1).partition('\0')
+        given = set(re.findall(r'(\w+)\s*:(?!:)', signature))
+        known = {name: d for name, d in uses.items() if name not in given}
+        cited = [d for d in named_by([re.sub(r'//.*', '', clauses).replace('\n', ' ')], known, {}) if d is not None]
+        yield m.group(2), m.group(4) == '{}', bool(m.group(1)), cited

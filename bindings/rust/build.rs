@@ -39,7 +39,7 @@ fn from_start(folder: &Path) -> PathBuf {
 fn missing(archive: &Path) -> ! {
     stop(&[
         &format!("the proved library is missing: no file {}", archive.display()),
-        "write it with `rt staticlib exports` in the repository's root,",
+        "write it with `tests/library` in the repository's root,",
         "or set CITATIONS_LIB_DIR to the folder that holds libexports.a.",
     ])
 }

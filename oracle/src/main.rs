@@ -4,7 +4,7 @@
 //!     oracle < requests > answers                     a request a line, an answer a line; src/protocol.rs has the table
 //!     oracle generate SEED N KIND                     N made-up requests of a kind, to be answered or to be sent elsewhere
 //!     oracle store > ../crates/replay/data/answers    the stored list that crates/replay replays
-//!     oracle store SEED TIMES > answers               a list with other seeds, TIMES as long, to run target/bin/replay beside
+//!     oracle store SEED TIMES > answers               a list with other seeds, TIMES as long, to run crates/replay/out/replay beside
 //!     oracle count SEED TIMES                         how many calls of each sort that list has, by their answer
 //!     oracle show SEED TIMES KIND N                   the requests of the N-th record of a kind in that list, with their answers
 //!

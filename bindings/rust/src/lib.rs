@@ -45,7 +45,7 @@
 //!
 //! # Linking
 //!
-//! The build script looks for `libexports.a` in the repository's `target/staticlib`, where `rt staticlib exports` writes it, or in the
+//! The build script looks for `libexports.a` in the repository's `target/staticlib`, where `tests/library` writes it, or in the
 //! folder that the environment variable `CITATIONS_LIB_DIR` names; a relative one is seen from the folder in which cargo is started (the
 //! shell's `PWD`). The archive is for x86-64 Linux, and has a name that carries its version ([`raw::version`]): with one of another version
 //! nothing links.
