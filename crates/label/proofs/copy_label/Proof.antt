@@ -9,10 +9,10 @@ use Rattle.label.proofs.AreaLaws.{copy_label_laws}
 use Rattle.label.proofs.copy_label.Statement.{statement}
 use Rattle.label.proofs.copy_label.Tie as tie
 
-abbrev invariant-loop : tie.invariant-loop
+abbrev invariant-loop : tie.invariant-loop-i
 invariant-loop from len at labels₀ i₀ labels i = (i ≤ len) × (len ≤ length labels₀ - at) × (length labels ≡ length labels₀) × (labels ≡ paste labels₀ at (drop from labels₀) i)
 
-abbrev decreases-loop : tie.decreases-loop
+abbrev decreases-loop : tie.decreases-loop-i
 decreases-loop from len at labels₀ i₀ labels i = len - i
 
 pub copy_label_spec : {M : Type 1} → statement M

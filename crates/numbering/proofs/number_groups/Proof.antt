@@ -13,10 +13,10 @@ use Rattle.numbering.proofs.NumberLaws.{groups_start, groups_more, groups_end}
 use Rattle.numbering.proofs.number_groups.Statement.{statement}
 use Rattle.numbering.proofs.number_groups.Tie as tie
 
-abbrev invariant-loop : tie.invariant-loop
+abbrev invariant-loop : tie.invariant-loop-g
 invariant-loop text mode pool n lines m items₀ groups₀ labels₀ s₀ g₀ items groups labels s g = (g ≤ n) × (length items ≡ length items₀) × (length groups ≡ length groups₀) × Advances (65535 * g) (λ t. number_from text mode pool n g t 0) s₀ s items₀ groups₀ labels₀ items groups labels × LinesBelow text groups items n lines × Labelled text mode pool n m s items groups labels
 
-abbrev decreases-loop : tie.decreases-loop
+abbrev decreases-loop : tie.decreases-loop-g
 decreases-loop text mode pool n lines m items₀ groups₀ labels₀ s₀ g₀ items groups labels s g = n - g
 
 pub number_groups_spec : {M : Type 1} → statement M
@@ -29,8 +29,8 @@ number_groups_spec =
     (λ c κs. (search rules, search rules, search rules, search rules, search rules, search rules, search rules))
     (λ c. search rules)
     (λ c. search rules)
-    (λ c. (omega arith, omega arith, omega arith, groups_more _ _ _ _ _ _ _ _ _ c.before.before.before.before.before.before.before.before.before.before.before.loop.invariant.3 c.before.before.before.before.before.before.number-group.ensures.0, search rules, search rules))
+    (λ c. (omega arith, omega arith, omega arith, groups_more _ _ _ _ _ _ _ _ _ c.loop-g.invariant.3 c.number_group-s.ensures.0, search rules, search rules))
     (λ c. search rules)
     (λ c. search rules)
     (λ c. search rules)
-    (λ c. (groups_end _ _ _ _ _ (search rules) (search rules) c.before.loop.invariant.3, search rules)))
+    (λ c. (groups_end _ _ _ _ _ (search rules) (search rules) c.loop-g.invariant.3, search rules)))

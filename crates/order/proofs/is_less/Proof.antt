@@ -9,10 +9,10 @@ use Rattle.order.proofs.OrderLaws.{less_laws}
 use Rattle.order.proofs.is_less.Statement.{statement}
 use Rattle.order.proofs.is_less.Tie as tie
 
-abbrev invariant-loop : tie.invariant-loop
+abbrev invariant-loop : tie.invariant-loop-i
 invariant-loop a b i₀ i = (i ≤ length b) × (less a b ≡ less (drop i a) (drop i b))
 
-abbrev decreases-loop : tie.decreases-loop
+abbrev decreases-loop : tie.decreases-loop-i
 decreases-loop a b i₀ i = length a - i
 
 pub is_less_spec : {M : Type 1} → statement M

@@ -11,10 +11,10 @@ use Rattle.order.proofs.Definitions.{back_laws}
 use Rattle.order.proofs.number_sources.Statement.{statement}
 use Rattle.order.proofs.number_sources.Tie as tie
 
-abbrev invariant-loop : tie.invariant-loop
+abbrev invariant-loop : tie.invariant-loop-i
 invariant-loop text pool groups items n m sources references₀ i₀ references i = (i ≤ sources) × (length references ≡ length references₀) × (references ≡ written (map (source_by text pool groups items n m) (take i references₀)) references₀)
 
-abbrev decreases-loop : tie.decreases-loop
+abbrev decreases-loop : tie.decreases-loop-i
 decreases-loop text pool groups items n m sources references₀ i₀ references i = sources - i
 
 pub number_sources_spec : {M : Type 1} → statement M

@@ -9,10 +9,10 @@ use Rattle.order.proofs.OrderLaws.{up_laws}
 use Rattle.order.proofs.order_by_number.Statement.{statement}
 use Rattle.order.proofs.order_by_number.Tie as tie
 
-abbrev invariant-loop : tie.invariant-loop
+abbrev invariant-loop : tie.invariant-loop-i
 invariant-loop sources references₀ i₀ references i = (i ≤ sources) × (length references ≡ length references₀) × (references ≡ written (up_from 1 i) references₀)
 
-abbrev decreases-loop : tie.decreases-loop
+abbrev decreases-loop : tie.decreases-loop-i
 decreases-loop sources references₀ i₀ references i = sources - i
 
 pub order_by_number_spec : {M : Type 1} → statement M

@@ -13,10 +13,10 @@ use Rattle.order.proofs.Definitions.{definition_laws}
 use Rattle.order.proofs.order_definitions.Statement.{statement}
 use Rattle.order.proofs.order_definitions.Tie as tie
 
-abbrev invariant-loop : tie.invariant-loop
+abbrev invariant-loop : tie.invariant-loop-i
 invariant-loop text pool groups items n lines m sources references₀ i₀ references i = (i ≤ sources) × (length references ≡ length references₀) × (references ≡ written (map (definition_of text pool groups items n m) (inserted_from (rank_in text pool groups items n m) i [] 1)) references₀)
 
-abbrev decreases-loop : tie.decreases-loop
+abbrev decreases-loop : tie.decreases-loop-i
 decreases-loop text pool groups items n lines m sources references₀ i₀ references i = sources - i
 
 pub order_definitions_spec : {M : Type 1} → statement M

@@ -9,10 +9,10 @@ use Rattle.order.proofs.OrderLaws.{shift_laws}
 use Rattle.order.proofs.shift.Statement.{statement}
 use Rattle.order.proofs.shift.Tie as tie
 
-abbrev invariant-loop : tie.invariant-loop
+abbrev invariant-loop : tie.invariant-loop-i
 invariant-loop references₀ from to v x₀ i₀ references x i = (i ≤ to) × (length references ≡ length references₀) × (shifted (to - from) references₀ from v ≡ shifted (to - i) references i x)
 
-abbrev decreases-loop : tie.decreases-loop
+abbrev decreases-loop : tie.decreases-loop-i
 decreases-loop references₀ from to v x₀ i₀ references x i = to - i
 
 pub shift_spec : {M : Type 1} → statement M

@@ -8,10 +8,10 @@ use Rattle.numbering.proofs.GroupLaws.{keys_laws}
 use Rattle.numbering.proofs.numbers.all_defined.Statement.{statement}
 use Rattle.numbering.proofs.numbers.all_defined.Tie as tie
 
-abbrev invariant-loop : tie.invariant-loop
+abbrev invariant-loop : tie.invariant-loop-i
 invariant-loop text pool groups items n lines first count i₀ i = keys_defined text pool groups items n count first ≡ keys_defined text pool groups items n (count - i) (first + i)
 
-abbrev decreases-loop : tie.decreases-loop
+abbrev decreases-loop : tie.decreases-loop-i
 decreases-loop text pool groups items n lines first count i₀ i = count - i
 
 pub all_defined_spec : {M : Type 1} → statement M

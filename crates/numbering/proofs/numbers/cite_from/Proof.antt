@@ -12,10 +12,10 @@ use Rattle.numbering.proofs.NumberLaws.{cites_start, cites_more, cites_end}
 use Rattle.numbering.proofs.numbers.cite_from.Statement.{statement}
 use Rattle.numbering.proofs.numbers.cite_from.Tie as tie
 
-abbrev invariant-loop : tie.invariant-loop
+abbrev invariant-loop : tie.invariant-loop-i
 invariant-loop text mode pool n lines m first count items₀ groups labels₀ so-far₀ i₀ items labels so_far i = (i ≤ count) × (length items ≡ length items₀) × Advances i (λ t. cite_from text mode pool n i t first) so-far₀ so_far items₀ groups labels₀ items groups labels × LinesBelow text groups items n lines × Labelled text mode pool n m so_far items groups labels
 
-abbrev decreases-loop : tie.decreases-loop
+abbrev decreases-loop : tie.decreases-loop-i
 decreases-loop text mode pool n lines m first count items₀ groups labels₀ so-far₀ i₀ items labels so_far i = count - i
 
 pub cite_from_spec : {M : Type 1} → statement M
@@ -29,7 +29,7 @@ cite_from_spec =
     (λ c κs. search rules)
     (λ c. search rules)
     (λ c. search rules)
-    (λ c. (omega arith, omega arith, cites_more _ _ _ _ _ _ _ _ _ c.before.before.before.before.before.before.before.before.loop.invariant.2 c.before.before.before.before.cite.ensures.0, search rules, search rules))
+    (λ c. (omega arith, omega arith, cites_more _ _ _ _ _ _ _ _ _ c.loop-i.invariant.2 c.cite-so_far.ensures.0, search rules, search rules))
     (λ c. search rules)
     (λ c. search rules)
-    (λ c. (cites_end _ _ _ _ _ _ _ _ _ (search rules) (search rules) c.before.loop.invariant.2, (search rules, search rules))))
+    (λ c. (cites_end _ _ _ _ _ _ _ _ _ (search rules) (search rules) c.loop-i.invariant.2, (search rules, search rules))))

@@ -9,10 +9,10 @@ use Rattle.order.proofs.RankLaws.{with_laws}
 use Rattle.order.proofs.ranks.first_with.Statement.{statement}
 use Rattle.order.proofs.ranks.first_with.Tie as tie
 
-abbrev invariant-loop : tie.invariant-loop
+abbrev invariant-loop : tie.invariant-loop-j
 invariant-loop items m k j₀ j = first_with items m k ≡ first (has_number items k) (m - j) j
 
-abbrev decreases-loop : tie.decreases-loop
+abbrev decreases-loop : tie.decreases-loop-j
 decreases-loop items m k j₀ j = m - j
 
 pub first_with_spec : {M : Type 1} → statement M

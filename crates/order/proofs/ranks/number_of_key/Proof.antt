@@ -12,10 +12,10 @@ use Rattle.order.proofs.ranks.number_of_key.Statement.{statement}
 use Rattle.order.proofs.ranks.number_of_key.Tie as tie
 use Rattle.records.specs.Widths.{item_number}
 
-abbrev invariant-loop : tie.invariant-loop
+abbrev invariant-loop : tie.invariant-loop-j
 invariant-loop text items m key j₀ j = (j ≤ m) × (number_of_key text items m key ≡ item_field items (first (used_at text items key) (m - j) j) item_number)
 
-abbrev decreases-loop : tie.decreases-loop
+abbrev decreases-loop : tie.decreases-loop-j
 decreases-loop text items m key j₀ j = m - j
 
 pub number_of_key_spec : {M : Type 1} → statement M
