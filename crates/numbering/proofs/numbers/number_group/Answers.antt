@@ -1,16 +1,17 @@
 -- `numbering::numbers::number_group`: no room before it, a group in a definition line, one numbered, one with a key that is not defined.
-use Rattle.std.proofs.Common.{rules, arith}
+use Rattle.std.proofs.Common.{rules, arith, ap}
+use mathlib.Core.Bool.{not}
 use Rattle.numbering.proofs.CiteLaws.{lines_stood}
 use Rattle.numbering.proofs.LabelledLaws.{labelled_stood}
 use Rattle.numbering.proofs.NumberLaws.{group_full, group_line, group_undefined, group_numbered}
 use Rattle.numbering.proofs.numbers.number_group.Goals as goal
 
 pub returns-then-not-fits-clause-advances : goal.returns-then-not-fits-clause-advances
-returns-then-not-fits-clause-advances c = group_full _ _ _ _ _ _ _ _ _ c.requires.4 c.if-not-fits.true
+returns-then-not-fits-clause-advances c = group_full _ _ _ _ _ _ _ _ _ c.requires.4 (ap not c.if-not-fits.true)
 
 pub returns-then-standing-eq0-clause-advances : goal.returns-then-standing-eq0-clause-advances
 returns-then-standing-eq0-clause-advances c =
-    group_line _ _ _ _ _ _ _ _ _ c.requires.4 c.if-not-fits.false c.group_field-standing.ensures.0 c.if-standing-eq0.true
+    group_line _ _ _ _ _ _ _ _ _ c.requires.4 (ap not c.if-not-fits.false) c.group_field-standing.ensures.0 c.if-standing-eq0.true
 
 pub cite_from-requires : goal.cite_from-requires
 cite_from-requires c =
@@ -19,10 +20,10 @@ cite_from-requires c =
 
 pub returns-then-all_defined-clause-advances : goal.returns-then-all_defined-clause-advances
 returns-then-all_defined-clause-advances c =
-    group_numbered _ _ _ _ _ _ _ _ _ c.requires.4 c.if-not-fits.false c.group_field-k.ensures.0 c.group_field-c.ensures.0 c.all_defined.ensures
+    group_numbered _ _ _ _ _ _ _ _ _ c.requires.4 (ap not c.if-not-fits.false) c.group_field-k.ensures.0 c.group_field-c.ensures.0 c.all_defined.ensures
     c.group_field-standing.ensures.0 c.if-standing-eq0.false c.put.ensures c.if-all_defined.true c.group_field-c.ensures.1 c.cite_from.ensures.advances
 
 pub returns-else-all_defined-clause-advances : goal.returns-else-all_defined-clause-advances
 returns-else-all_defined-clause-advances c =
-    group_undefined _ _ _ _ _ _ _ _ _ c.requires.4 c.if-not-fits.false c.group_field-k.ensures.0 c.group_field-c.ensures.0 c.all_defined.ensures
+    group_undefined _ _ _ _ _ _ _ _ _ c.requires.4 (ap not c.if-not-fits.false) c.group_field-k.ensures.0 c.group_field-c.ensures.0 c.all_defined.ensures
     c.if-all_defined.false
