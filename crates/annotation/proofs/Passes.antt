@@ -248,7 +248,7 @@ module _ (text : List ℕ) (mode : ℕ) (pool : List ℕ) (n : ℕ) (all : List 
       gis = a.groups;
       iis =
           a.agrees.items
-          ∙ ap (λ (hs : List Group). t.records ++ (item_records hs ++ rest_items)) (sym (placed_groups _ text before from (x ∷ gs)));
+          ∙ ap (λ (hs : List Group). t.records ++ (item_records hs ++ rest_items)) (sym (placed_groups (λ before g. pick before 0 1) text before from (x ∷ gs)));
     }
 
     field_first : group_field s.groups g group_first ≡ k
@@ -367,7 +367,9 @@ module _ (text : List ℕ) (mode : ℕ) (pool : List ℕ) (n : ℕ) (all : List 
   }
   groups_agree rest_items rest_groups t s g k done before from (x ∷ gs) a l =
       on
-      (groups_agree rest_items rest_groups _ (number_group text mode pool n s g) (g + 1) (k + length x.items) _ (in_line text before from x) (group_end x) gs
+      (groups_agree rest_items rest_groups (add_group text mode all pool t (its_place rest_items rest_groups t s g k done before from x gs a))
+      (number_group text mode pool n s g) (g + 1) (k + length x.items)
+      (done ++ group_record k (its_place rest_items rest_groups t s g k done before from x gs a)) (in_line text before from x) (group_end x) gs
       (group_agrees rest_items rest_groups t s g k done before from x gs a (omega arith)) (omega arith))
     where
       p : Placed

@@ -8,10 +8,10 @@ use Rattle.annotation.proofs.Zeros.{zero_laws}
 use Rattle.annotation.proofs.answer.zero_fill.Statement.{statement}
 use Rattle.annotation.proofs.answer.zero_fill.Tie as tie
 
-abbrev invariant-loop : tie.invariant-loop
+abbrev invariant-loop : tie.invariant-loop-i
 invariant-loop area₀ i₀ area i = (i ≤ length area₀) × (area ≡ replicate i 0 ++ drop i area₀) × (length area ≡ length area₀)
 
-abbrev decreases-loop : tie.decreases-loop
+abbrev decreases-loop : tie.decreases-loop-i
 decreases-loop area₀ i₀ area i = length area₀ - i
 
 pub zero_fill_spec : {M : Type 1} → statement M

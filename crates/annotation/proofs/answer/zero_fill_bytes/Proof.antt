@@ -8,10 +8,10 @@ use Rattle.annotation.proofs.Zeros.{zero_laws}
 use Rattle.annotation.proofs.answer.zero_fill_bytes.Statement.{statement}
 use Rattle.annotation.proofs.answer.zero_fill_bytes.Tie as tie
 
-abbrev invariant-loop : tie.invariant-loop
+abbrev invariant-loop : tie.invariant-loop-k
 invariant-loop bytes₀ k₀ bytes k = (k ≤ length bytes₀) × (bytes ≡ replicate k 0 ++ drop k bytes₀) × (length bytes ≡ length bytes₀)
 
-abbrev decreases-loop : tie.decreases-loop
+abbrev decreases-loop : tie.decreases-loop-k
 decreases-loop bytes₀ k₀ bytes k = length bytes₀ - k
 
 pub zero_fill_bytes_spec : {M : Type 1} → statement M
