@@ -10,11 +10,11 @@ use Rattle.line_writers.proofs.put_groups.Statement.{statement}
 use Rattle.line_writers.proofs.put_groups.Tie as tie
 use Rattle.records.specs.Widths.{group_width}
 
-abbrev invariant-loop : tie.invariant-loop
+abbrev invariant-loop : tie.invariant-loop-g
 invariant-loop text n groups items out₀ k at₀ g₀ out at g =
     (g ≤ n) × (length out ≡ length out₀) × Along (group_lines n text groups items) (group_lines (n - g) text (drop (group_width * g) groups) items) k out₀ out at
 
-abbrev decreases-loop : tie.decreases-loop
+abbrev decreases-loop : tie.decreases-loop-g
 decreases-loop text n groups items out₀ k at₀ g₀ out at g = n - g
 
 pub put_groups_spec : {M : Type 1} → statement M

@@ -10,11 +10,11 @@ use Rattle.line_writers.proofs.put_lines.Statement.{statement}
 use Rattle.line_writers.proofs.put_lines.Tie as tie
 use Rattle.records.specs.Widths.{item_width, group_width}
 
-abbrev invariant-loop : tie.invariant-loop
+abbrev invariant-loop : tie.invariant-loop-j
 invariant-loop text groups g items out₀ k first count at₀ j₀ out at j =
     (j ≤ count) × (length out ≡ length out₀) × Along (lines_of text (drop (group_width * g) groups) items) (item_lines (count - j) text (drop (group_width * g) groups) (drop (item_width * (first + j)) items)) k out₀ out at
 
-abbrev decreases-loop : tie.decreases-loop
+abbrev decreases-loop : tie.decreases-loop-j
 decreases-loop text groups g items out₀ k first count at₀ j₀ out at j = count - j
 
 pub put_lines_spec : {M : Type 1} → statement M
