@@ -161,6 +161,15 @@ def reached(starts):
     return seen
 
 
+FUNCTION = re.compile(r'^(pub )?(?:unsafe )?(?:extern "C" )?fn (\w+)(.*?)^(\{\}$|\{|\}$)', flags=re.M | re.S)
+
+
+def headers(path):
+    """The parameters and the clauses of each function of a file, by its name."""
+    text = re.sub(r'//.*', '', open(path, encoding='utf-8').read())
+    return {m.group(2): ' '.join(m.group(3).split()) for m in FUNCTION.finditer(text)}
+
+
 def contracts(path):
     """For each function of a file: its name, whether its body is empty, whether it is public, and the definitions that its clauses cite.
     The name of a parameter is no citation, even where a definition has it too."""
@@ -168,7 +177,7 @@ def contracts(path):
     uses = {}
     for m in re.finditer(r'^ghost use ([^;]*);', text, flags=re.M):
         imported(re.sub(r'\s+', ' ', m.group(1)), uses)
-    for m in re.finditer(r'^(pub )?(?:unsafe )?(?:extern "C" )?fn (\w+)(.*?)^(\{\}$|\{|\}$)', text, flags=re.M | re.S):
+    for m in FUNCTION.finditer(text):
         signature, _, clauses = re.sub(r'(\brequires|\bensures)\b', r'\0\1', m.group(3), count=1).partition('\0')
         given = set(re.findall(r'(\w+)\s*:(?!:)', signature))
         known = {name: d for name, d in uses.items() if name not in given}

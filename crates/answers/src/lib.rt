@@ -1,6 +1,7 @@
 // The answer areas of the C names: the numbers of an answer as `u32`s at the front of a lent area, the rest of which stays as it was.
 // `has_room` says whether an area can hold them; the writers ask for that, and that each number fits.
 #![tactic(auto)]
+
 ghost use Rattle.std.specs.Prelude.{[], ◌∷◌, ◌≡◌, ◌≤◌, leb, length};
 ghost use Rattle.annotation.specs.Values.{annotation_values};
 ghost use Rattle.base.specs.Lists.{written};

@@ -1,5 +1,6 @@
 // The attributes of a definition line (`attr_value`): words `name=value` parted by white space.
 #![tactic(auto)]
+
 ghost use Rattle.std.specs.Prelude.{◌≡◌, ◌+◌, ◌-◌, ◌≤◌, length};
 ghost use Rattle.base.specs.Lists.{part, same};
 ghost use Rattle.base.specs.Spans.{bytes_of};

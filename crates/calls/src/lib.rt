@@ -1,6 +1,7 @@
 // The public calls. Each takes any arguments, and answers by an enum whose numbers and values a definition gives (specs/Values of its crate).
 // The layouts of records and areas, the note, the refusals and what each leaves behind are in include/citations.h, the manual of these calls.
 #![tactic(auto)]
+
 ghost use Rattle.std.specs.Prelude.{◌≡◌};
 ghost use Rattle.annotation.specs.Content.{areas};
 ghost use Rattle.histories.specs.Promises.{LookUpPromise, AnnotatePromise};

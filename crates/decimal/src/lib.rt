@@ -1,5 +1,6 @@
 // Numbers in decimal, written at the front of a lent area.
 #![tactic(auto)]
+
 ghost use Rattle.std.specs.Prelude.{◌≡◌, ◌++◌, ◌≤◌, length, drop};
 ghost use Rattle.base.specs.Lists.{written};
 ghost use Rattle.decimal.specs.Decimal.{last_digits, decimal};

@@ -1,5 +1,6 @@
 // Definition lines: where they begin, and where their attributes lie.
 #![tactic(auto)]
+
 ghost use Rattle.std.specs.Prelude.{◌≡◌, ◌&&◌, ◌+◌, ◌≤◌, ◌<◌, length};
 ghost use Rattle.base.specs.Spans.{bytes_of};
 ghost use Rattle.definition_line.specs.Lines.{break_at, starts_line, colon_after, after_spaces, attributes_of};

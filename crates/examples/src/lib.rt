@@ -1,5 +1,6 @@
 // The examples that document 01 marks [P], as one table. The function does nothing; its contract states the theorem.
 #![tactic(auto)]
+
 ghost use Rattle.examples.specs.Examples.{Examples};
 
 // Every case of the table of specs/Examples holds.

@@ -1,4 +1,3 @@
 mod Laws
-mod Calls
 pub mod Words
 pub mod SourceWords

@@ -1,6 +1,7 @@
 // The public calls for C and Rust, under the names of include/citations.h. A slice is a pointer and a length in elements.
 // `answer` gets the number (0 accepted), then the values in the paper's order; a call with a shorter one does nothing.
 #![tactic(auto)]
+
 ghost use Rattle.std.specs.Prelude.{◌≡◌};
 ghost use Rattle.annotation.specs.Content.{areas};
 ghost use Rattle.exports.specs.Areas.{look_up_areas, after_look_up, annotate_areas, after_annotate, after_size, after_locator, source_areas, after_source_text};
@@ -8,8 +9,7 @@ ghost use Rattle.exports.specs.Areas.{look_up_areas, after_look_up, annotate_are
 use index::Bracket;
 
 // calls::look_up; answer: number, close, item count, note.
-#[unsafe(no_mangle)]
-pub extern "C" fn citations_look_up(
+pub fn citations_look_up(
     text: &[u8],
     at: usize,
     note: u8,
@@ -32,8 +32,7 @@ pub extern "C" fn citations_look_up(
 }
 
 // calls::annotate; answer: number, groups, items, sources, label bytes, note.
-#[unsafe(no_mangle)]
-pub extern "C" fn citations_annotate<'a>(
+pub fn citations_annotate<'a>(
     text: &'a [u8],
     mode: u8,
     pool: &'a [u8],
@@ -66,8 +65,7 @@ pub extern "C" fn citations_annotate<'a>(
 }
 
 // calls::size; answer: number, records.
-#[unsafe(no_mangle)]
-pub extern "C" fn citations_size(text: &[u8], answer: &mut [u32])
+pub fn citations_size(text: &[u8], answer: &mut [u32])
     ensures { answer.new ≡ after_size text.now answer.old }
 {
     if answers::has_room(answer, answers::SIZE_ANSWER) {
@@ -76,8 +74,7 @@ pub extern "C" fn citations_size(text: &[u8], answer: &mut [u32])
 }
 
 // calls::locator; answer: number, label code, value pair, suffix pair.
-#[unsafe(no_mangle)]
-pub extern "C" fn citations_locator(text: &[u8], answer: &mut [u32])
+pub fn citations_locator(text: &[u8], answer: &mut [u32])
     ensures { answer.new ≡ after_locator text.now answer.old }
 {
     if answers::has_room(answer, answers::LOCATOR_ANSWER) {
@@ -86,13 +83,7 @@ pub extern "C" fn citations_locator(text: &[u8], answer: &mut [u32])
 }
 
 // calls::source_text; answer: number, bytes.
-#[unsafe(no_mangle)]
-pub extern "C" fn citations_source_text(
-    pool: &[u8],
-    entry: usize,
-    area: &mut [u8],
-    answer: &mut [u32],
-)
+pub fn citations_source_text(pool: &[u8], entry: usize, area: &mut [u8], answer: &mut [u32])
     ensures { let after = after_source_text pool.now entry (source_areas area.old answer.old) in
         (area.new ≡ after.area) × (answer.new ≡ after.answer) }
 {
@@ -103,8 +94,7 @@ pub extern "C" fn citations_source_text(
 
 // CITATIONS_VERSION of include/citations.h. What is compiled against that header refers to this name, so it links with no archive of another
 // version. The number stands in the name too, and both are raised together.
-#[unsafe(no_mangle)]
-pub extern "C" fn citations_version_2() -> u32
+pub fn citations_version_2() -> u32
     ensures { result ≡ 2 }
 {
     2

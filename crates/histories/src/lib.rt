@@ -2,6 +2,7 @@
 // calls on one text that share an index, each call gives its plain answer.
 // The functions do nothing; their contracts state the theorems.
 #![tactic(auto)]
+
 ghost use Rattle.histories.specs.EveryGroup.{EveryGroup};
 ghost use Rattle.histories.specs.Histories.{Histories};
 ghost use Rattle.histories.specs.Promises.{PromisedHistories};

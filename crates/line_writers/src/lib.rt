@@ -1,6 +1,7 @@
 // Writers of the lines of the listing: each puts its bytes into an area from a place on, and gives the place after them.
 // `put_listing` writes a whole listing, by the numbers and the records of an answer.
 #![tactic(auto)]
+
 ghost use Rattle.std.specs.Prelude.{[], ◌∷◌, ◌++◌, ◌*◌, ◌≤◌, ◌<◌, drop};
 ghost use Rattle.decimal.specs.Decimal.{decimal};
 ghost use Rattle.line_writers.specs.Lines.{group_part, item_part, item_line, lines_of, group_lines, count_line, answer_lines};

@@ -1,6 +1,7 @@
 // The lines that the listing program writes, by one function on slices: `list`. It makes the areas, and calls the annotation on them;
 // the crate line_writers writes the lines.
 #![tactic(auto)]
+
 ghost use Rattle.std.specs.Prelude.{◌≡◌, [], ◌∷◌, ◌*◌, length, take, replicate};
 ghost use Rattle.records.specs.Widths.{item_width, group_width};
 ghost use Rattle.base.specs.Lists.{written};

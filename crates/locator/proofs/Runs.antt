@@ -8,7 +8,7 @@ use mathlib.Core.Bool.{Bool, true, false, ◌&&◌, ◌||◌, not, true≢false}
 use lib.Dec.{eqb, leb, ltb}
 use borrow.Author.Tests.{lt-leb, leb-true, eqb-true, eqb-false, ltb-true, ltb-false}
 use Rattle.base.specs.First.{first}
-use Rattle.base.specs.Lists.{byte_at, within}
+use Rattle.base.specs.Lists.{byte_at}
 use Rattle.base.proofs.Bools.{and_right}
 use Rattle.base.proofs.Searches.{first_from, first_by, first_holds, first_before, first_fails}
 use Rattle.locator.specs.Locators.{is_digit, is_letter, is_roman, is_digit_or_mark, letters_end, roman_end, in_value, value_run}

@@ -1,5 +1,6 @@
 // Numbers, uses and labels, over item and group records.
 #![tactic(auto)]
+
 pub mod numbers;
 
 ghost use Rattle.std.specs.Prelude.{◌≡◌, true, ◌≤◌};

@@ -1,5 +1,6 @@
 // Reference order: the numbers of the sources, in mode 1 by the bytes of their authors or keys.
 #![tactic(auto)]
+
 pub mod ranks;
 
 ghost use Rattle.std.specs.Prelude.{◌≡◌, true, [], map, ◌-◌, ◌<◌, ◌≤◌, length, take};

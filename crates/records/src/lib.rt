@@ -1,5 +1,6 @@
 // Item and group records as they lie in the lent areas. Any numbers may stand there: what is past the end of an area counts as 0.
 #![tactic(auto)]
+
 pub mod item_records;
 
 ghost use Rattle.std.specs.Prelude.{◌≡◌, ◌+◌, ◌<◌, get_or, set};

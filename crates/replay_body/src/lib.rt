@@ -1,6 +1,7 @@
 // What the kinds of the replay share: a record's body, the lent areas, and a session of calls on one text.
 // docs/DIFFERENCES.md says how a body is laid out.
 #![tactic(auto)]
+
 pub mod annotation_part;
 pub mod areas;
 pub mod body;

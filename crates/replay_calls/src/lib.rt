@@ -1,6 +1,7 @@
 // The kinds of the calls that take one request and keep nothing: locator and source text.
 // Whether the proved call gives the stored answer; docs/DIFFERENCES.md has the body of each kind.
 #![tactic(auto)]
+
 pub mod annotations;
 pub mod leaves;
 pub mod look_ups;

@@ -1,6 +1,7 @@
 // Which byte closes a bracket, with an index and a note, whatever they hold, and the group that it then gives (`match_citation`).
 // Where only an index can tell, the look asks for a build, and the close is read after it.
 #![tactic(auto)]
+
 ghost use Rattle.std.specs.Prelude.{◌≡◌, ◌<◌, length};
 ghost use Rattle.resolve.specs.Groups.{barred, judge};
 ghost use Rattle.resolve.specs.Resolve.{stored_close, settled, shortened, look_of, close_after};

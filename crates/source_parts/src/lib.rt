@@ -1,5 +1,6 @@
 // The parts of a source's text: a part of the pool, a name, the year in parentheses.
 #![tactic(auto)]
+
 ghost use Rattle.std.specs.Prelude.{◌≡◌, [], ◌∷◌, ◌++◌, ◌+◌, ◌≤◌, length};
 ghost use Rattle.std.proofs.Math.Option.{get_or};
 ghost use Rattle.base.specs.Lists.{part, written};

@@ -1,5 +1,6 @@
 // The text of a source: names, year and title of an entry of the pool.
 #![tactic(auto)]
+
 ghost use Rattle.std.specs.Prelude.{◌≡◌, [], ◌∷◌, ◌+◌, ◌≤◌, ◌<◌, length, take};
 ghost use Rattle.std.proofs.Math.Option.{get_or};
 ghost use Rattle.base.specs.Lists.{byte_at, written};

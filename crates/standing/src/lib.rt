@@ -1,6 +1,7 @@
 // Where a group of the sweep stands: whether it is in a definition line,
 // and the standing that the sweep gives it.
 #![tactic(auto)]
+
 ghost use Rattle.std.specs.Prelude.{◌≡◌};
 ghost use Rattle.base.specs.Pick.{pick};
 ghost use Rattle.item.specs.Pieces.{items_of};

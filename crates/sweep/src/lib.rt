@@ -1,5 +1,6 @@
 // The sweep: left to right, each unescaped `[`; the records of the groups found.
 #![tactic(auto)]
+
 pub mod group_records;
 
 ghost use Rattle.std.specs.Prelude.{◌≡◌, ◌≤◌, ◌<◌, length};

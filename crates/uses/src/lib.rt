@@ -1,5 +1,6 @@
 // The number and the use of an item record, by the last one before it with the same key.
 #![tactic(auto)]
+
 ghost use Rattle.std.specs.Prelude.{◌≡◌, ◌+◌, ◌%◌, ◌<◌};
 ghost use Rattle.base.specs.Pick.{pick};
 ghost use Rattle.uses.specs.Uses.{used_at, last_use, alike_at, last_alike, set_last};

@@ -1,6 +1,7 @@
 // UTF-8: which texts are well-formed, and what refuses a text by itself: its length, or that it is not UTF-8.
 // A run of ASCII is gone over 64 bytes at a time.
 #![tactic(auto)]
+
 ghost use Rattle.std.specs.Prelude.{◌≡◌, ◌+◌, ◌≤◌, ◌<◌, length};
 ghost use Rattle.base.specs.Pick.{pick};
 ghost use Rattle.utf8.specs.Facts.{EncodedIsUtf8, Utf8IsEncoded, DecodedIsBack};

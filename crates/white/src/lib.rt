@@ -1,6 +1,7 @@
 // White space: the 25 White_Space characters of Unicode, as UTF-8.
 // A byte is white where it is the first, the second or the third byte of one.
 #![tactic(auto)]
+
 ghost use Rattle.std.specs.Prelude.{◌≡◌, ◌-◌, ◌<◌, length};
 ghost use Rattle.white.specs.Facts.{WhiteSpaces25, WhiteHasWidth, WidthIsWhite, BytesAreWhite, WhiteIsByte};
 ghost use Rattle.white.specs.White.{white_one, white_two, white_three, space_width, is_white};

@@ -39,10 +39,16 @@ module _ (s : List ℕ) (mode : ℕ) (pool : List ℕ) (note : ℕ) (index items
       done = last.gives index records (length records) items groups prepared refl after
 
       promised : AnnotatePromise s mode pool note index records (areas items groups references labels) r index₃ records₂ (areas items₃ groups₃ references₃ labels₃)
-      promised =
-          (done.values, kept ∙ after ∙ sym (ran_index s mode pool note index items groups records references labels p items₁ groups₁ prepared),
-          stored ∙ sym (ran_records s mode pool note index items groups records references labels p items₁ groups₁ prepared), done.item_area, done.group_area,
-          done.reference_area, done.label_area, done.answer)
+      promised = (
+        done.values,
+        kept ∙ after ∙ sym (ran_index s mode pool note index items groups records references labels p items₁ groups₁ prepared),
+        stored ∙ sym (ran_records s mode pool note index items groups records references labels p items₁ groups₁ prepared),
+        done.item_area,
+        done.group_area,
+        done.reference_area,
+        done.label_area,
+        done.answer,
+      )
 
 pub build_when-requires : goal.build_when-requires
 build_when-requires c = enough _ _ _ _ _ _ _ _ _ _ _ c.count-n.ensures.0 c.prepare-p.ensures.0 c.wants_build-w.ensures c.prepare-p.ensures.1 c.count-n.ensures.1

@@ -39,12 +39,13 @@ module _ (s : List ℕ) (at note : ℕ) (index : List ℕ) (records : List Brack
     answered = answer ∙ ap (λ (q : Prepared). finished_of s at note q index₂ items) prepared
 
     promised : LookUpPromise s at note index records items r index₃ records₂ items₃
-    promised =
-        (rw answered (finished_values s at note index records items wanted after),
-        kept ∙ ran_index s at note index records items wanted after,
-        ran_records s at note index records items wanted after stored,
-        area ∙ ap (λ (q : Prepared). finished_items s at q index₂ items) prepared ∙ finished_items_lem s at note index records items wanted after,
-        answered ∙ finished_answer s at note index records items wanted after)
+    promised = (
+      rw answered (finished_values s at note index records items wanted after),
+      kept ∙ ran_index s at note index records items wanted after,
+      ran_records s at note index records items wanted after stored,
+      area ∙ ap (λ (q : Prepared). finished_items s at q index₂ items) prepared ∙ finished_items_lem s at note index records items wanted after,
+      answered ∙ finished_answer s at note index records items wanted after,
+    )
 
 pub build_when-requires : goal.build_when-requires
 build_when-requires c =

@@ -1,7 +1,7 @@
 -- `key::without_marks` meets its contract. The loop's invariant: the stretch up to `e` ends, without its marks, where the whole one does. The
 -- measure is how far `e` is from the start. Assumes nothing.
 use Prim.Native.Nat.{◌≤◌, ◌-◌}
-use mathlib.Core.Path.{◌≡◌, refl}
+use mathlib.Core.Path.{◌≡◌}
 use lib.ListN.{length}
 use borrow.Author.Rules.{rules}
 use Rattle.key.specs.Keys.{without_marks}

@@ -15,7 +15,8 @@ write_entry-requires c = rw (turned c.args.text.now c.args.c c.args.records.now 
 pub returns : goal.returns
 unfolding step_records
 returns c =
-    let t = turned c.args.text.now c.args.c c.args.records.now c.decide-p.ensures c.record_at-outer.ensures.0 c.below.ensures in
-    (ap (λ (p : Plan). p.next) t,
-    c.write_entry.ensures ∙ ap (λ (p : Plan). step_index p c.args.index.now) t,
-    c.store.ensures ∙ rw c.record_at-outer.ensures.1 (ap (λ (p : Plan). step_records p c.args.records.now) t))
+    let t = turned c.args.text.now c.args.c c.args.records.now c.decide-p.ensures c.record_at-outer.ensures.0 c.below.ensures in (
+      ap (λ (p : Plan). p.next) t,
+      c.write_entry.ensures ∙ ap (λ (p : Plan). step_index p c.args.index.now) t,
+      c.store.ensures ∙ rw c.record_at-outer.ensures.1 (ap (λ (p : Plan). step_records p c.args.records.now) t),
+    )

@@ -14,9 +14,16 @@ returns-then-standing-eq0-clause-advances c =
     group_line _ _ _ _ _ _ _ _ _ c.requires.4 (ap not c.if-not-fits.false) c.group_field-standing.ensures.0 c.if-standing-eq0.true
 
 pub cite_from-requires : goal.cite_from-requires
-cite_from-requires c =
-    (c.requires.0, c.requires.1, c.group_field-k.ensures.1, c.group_field-c.ensures.1, c.requires.3, c.requires.4,
-    lines_stood _ _ _ c.requires.5 _ _ c.put.ensures, labelled_stood _ _ _ _ _ c.requires.6 _ _ c.put.ensures)
+cite_from-requires c = (
+  c.requires.0,
+  c.requires.1,
+  c.group_field-k.ensures.1,
+  c.group_field-c.ensures.1,
+  c.requires.3,
+  c.requires.4,
+  lines_stood _ _ _ c.requires.5 _ _ c.put.ensures,
+  labelled_stood _ _ _ _ _ c.requires.6 _ _ c.put.ensures,
+)
 
 pub returns-then-all_defined-clause-advances : goal.returns-then-all_defined-clause-advances
 returns-then-all_defined-clause-advances c =

@@ -1,3 +1,0 @@
-pub mod Local
-pub mod LongLocal
-pub mod Records
