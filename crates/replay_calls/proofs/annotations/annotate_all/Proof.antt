@@ -6,10 +6,10 @@ use mathlib.Core.Path.{◌≡◌}
 use Rattle.replay_calls.proofs.annotations.annotate_all.Statement.{statement}
 use Rattle.replay_calls.proofs.annotations.annotate_all.Tie as tie
 
-abbrev invariant-loop : tie.invariant-loop
+abbrev invariant-loop : tie.invariant-loop-left
 invariant-loop body index₀ items₀ groups₀ references₀ labels₀ s₀ left₀ index items groups references labels s left = (length index ≡ length index₀) × (length items ≡ length items₀) × (length groups ≡ length groups₀) × (length references ≡ length references₀) × (length labels ≡ length labels₀)
 
-abbrev decreases-loop : tie.decreases-loop
+abbrev decreases-loop : tie.decreases-loop-left
 decreases-loop body index₀ items₀ groups₀ references₀ labels₀ s₀ left₀ index items groups references labels s left = left
 
 pub annotate_all_spec : {M : Type 1} → statement M

@@ -6,10 +6,10 @@ use mathlib.Core.Path.{◌≡◌}
 use Rattle.replay_calls.proofs.look_ups.look_up_all.Statement.{statement}
 use Rattle.replay_calls.proofs.look_ups.look_up_all.Tie as tie
 
-abbrev invariant-loop : tie.invariant-loop
+abbrev invariant-loop : tie.invariant-loop-left
 invariant-loop body index₀ items₀ s₀ left₀ index items s left = (length index ≡ length index₀) × (length items ≡ length items₀)
 
-abbrev decreases-loop : tie.decreases-loop
+abbrev decreases-loop : tie.decreases-loop-left
 decreases-loop body index₀ items₀ s₀ left₀ index items s left = left
 
 pub look_up_all_spec : {M : Type 1} → statement M
