@@ -1,5 +1,5 @@
 -- Plain facts of the loop of `bracket_pairs`: what holds at its head, at the start, after a turn, and where the loop is left.
-use Rattle.std.proofs.Common.{ℕ, ◌-◌, ◌<◌, ◌≤◌, ◌≡◌, refl, ◌∙◌, ap, List, true, false, length, get_or, arith}
+use Rattle.std.proofs.Common.{ℕ, ◌-◌, ◌<◌, ◌≡◌, refl, ◌∙◌, ap, List, true, false, length, get_or, arith}
 use borrow.Author.Tests.{ltb-true, ltb-false}
 use Rattle.index.specs.declared.Bracket.{Bracket}
 use Rattle.index.specs.declared.Plan.{Plan}

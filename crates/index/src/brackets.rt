@@ -1,5 +1,5 @@
 // The build of the index: what it reads and stores of the lent bracket records, one turn of the scan, and the loop.
-// The borrow checker does not cover a slice of structs, so each function over one only makes calls, and is proved by a walk of its MIR.
+// No other function reads or writes the slice of records.
 ghost use Rattle.std.specs.Prelude.{◌-◌, ◌<◌, ◌≤◌, length, set, get_or, true, ◌≡◌};
 ghost use Rattle.index.specs.Built.{blank};
 ghost use Rattle.index.specs.Building.{built, built_when, Enough};

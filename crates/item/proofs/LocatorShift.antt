@@ -17,7 +17,7 @@ use Rattle.base.proofs.Lasts.{last_end_shift}
 use Rattle.locator.specs.declared.Label.{Label}
 use Rattle.locator.specs.declared.Locator.TheVariants.{Nothing, Plain}
 use Rattle.locator.specs.Matchers.{Matcher, matchers, no_code, code_page}
-use Rattle.locator.specs.Locators.{is_blank, is_digit, skip_blanks, lower, fits, is_sign, may_follow, label, stands, match_in, or_page, label_of, is_letter, is_roman, is_digit_or_mark, letters_end, roman_end, in_value, value_run, is_loose, value_end, valued, labelled, locator_from, locator_of}
+use Rattle.locator.specs.Locators.{is_blank, is_digit, skip_blanks, lower, fits, is_sign, may_follow, label, stands, match_in, or_page, label_of, is_letter, is_roman, letters_end, roman_end, in_value, value_run, is_loose, value_end, valued, labelled, locator_from, locator_of}
 use Rattle.item.specs.Moved.{moved_span, moved_locator}
 
 -- tests and searches ---------------------------------------------------------------------------------------------------------------------

@@ -1,5 +1,5 @@
-// The two public calls that are lent bracket records, with the records in a local array, as many as any text needs: whoever calls these needs
-// no walk of its MIR. What they promise is what `calls` promises; the records end with the call, as the run leaves them.
+// The two public calls that are lent bracket records, with the records in a local array, as many as any text needs.
+// What they promise is what `calls` promises; the records end with the call, as the run leaves them.
 #![tactic(auto)]
 
 ghost use Rattle.std.specs.Prelude.{replicate};

@@ -23,7 +23,7 @@ use Rattle.lookup.specs.declared.Prepared.TheVariants.{Refused as NotReady, Read
 use Rattle.resolve.specs.Groups.{GroupAnswer, Found, NoGroup, judge}
 use Rattle.item.specs.Group.{group_of}
 use Rattle.records.specs.ItemRecords.{records_of, records_length}
-use Rattle.resolve.specs.Resolve.{look_of, is_build, close_after, close_as_run, wants_build, group_as_run, note_after, index_after, records_after}
+use Rattle.resolve.specs.Resolve.{look_of, is_build, close_after, wants_build, group_as_run, note_after, index_after, records_after}
 use Rattle.resolve.specs.Looks.{matched, Inside}
 use Rattle.lookup.specs.Refusals.{look_up_refusal}
 use Rattle.lookup.specs.LookUps.{LookedUp, look_up_refused, look_up_gives, look_up_answers, looked_up, look_up_builds, ran_with, look_up_run}

@@ -13,7 +13,7 @@ use Rattle.index.specs.Entries.{opens_at}
 use Rattle.index.specs.Built.{built_index}
 use Rattle.resolve.specs.declared.Look.{Look}
 use Rattle.resolve.specs.declared.Look.TheVariants.{At as LookAt, Nothing as LookNothing, Build}
-use Rattle.resolve.specs.Groups.{GroupAnswer, Found, NoGroup, judge}
+use Rattle.resolve.specs.Groups.{GroupAnswer, NoGroup, judge}
 use Rattle.item.specs.Group.{Group, group_of}
 use Rattle.resolve.specs.Resolve.{stored_close, short_look, settled, shortened, look_of, is_build, close_after, close_as_run, group_as_run, wants_build, note_after, index_after, records_after}
 use Rattle.sweep.specs.Sweep.{Lent, swept, found_groups, next_at, lent_after, found_run, builds_at, sweep_run_in, sweep_run, found_with, wants_at}

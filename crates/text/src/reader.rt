@@ -1,6 +1,5 @@
 // A reader that keeps the text and a position: what stands there, and where the white space from there ends.
-// The borrow checker does not cover a struct that holds a reference, so each function here is one call of a covered function over the slice, and is
-// proved by a walk of its MIR. Callers use the functions of the crate's root, which take the text and a place.
+// Each function here is one call over the slice. Callers use the functions of the crate's root, which take the text and a place.
 ghost use Rattle.std.specs.Prelude.{◌≡◌, ◌≤◌, length};
 ghost use Rattle.text.specs.Escape.{escaped_at};
 ghost use Rattle.text.specs.Trim.{trim_start, trim_end};

@@ -3,7 +3,6 @@ use Prim.Native.Nat.{ℕ, suc, ◌+◌, ◌*◌, ◌≤◌, ◌<◌}
 use native.Mathlib.Omega.{arith}
 use mathlib.Core.Path.{◌≡◌, ◌∙◌, ap}
 use mathlib.Core.List.{List, [], ◌∷◌, ◌++◌}
-use mathlib.Core.Bool.{Bool}
 use lib.ListN.{length, get_or, set, length-set}
 use lib.Seq.{get_or-append-add, get_or-set_same, get_or-set_other}
 use Rattle.base.specs.declared.Span.{Span}

@@ -1,5 +1,5 @@
 -- `exports::citations_annotate`: the call where the answer has room, and else nothing.
-use Rattle.std.proofs.Common.{ℕ, ◌≡◌, ◌∙◌, ap, refl, sym, List, ◌<◌, length, arith}
+use Rattle.std.proofs.Common.{◌∙◌, ap, sym, arith}
 use borrow.Author.Tests.{leb-true}
 use Rattle.base.specs.Lists.{written}
 use Rattle.annotation.specs.Content.{areas}

@@ -1,8 +1,7 @@
 -- `exports::citations_look_up`: the call where the answer has room, and else nothing.
-use Rattle.std.proofs.Common.{ℕ, ◌≡◌, ◌∙◌, ap, refl, sym, List, ◌<◌, length, arith}
+use Rattle.std.proofs.Common.{◌∙◌, ap, sym, arith}
 use borrow.Author.Tests.{leb-true}
 use Rattle.base.specs.Lists.{written}
-use Rattle.lookup.specs.declared.LookUp.{LookUp}
 use Rattle.lookup.specs.Values.{look_up_values}
 use Rattle.exports.specs.Areas.{LookUpAreas}
 use Rattle.exports.proofs.Laws.{look_up_fit, look_up_left_lem, look_up_kept}

@@ -1,5 +1,5 @@
 -- `order::insert_definition` meets its contract. Assumes nothing.
-use Rattle.std.proofs.Common.{rules, arith}
+use Rattle.std.proofs.Common.{arith}
 use Rattle.order.proofs.OrderLaws.{place_within, insert_written}
 use Rattle.order.proofs.Sorting.{rises_here}
 use Rattle.order.proofs.insert_definition.Goals as goal

@@ -1,9 +1,6 @@
 use Prim.Native.Nat.{◌-◌, ◌≤◌}
-use native.Mathlib.Omega.{arith}
 use Rattle.base.specs.First.{first}
 use Rattle.order.specs.Ordered.{rank_by, greater_at}
-use borrow.Author.Rules.{rules}
-use Rattle.order.proofs.Sorting.{half_below, half_above, half_laws}
 use Rattle.order.proofs.place_of.Given as goal
 
 abbrev pub invariant-loop-low : goal.invariant-loop-low

@@ -1,5 +1,4 @@
 -- `source::write_bytes`: the front of the area is the bytes.
-use Rattle.std.proofs.Common.{rules}
 use Rattle.base.specs.Lists.{written}
 use Rattle.source.proofs.write_bytes.Goals as goal
 

@@ -1,7 +1,7 @@
 -- `source_text::add_title` meets its contract. Assumes nothing.
 use borrow.Author.Rules.{rules}
-use Rattle.source_text.proofs.TextLaws.{add_title_laws, title_long, title_room}
-use Rattle.source_text.proofs.WriteLaws.{stage_laws, stage_room}
+use Rattle.source_text.proofs.TextLaws.{add_title_laws}
+use Rattle.source_text.proofs.WriteLaws.{stage_laws}
 use Rattle.pool.proofs.ReaderLaws.{fields_of_entry}
 use Rattle.source_text.proofs.add_title.Goals as goal
 

@@ -1,5 +1,5 @@
 -- `annotation::after_sweep::number_and_order` meets its contract. Assumes nothing.
-use Rattle.annotation.proofs.OrderLaws.{sources_few, sources_are, order_laws}
+use Rattle.annotation.proofs.OrderLaws.{order_laws}
 use borrow.Author.Rules.{rules}
 use Rattle.annotation.proofs.after_sweep.number_and_order.Goals as goal
 

@@ -1,5 +1,5 @@
 -- `annotation::completion::finish` meets its contract. What `number_and_order` requires follows from what the first half left, from the second sweep and
-use Rattle.annotation.proofs.FinishLaws.{goes_layout, groups_short, items_short, numbers_none, numbers_known, finish_laws}
+use Rattle.annotation.proofs.FinishLaws.{finish_laws}
 use borrow.Author.Rules.{rules}
 use Rattle.annotation.proofs.completion.finish.Goals as goal
 

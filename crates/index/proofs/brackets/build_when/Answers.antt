@@ -1,6 +1,5 @@
 -- `brackets::build_when`: the build where it is wanted, else nothing.
-use Rattle.std.proofs.Common.{◌≡◌, ◌∙◌, refl}
-use Rattle.index.specs.Building.{built_when}
+use Rattle.std.proofs.Common.{◌∙◌, refl}
 use Rattle.index.specs.Built.{index_after, records_after}
 use Rattle.index.proofs.brackets.build_when.Goals as goal
 

@@ -1,5 +1,5 @@
 -- `brackets::clear`: the records before `i` are zeros.
-use Rattle.std.proofs.Common.{length, ◌<◌, arith}
+use Rattle.std.proofs.Common.{arith}
 use Rattle.index.proofs.Clearing.{clear_start, clear_next, clear_end}
 use Rattle.index.proofs.brackets.clear.Goals as goal
 

@@ -1,7 +1,6 @@
 -- `brackets::step`: what it decides is the turn over the lent records.
-use Rattle.std.proofs.Common.{◌≡◌, ◌∙◌, ap, length, ◌<◌, set, refl}
+use Rattle.std.proofs.Common.{◌∙◌, ap}
 use Rattle.index.specs.declared.Plan.{Plan}
-use Rattle.index.specs.Passing.{turn_at}
 use Rattle.index.specs.Scan.{step_index, step_records}
 use Rattle.index.proofs.Stepping.{turned}
 use Rattle.index.proofs.brackets.step.Goals as goal

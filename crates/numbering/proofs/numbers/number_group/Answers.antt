@@ -1,5 +1,5 @@
 -- `numbering::numbers::number_group`: no room before it, a group in a definition line, one numbered, one with a key that is not defined.
-use Rattle.std.proofs.Common.{rules, arith, ap}
+use Rattle.std.proofs.Common.{rules, ap}
 use mathlib.Core.Bool.{not}
 use Rattle.numbering.proofs.CiteLaws.{lines_stood}
 use Rattle.numbering.proofs.LabelledLaws.{labelled_stood}
@@ -28,7 +28,7 @@ cite_from-requires c = (
 pub returns-then-all_defined-clause-advances : goal.returns-then-all_defined-clause-advances
 returns-then-all_defined-clause-advances c =
     group_numbered _ _ _ _ _ _ _ _ _ c.requires.4 (ap not c.if-not-fits.false) c.group_field-k.ensures.0 c.group_field-c.ensures.0 c.all_defined.ensures
-    c.group_field-standing.ensures.0 c.if-standing-eq0.false c.put.ensures c.if-all_defined.true c.group_field-c.ensures.1 c.cite_from.ensures.advances
+    c.group_field-standing.ensures.0 (search rules) c.put.ensures c.if-all_defined.true c.group_field-c.ensures.1 c.cite_from.ensures.advances
 
 pub returns-else-all_defined-clause-advances : goal.returns-else-all_defined-clause-advances
 returns-else-all_defined-clause-advances c =

@@ -1,6 +1,6 @@
 -- `numbering::numbers::write_label_of` meets its contract. Assumes nothing.
 use borrow.Author.Rules.{rules}
-use Rattle.numbering.proofs.LabelLaws.{copy_inside, copy_laws}
+use Rattle.numbering.proofs.LabelLaws.{copy_laws}
 use Rattle.numbering.proofs.numbers.write_label_of.Goals as goal
 
 pub returns-clause-area : goal.returns-clause-area
