@@ -83,18 +83,6 @@ class SpecFile:
             current.lines.append(line)
 
 
-def cases_of(crate):
-    """The names of the cases that stand in the crate's proofs: of files that proofs/Lib.antt names and that begin as a file of cases does."""
-    names = set()
-    for path in glob.glob(f'crates/{crate}/proofs/*.antt'):
-        text = open(path, encoding='utf-8').read()
-        own = os.path.basename(path)[:-len('.antt')]
-        if not re.match(r'-- Cases: .+', text) or not re.search(rf'(?m)^(?:pub )?mod {own}$', open(f'crates/{crate}/proofs/Lib.antt', encoding='utf-8').read()):
-            continue
-        names |= set(re.findall(rf'(?m)^{MODIFIERS}(\S+)(?:\s+\{{[^}}]*\}})?\s*:(?:\s|$)', text))
-    return names
-
-
 files = {}
 for path in sorted(glob.glob('crates/*/specs/**/*.antt', recursive=True)):
     crate, rest = re.match(r'crates/(\w+)/specs/(.*)\.antt', path).groups()

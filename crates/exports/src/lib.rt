@@ -1,5 +1,5 @@
-// The public calls for C and Rust, under the names of include/citations.h. A slice is a pointer and a length in elements.
-// `answer` gets the number (0 accepted), then the values in the paper's order; a call with a shorter one does nothing.
+// The public calls as C and Rust see them, under the names of include/citations.h; the crate `exports_c` exports them.
+// A slice is a pointer and a length in elements. `answer` gets the number (0 accepted), then the values in the paper's order; a call with a shorter one does nothing.
 #![tactic(auto)]
 
 ghost use Rattle.std.specs.Prelude.{◌≡◌};
@@ -92,8 +92,8 @@ pub fn citations_source_text(pool: &[u8], entry: usize, area: &mut [u8], answer:
     }
 }
 
-// CITATIONS_VERSION of include/citations.h. What is compiled against that header refers to this name, so it links with no archive of another
-// version. The number stands in the name too, and both are raised together.
+// CITATIONS_VERSION of include/citations.h. What is compiled against that header refers to this name, which `exports_c` exports, so it links with
+// no archive of another version. The number stands in the name too, and both are raised together.
 pub fn citations_version_2() -> u32
     ensures { result ≡ 2 }
 {

@@ -53,7 +53,7 @@ pub record AnnotationFinds (text : List ℕ) (mode : ℕ) (pool : List ℕ) (n m
       → answer ≡ annotate_refused 10 (zero_filled areas)
   pub found_only : answer.number ≡ 0 → answer ≡ annotate_gives (sweep_of text) (said text mode pool) areas
 
--- look_ups and annotations as run, with this index, this note and these bracket records, find the groups that the rules admit
+-- look-ups and annotations as run, with this index, this note and these bracket records, find the groups that the rules admit
 pub record CallsFind (text index : List ℕ) (note : ℕ) (records : List Bracket) : Type 0 where
   pub look_ups : (at : ℕ) (items : List ℕ)
       → LookUpFinds text at (length index) (length records) items (look_up_run text at note index records items).answer

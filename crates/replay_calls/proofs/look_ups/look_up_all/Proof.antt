@@ -1,4 +1,4 @@
--- `replay_calls::look_ups::look_up_all` is safe and ends: the measure is the number of look_ups that are left.
+-- `replay_calls::look_ups::look_up_all` is safe and ends: the measure is the number of look-ups that are left.
 -- Assumes nothing.
 use borrow.Author.Rules.{rules}
 use lib.ListN.{length}
