@@ -153,9 +153,9 @@ FUNCTION = re.compile(r'^(pub )?(?:unsafe )?(?:extern "C" )?fn (\w+)(.*?)^(\{\}$
 
 
 def headers(path):
-    """The parameters and the clauses of each function of a file, by its name."""
+    """The parameters and the clauses of each function of a file, by its name, whatever their layout."""
     text = re.sub(r'//.*', '', open(path, encoding='utf-8').read())
-    return {m.group(2): ' '.join(m.group(3).split()) for m in FUNCTION.finditer(text)}
+    return {m.group(2): re.sub(r',?\s+\)', ')', re.sub(r'\(\s+', '(', ' '.join(m.group(3).split()))) for m in FUNCTION.finditer(text)}
 
 
 def contracts(path):
