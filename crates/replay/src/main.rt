@@ -2,9 +2,7 @@
 // docs/DIFFERENCES.md says how the list was made and how it is laid out.
 #![tactic(auto)]
 
-ghost use Rattle.std.specs.Prelude.{◌≡◌, ◌<◌, ◌≤◌, IfOk, length, take};
-ghost use Rattle.std.specs.Io.{ReadsAtMost};
-ghost use Rattle.std.specs.Io.KnownBytes.{Consumes, IsAtEnd};
+ghost use Rattle.std.specs.Prelude.{◌≡◌, ◌<◌, ◌≤◌, length};
 
 use std::fs::File;
 use std::io;
@@ -138,27 +136,10 @@ fn block() -> [u8; 1048576]
     [0; 1048576]
 }
 
-// Reads until `buf` is full or the input ends, and returns how many bytes it put at the front of `buf`.
-fn read_full<R: Read>(reader: &mut R, buf: &mut [u8]) -> io::Result<usize>
-    ensures bound { ReadsAtMost result buf.new }
-    ensures bytes { IfOk result (λ n. Consumes (R.remaining reader.old) (R.remaining reader.new) (take n buf.new)) }
-    ensures end { IfOk result (λ n. n < length buf.new → IsAtEnd (R.remaining reader.new)) }
-{
-    let mut done = 0;
-    while done < buf.len() {
-        let n = reader.read(&mut buf[done..])?;
-        if n == 0 {
-            break;
-        }
-        done += n;
-    }
-    Ok(done)
-}
-
 // The tally with the next block of the list.
 fn replay_some<R: Read>(t: Tally, kind: u8, list: &mut R) -> io::Result<Step> {
     let mut buf = block();
-    let n = read_full(list, &mut buf)?;
+    let n = reading::read_full(list, &mut buf)?;
     let tally = replay_block(t, kind, &buf[..n]);
     Ok(Step {
         tally: tally,

@@ -1,7 +1,7 @@
--- `replay::read_full` ends since each turn fills more of the buffer, and what it filled is what it consumed.
+-- `reading::read_full` ends since each turn fills more of the buffer, and what it filled is what it consumed.
 use Rattle.std.proofs.Common.{length, ◌-◌, ◌≡◌, ◌≤◌, take}
 use Rattle.std.specs.Io.KnownBytes.{Consumes}
-use Rattle.replay.proofs.read_full.Given as goal
+use Rattle.reading.proofs.read_full.Given as goal
 
 abbrev pub invariant-loop-done : goal.invariant-loop-done
 invariant-loop-done g l = (length l.buf ≡ length l.initial.buf) × (l.done ≤ length l.buf) × Consumes (g.R.Read.remaining l.initial.reader) (g.R.Read.remaining l.reader) (take l.done l.buf)
