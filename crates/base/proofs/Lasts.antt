@@ -2,7 +2,7 @@
 use Prim.Native.Nat.{ℕ, zero, suc, ◌+◌, ◌-◌, ◌≤◌, ◌<◌}
 use native.Mathlib.Omega.{arith}
 use native.Mathlib.Numerals.{add-one}
-use mathlib.Core.Path.{◌≡◌, refl, sym, ◌∙◌, ap}
+use mathlib.Core.Path.{◌≡◌, refl, sym, ◌∙◌, ap, subst}
 use mathlib.Core.Bool.{Bool, true, false, true≢false}
 use lib.Dec.{ltb}
 use borrow.Author.Tests.{lt-ltb, le-ltb}
@@ -191,3 +191,35 @@ module _ (f : ℕ → Bool) (a i d : ℕ) {w : ℕ} (p : w ≡ last_end f (i - a
 
   pub last_end_more : a < i → f (i - 1) ≡ false → w ≡ last_end f (i - 1 - a) a d
   last_end_more h t = p ∙ last_end_is h ∙ rw t
+
+-- a search from the end at a place: it ends there, it goes on, and it has no place left
+module _ (p : ℕ → Bool) (a i : ℕ) where
+  pub end_now : a < i → p (i - 1) ≡ true → last_end p (i - a) a a ≡ i - 1 + 1
+  unfolding last_end
+  end_now l h =
+      let k : i - a ≡ suc (i - 1 - a) = omega arith in
+      let m : a + (i - 1 - a) ≡ i - 1 = omega arith in
+      rw (k, m, h) omega arith
+
+  pub end_next : a < i → p (i - 1) ≡ false → last_end p (i - a) a a ≡ last_end p (i - 1 - a) a a
+  unfolding last_end
+  end_next l h =
+      let k : i - a ≡ suc (i - 1 - a) = omega arith in
+      let m : a + (i - 1 - a) ≡ i - 1 = omega arith in
+      rw (k, m, h) refl
+
+  pub end_none : i ≤ a → last_end p (i - a) a a ≡ a
+  unfolding last_end
+  end_none l = let k : i - a ≡ zero = omega arith in rw k refl
+
+  pub last_now : 0 < i → p (i - 1) ≡ true → (d : ℕ) → last p i d ≡ i - 1
+  unfolding last
+  last_now l h d = let k : i ≡ suc (i - 1) = omega arith in subst (λ (z : ℕ). last p z d ≡ i - 1) (sym k) (rw h refl)
+
+  pub last_next : 0 < i → p (i - 1) ≡ false → (d : ℕ) → last p i d ≡ last p (i - 1) d
+  unfolding last
+  last_next l h d = let k : i ≡ suc (i - 1) = omega arith in subst (λ (z : ℕ). last p z d ≡ last p (i - 1) d) (sym k) (rw h refl)
+
+  pub last_none : i ≤ 0 → (d : ℕ) → last p i d ≡ d
+  unfolding last
+  last_none l d = let k : i ≡ zero = omega arith in subst (λ (z : ℕ). last p z d ≡ d) (sym k) refl

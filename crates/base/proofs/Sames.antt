@@ -8,6 +8,7 @@ use mathlib.Core.Bool.{Bool, true, false, ◌&&◌, true≢false}
 use lib.ListN.{length, drop, drop_of_length-le}
 use lib.Seq.{drop-cons}
 use lib.Dec.{eqb}
+use lib.Pointwise.{pointwise}
 use borrow.Author.Tests.{eq-eqb, ne_eqb, eqb-true}
 use Rattle.base.specs.Lists.{byte_at, same}
 use Rattle.base.proofs.Bools.{and_left, and_right}
@@ -57,3 +58,11 @@ module _ (a b : List ℕ) (i : ℕ) {w : Bool} (p : w ≡ same (drop i a) (drop 
   same_next h l q = p ∙ rw (add-one, drop-cons a i 0 h, drop-cons b i 0 (omega arith), eq-eqb _ _ q)
 
 pub ruleset same_laws = (same_len, same_end, same_not, same_next)
+
+-- the library's comparison of two slices
+pub same_pointwise : (a b : List ℕ) → pointwise eqb a b ≡ same a b
+unfolding same
+same_pointwise [] [] = refl
+same_pointwise [] (y ∷ ys) = refl
+same_pointwise (x ∷ xs) [] = refl
+same_pointwise (x ∷ xs) (y ∷ ys) = ap (λ t. eqb x y && t) (same_pointwise xs ys)
