@@ -1,0 +1,9 @@
+-- Document 01, Annotation: the number of each mode.
+use Rattle.std.specs.Prelude.{ℕ}
+use Rattle.base.specs.declared.mode.Mode.{Mode}
+use Rattle.base.specs.declared.mode.Mode.TheVariants.{Number, AuthorYear}
+
+-- mode 0: by number; mode 1: by author and year
+abbrev pub mode_number : Mode → ℕ
+mode_number Number = 0
+mode_number AuthorYear = 1

@@ -1,0 +1,41 @@
+// How labels are written and sources are ordered: by number, or by author and year.
+ghost use Rattle.std.specs.Prelude.{◌≡◌, MatchResult, ◌<◌};
+ghost use Rattle.base.specs.Modes.{mode_number};
+ghost use Rattle.base.specs.declared.refusal.Refusal.TheVariants.{UnknownMode};
+
+use crate::refusal::Refusal;
+
+#[derive(Clone, Copy, PartialEq, Eq)]
+pub enum Mode {
+    // 0: a label is the source's number, and sources stand in the order of their numbers
+    Number,
+    // 1: a label is author and year, and sources stand in the order of their authors
+    AuthorYear,
+}
+
+impl TryFrom<u8> for Mode {
+    type Error = Refusal;
+
+    ghost try_from_gives = { λ n r. MatchResult r (λ mode. mode_number mode ≡ n) (λ e. (e ≡ UnknownMode) × (1 < n)) };
+
+    // The mode with this number.
+    fn try_from(number: u8) -> Result<Mode, Refusal> {
+        match number {
+            0 => Ok(Mode::Number),
+            1 => Ok(Mode::AuthorYear),
+            _ => Err(Refusal::UnknownMode),
+        }
+    }
+}
+
+impl From<Mode> for u8 {
+    ghost from_gives = { λ mode number. number ≡ mode_number mode };
+
+    // The number of a mode.
+    fn from(mode: Mode) -> u8 {
+        match mode {
+            Mode::Number => 0,
+            Mode::AuthorYear => 1,
+        }
+    }
+}
