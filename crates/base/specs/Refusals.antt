@@ -1,5 +1,6 @@
--- Document 01, Refusals: the number of each refusal.
-use Rattle.std.specs.Prelude.{ℕ, Result, Ok, Err}
+-- Document 01, Refusals: the number of each refusal, and the refusal of each number.
+use Rattle.std.specs.Prelude.{ℕ, Result, Ok, Err, eqb}
+use Rattle.base.specs.Pick.{pick}
 use Rattle.base.specs.declared.refusal.Refusal.{Refusal}
 use Rattle.base.specs.declared.refusal.Refusal.TheVariants.{TextTooLong, TextNotUtf8, NoBracket, EscapedBracket, NoGroup, UnknownMode, PoolBroken, NoEntry, IndexTooShort, NoRoom}
 
@@ -20,3 +21,21 @@ number_of NoRoom = 10
 abbrev pub refusal_number : {A : Type 0} → Result A Refusal → ℕ
 refusal_number (Ok x) = 0
 refusal_number (Err e) = number_of e
+
+-- the refusal of a number: 1 to 9, and 10 for any other
+unfoldable pub refusal_of : ℕ → Refusal
+refusal_of n =
+    pick (eqb n 1) TextTooLong
+    (pick (eqb n 2) TextNotUtf8
+    (pick (eqb n 3) NoBracket
+    (pick (eqb n 4) EscapedBracket
+    (pick (eqb n 5) NoGroup
+    (pick (eqb n 6) UnknownMode
+    (pick (eqb n 7) PoolBroken
+    (pick (eqb n 8) NoEntry
+    (pick (eqb n 9) IndexTooShort
+    NoRoom))))))))
+
+-- a call with this number: what it gives where that is 0, else the refusal
+abbrev pub answered : {A : Type 0} → ℕ → A → Result A Refusal
+answered number x = pick (eqb number 0) (Ok x) (Err (refusal_of number))

@@ -1,0 +1,43 @@
+-- The number of a refusal, and the refusal of a number.
+use Prim.Native.Nat.{ℕ}
+use mathlib.Core.Path.{◌≡◌, refl, ◌∙◌}
+use Rattle.std.specs.Prelude.{Result, Ok, Err}
+use Rattle.base.specs.declared.refusal.Refusal.{Refusal}
+use Rattle.base.specs.declared.refusal.Refusal.TheVariants.{TextTooLong, TextNotUtf8, NoBracket, EscapedBracket, NoGroup, UnknownMode, PoolBroken, NoEntry, IndexTooShort, NoRoom}
+use Rattle.base.specs.Refusals.{number_of, refusal_number, refusal_of, answered}
+
+-- the number tells the refusal
+pub refusal_back : (e : Refusal) → refusal_of (number_of e) ≡ e
+unfolding refusal_of
+refusal_back TextTooLong = refl
+refusal_back TextNotUtf8 = refl
+refusal_back NoBracket = refl
+refusal_back EscapedBracket = refl
+refusal_back NoGroup = refl
+refusal_back UnknownMode = refl
+refusal_back PoolBroken = refl
+refusal_back NoEntry = refl
+refusal_back IndexTooShort = refl
+refusal_back NoRoom = refl
+
+-- a refused call with its number is the answer by that number
+pub answered_err : {A : Type 0} (e : Refusal) (x : A) → Err e ≡ answered (number_of e) x
+unfolding refusal_of
+answered_err TextTooLong x = refl
+answered_err TextNotUtf8 x = refl
+answered_err NoBracket x = refl
+answered_err EscapedBracket x = refl
+answered_err NoGroup x = refl
+answered_err UnknownMode x = refl
+answered_err PoolBroken x = refl
+answered_err NoEntry x = refl
+answered_err IndexTooShort x = refl
+answered_err NoRoom x = refl
+
+-- what a check `r` says by its number decides the answer
+module _ {A B : Type 0} {n : ℕ} {r : Result B Refusal} (q : refusal_number r ≡ n) where
+  pub refused_by : {e : Refusal} (x : A) → r ≡ Err e → Err e ≡ answered n x
+  refused_by {e} x h = answered_err e x ∙ rw (← q, h)
+
+  pub accepted_by : {b : B} (x : A) → r ≡ Ok b → Ok x ≡ answered n x
+  accepted_by x h = rw (← q, h)
