@@ -13,7 +13,7 @@ use Rattle.item.specs.Group.{Group}
 use Rattle.records.specs.Widths.{item_width}
 use Rattle.standing.specs.GroupRecords.{Placed, item_count}
 use Rattle.standing.proofs.Swept.{groups_of}
-use Rattle.records.specs.Fields.{item_field}
+use Rattle.records.specs.Fields.{field_at, item_field}
 use Rattle.annotation.specs.Sources.{Source}
 use Rattle.annotation.specs.Content.{Tally, tally, add_item, add_group, placed_of, tally_of}
 use Rattle.annotation.specs.Items.{each_item}
@@ -22,7 +22,7 @@ use Rattle.annotation.specs.Items.{each_item}
 
 -- the records before it stand as they did
 pub cell_front : (rows row : List ℕ) (n k c : ℕ) → length rows ≡ item_width * n → k < n → c < item_width → item_field (rows ++ row) k c ≡ item_field rows k c
-unfolding item_field
+unfolding field_at
 cell_front rows row n k c e h g = get_or-append rows row 0 (item_width * k + c) (omega (arith, e, h, g))
 
 -- and they are as many as the items

@@ -24,8 +24,8 @@ use Rattle.standing.specs.Swept.{swept_from}
 use Rattle.records.specs.Widths.{group_width}
 use Rattle.standing.proofs.Swept.{placed_groups}
 use Rattle.definition.specs.Definitions.{definition_in}
-use Rattle.records.specs.Records.{group_field, key_in, suppressed_in}
-use Rattle.records.specs.Fields.{item_field}
+use Rattle.records.specs.Records.{key_in, suppressed_in}
+use Rattle.records.specs.Fields.{item_field, group_field}
 use Rattle.numbering.specs.Numbers.{Numbered, start, label_in, cite_as, cite_in, cite_from, key_defined, keys_defined, stands_numbered, is_numbered, number_group, number_from, number_all}
 use Rattle.uses.specs.Uses.{number_in, use_in, sources_in}
 use Rattle.uses.proofs.Fields.{item_field_lem, set_last_lem, set_standing, SameItems, SameGroups, set_last_same, set_standing_same, set_last_other}

@@ -12,7 +12,8 @@ use Rattle.base.specs.Lists.{same}
 use Rattle.definition_line.specs.Lines.{starts_line, colon_after}
 use Rattle.definition.specs.Lines.{defines_in, defines_key_in, line_in}
 use Rattle.definition.specs.Definitions.{LinesBelow}
-use Rattle.records.specs.Records.{group_field, key_in, bare_in, close_of_record}
+use Rattle.records.specs.Records.{key_in, bare_in, close_of_record}
+use Rattle.records.specs.Fields.{group_field}
 use Rattle.base.proofs.Bools.{split}
 use Rattle.base.proofs.Lasts.{last_out, last_stop, last_more}
 use Rattle.records.specs.Widths.{group_count, group_place, group_first}

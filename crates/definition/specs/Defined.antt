@@ -8,7 +8,8 @@ use Rattle.definition.specs.Defs.{Def, entry_def}
 use Rattle.definition.specs.declared.defined.Defined.{Defined}
 use Rattle.definition.specs.declared.defined.Defined.TheVariants.{Line, Entry as EntryOf, Nothing}
 use Rattle.definition.specs.Lines.{line_in, line_def_in}
-use Rattle.records.specs.Records.{group_field, key_in}
+use Rattle.records.specs.Records.{key_in}
+use Rattle.records.specs.Fields.{group_field}
 use Rattle.definition.specs.Entries.{entry_in}
 use Rattle.records.specs.Widths.{group_first}
 

@@ -4,7 +4,8 @@ use Rattle.base.specs.LastPlace.{last}
 use Rattle.base.specs.Lists.{same}
 use Rattle.definition_line.specs.Lines.{starts_line, colon_after}
 use Rattle.definition.specs.Defs.{Def, line_def}
-use Rattle.records.specs.Records.{group_field, key_in, bare_in, close_of_record, next_in}
+use Rattle.records.specs.Records.{key_in, bare_in, close_of_record, next_in}
+use Rattle.records.specs.Fields.{group_field}
 use Rattle.records.specs.Widths.{group_place, group_count, group_first}
 
 -- group record `g` starts a definition line: `defines`, by the records

@@ -4,19 +4,21 @@ ghost use Rattle.definition.specs.Lines.{defines_in, defines_key_in, line_in};
 ghost use Rattle.definition.specs.Definitions.{LinesBelow};
 ghost use Rattle.records.specs.Bounds.{record_bound};
 
+use records::{GROUP_COUNT, GROUP_FIRST, GROUP_PLACE, GROUP_WIDTH, field};
+
 // Whether group record `g` starts a definition line.
 fn defines_in(text: &[u8], groups: &[u16], items: &[u16], g: usize) -> bool
     requires { g < record_bound }
     ensures { result ≡ defines_in text.now groups.now items.now g }
 {
-    let count = records::group_field(groups, g, records::GROUP_COUNT);
+    let count = field::<GROUP_WIDTH>(groups, g, GROUP_COUNT);
     if count != 1 {
         return false;
     }
-    let at = records::group_field(groups, g, records::GROUP_PLACE);
+    let at = field::<GROUP_WIDTH>(groups, g, GROUP_PLACE);
     let close = records::close_of_record(groups, g);
     if definition_line::in_definition_place(text, at, close) {
-        records::bare_in(items, records::group_field(groups, g, records::GROUP_FIRST))
+        records::bare_in(items, field::<GROUP_WIDTH>(groups, g, GROUP_FIRST))
     } else {
         false
     }
@@ -29,7 +31,7 @@ fn defines_key_in(text: &[u8], groups: &[u16], items: &[u16], g: usize, key: &[u
     ensures { result ≡ defines_key_in text.now groups.now items.now key.now g }
 {
     if definition_line::colon_after(text, records::close_of_record(groups, g)) {
-        let k = records::group_field(groups, g, records::GROUP_FIRST);
+        let k = field::<GROUP_WIDTH>(groups, g, GROUP_FIRST);
         let own = records::key_in(text, items, k);
         if base::slices::is_same(own, key) {
             defines_in(text, groups, items, g)

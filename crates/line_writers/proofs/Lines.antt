@@ -8,8 +8,8 @@ use lib.Seq.{get_or-drop, drop-drop}
 use borrow.Author.Tests.{eq-eqb, ne_eqb}
 use Rattle.base.specs.Ascii.{ascii}
 use Rattle.decimal.specs.Decimal.{decimal}
-use Rattle.records.specs.Records.{group_field, key_in}
-use Rattle.records.specs.Fields.{item_field}
+use Rattle.records.specs.Records.{key_in}
+use Rattle.records.specs.Fields.{field_at, item_field, group_field}
 use Rattle.line_writers.specs.declared.Told.{Told}
 use Rattle.line_writers.specs.Lines.{group_part, item_part, item_line, item_lines, lines_of, group_lines, count_line, refused_line, answer_lines}
 use Rattle.line_writers.specs.Writes.{Put, Room, answer_by}
@@ -21,11 +21,11 @@ abbrev pub field : ℕ → ℕ → List ℕ
 field n end = decimal n ++ (end ∷ [])
 
 group_at : (groups : List ℕ) (g c : ℕ) → get_or (drop (group_width * g) groups) c 0 ≡ group_field groups g c
-unfolding group_field
+unfolding field_at
 group_at groups g c = get_or-drop (group_width * g) groups c 0
 
 item_at : (items : List ℕ) (i c : ℕ) → get_or (drop (item_width * i) items) c 0 ≡ item_field items i c
-unfolding item_field
+unfolding field_at
 item_at items i c = get_or-drop (item_width * i) items c 0
 
 -- what a line says of its group ------------------------------------------------------------------------------------------------------

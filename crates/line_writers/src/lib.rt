@@ -9,7 +9,7 @@ ghost use Rattle.line_writers.specs.Writes.{Put, Room, answer_by};
 ghost use Rattle.records.specs.Widths.{group_width, item_width};
 ghost use Rattle.records.specs.Bounds.{record_bound};
 
-use records::{group_field, item_field, key_in};
+use records::{GROUP_COUNT, GROUP_FIRST, GROUP_LENGTH, GROUP_PLACE, GROUP_STANDING, GROUP_WIDTH, ITEM_CODE, ITEM_NUMBER, ITEM_WIDTH, field, key_in};
 
 // The numbers of an answer that the listing says: the number of a refusal, or 0 and the counts of groups, items and sources.
 #[derive(Clone, Copy)]
@@ -45,9 +45,9 @@ fn put_group_part(groups: &[u16], g: usize, out: &mut [u8], k: usize) -> usize
     requires { (g < 65536) × Room k (group_part (drop (group_width * g) groups.now)) out.old }
     ensures { Put k (group_part (drop (group_width * g) groups.now)) out.old out.new result }
 {
-    let offset = group_field(groups, g, records::GROUP_PLACE);
-    let length = group_field(groups, g, records::GROUP_LENGTH);
-    let standing = group_field(groups, g, records::GROUP_STANDING);
+    let offset = field::<GROUP_WIDTH>(groups, g, GROUP_PLACE);
+    let length = field::<GROUP_WIDTH>(groups, g, GROUP_LENGTH);
+    let standing = field::<GROUP_WIDTH>(groups, g, GROUP_STANDING);
     let a = put_number(out, k, offset, b' ');
     let b = put_number(out, a, length, b' ');
     put_number(out, b, standing, b' ')
@@ -59,8 +59,8 @@ fn put_item_part(text: &[u8], items: &[u16], i: usize, out: &mut [u8], k: usize)
     ensures { Put k (item_part text.now (drop (item_width * i) items.now)) out.old out.new result }
 {
     let key = key_in(text, items, i);
-    let code = item_field(items, i, records::ITEM_CODE);
-    let number = item_field(items, i, records::ITEM_NUMBER);
+    let code = field::<ITEM_WIDTH>(items, i, ITEM_CODE);
+    let number = field::<ITEM_WIDTH>(items, i, ITEM_NUMBER);
     let a = put(out, k, key);
     let b = put(out, a, b" ");
     let c = put_number(out, b, code, b' ');
@@ -96,8 +96,8 @@ fn put_lines(
     requires { (g < 65536) × Room k (lines_of text.now (drop (group_width * g) groups.now) items.now) out.old }
     ensures { Put k (lines_of text.now (drop (group_width * g) groups.now) items.now) out.old out.new result }
 {
-    let first = group_field(groups, g, records::GROUP_FIRST);
-    let count = group_field(groups, g, records::GROUP_COUNT);
+    let first = field::<GROUP_WIDTH>(groups, g, GROUP_FIRST);
+    let count = field::<GROUP_WIDTH>(groups, g, GROUP_COUNT);
     let mut at = k;
     let mut j: usize = 0;
     while j < count {

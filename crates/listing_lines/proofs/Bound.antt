@@ -23,7 +23,7 @@ use Rattle.standing.proofs.ItemSizes.{weight}
 use Rattle.standing.proofs.Swept.{groups_of, placed_groups, placed_length}
 use Rattle.sweep.proofs.Sizes.{weights}
 use Rattle.sweep.proofs.Sweeps.{sweep_same}
-use Rattle.records.specs.Fields.{item_field}
+use Rattle.records.specs.Fields.{field_at, item_field}
 use Rattle.uses.proofs.Fields.{item_field_lem, SameItems}
 use Rattle.annotation.specs.Content.{Areas, placed_from, placed_of, tally_of, content_of}
 use Rattle.annotation.specs.Call.{Annotated, annotate_refused, room_for, content_written, zero_filled, annotate_gives, answer_of, annotate_plain}
@@ -80,7 +80,7 @@ sum_same items others h n zero = refl
 sum_same items others h n (suc k) = let p = h n 3 (omega arith) in let q = sum_same items others h (n + 1) k in omega arith
 
 lines_short : (k : ℕ) (text group items : List ℕ) (n : ℕ) → length (item_lines k text group (drop (item_width * n) items)) ≤ 106 * k + key_sum items n k
-unfolding item_lines key_sum item_field
+unfolding item_lines key_sum field_at
 lines_short zero text group items n = omega arith
 lines_short (suc k) text group items n =
     let p : item_width * n + item_width ≡ item_width * (n + 1) = omega arith in

@@ -30,7 +30,8 @@ use Rattle.definition.specs.Defined.{defined_as, found_in}
 use Rattle.definition.specs.Definitions.{definition_in, LinesBelow}
 use Rattle.definition.specs.Entries.{entry_in}
 use Rattle.definition.proofs.EntryLaws.{first_entry_lem}
-use Rattle.records.specs.Records.{group_field, key_in, suppressed_in, bare_in, close_of_record, next_in}
+use Rattle.records.specs.Records.{key_in, suppressed_in, bare_in, close_of_record, next_in}
+use Rattle.records.specs.Fields.{group_field}
 use Rattle.base.proofs.Lasts.{last_from, last_from_lem, last_same}
 use Rattle.standing.proofs.Swept.{groups_of, placed_groups, placed_length}
 use Rattle.uses.proofs.Fields.{item_field_lem, group_field_lem, SameItems, SameGroups}

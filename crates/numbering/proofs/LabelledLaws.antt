@@ -13,7 +13,7 @@ use Rattle.records.specs.ItemRecords.{item_record, unnumbered_record, records_in
 use Rattle.records.specs.Widths.{item_width, item_number, item_label, item_label_length, group_width, group_standing}
 use Rattle.standing.specs.GroupRecords.{item_count, item_records}
 use Rattle.records.specs.Records.{suppressed_in}
-use Rattle.records.specs.Fields.{item_field}
+use Rattle.records.specs.Fields.{field_at, item_field}
 use Rattle.label.specs.Areas.{fitted_at}
 use Rattle.label.proofs.AreaLaws.{fitted_at_kept, fitted_at_there}
 use Rattle.uses.specs.Uses.{set_last}
@@ -27,7 +27,7 @@ use Rattle.numbering.proofs.ByLines.{key_same, definition_same}
 -- the records that a sweep leaves: none of them has a number ---------------------------------------------------------------------------
 
 records_unnumbered : (is : List Item) (after : List ℕ) (j : ℕ) → j < length is → item_field (records_in is ++ after) j item_number ≡ 0
-unfolding flat_map unnumbered_record item_record item_field
+unfolding flat_map unnumbered_record item_record field_at
 records_unnumbered [] after j l = absurd (omega arith)
 records_unnumbered (i ∷ is) after zero l = refl
 records_unnumbered (i ∷ is) after (suc j) l =

@@ -9,7 +9,7 @@ use borrow.Author.Tests.{le-leb, eq-eqb, ne_eqb, not-true, not-false}
 use Rattle.base.specs.Pick.{pick}
 use Rattle.base.proofs.Areas.{written_none}
 use Rattle.numbering.specs.declared.Numbering.{Numbering}
-use Rattle.records.specs.Records.{group_field}
+use Rattle.records.specs.Fields.{group_field}
 use Rattle.numbering.specs.Numbers.{Numbered, start, cite_in, cite_from, stands_numbered, is_numbered, number_group, number_from, number_all, keys_defined}
 use Rattle.numbering.specs.Progress.{room_of, numbering_of, Holds, Advances}
 use Rattle.numbering.proofs.CiteLaws.{full_more, none_yet, then, as_step, cite_grows}

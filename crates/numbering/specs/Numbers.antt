@@ -5,7 +5,8 @@ use Rattle.records.specs.Widths.{group_width, group_standing, group_count, group
 use Rattle.pool.specs.Layout.{has_pool}
 use Rattle.definition.specs.Defs.{is_defined}
 use Rattle.definition.specs.Definitions.{definition_in}
-use Rattle.records.specs.Records.{group_field, key_in, suppressed_in}
+use Rattle.records.specs.Records.{key_in, suppressed_in}
+use Rattle.records.specs.Fields.{group_field}
 use Rattle.label.specs.Labels.{label_text}
 use Rattle.uses.specs.Uses.{number_in, use_in, sources_in, set_last}
 

@@ -13,6 +13,7 @@ use base::least;
 use definition::defined::Defined;
 use definition::{Author, Year};
 use uses::Count;
+use records::{GROUP_COUNT, GROUP_FIRST, GROUP_STANDING, GROUP_WIDTH, ITEM_LABEL, ITEM_LABEL_LENGTH, ITEM_WIDTH, field};
 
 // Whether the key of item record `k` is defined.
 fn is_defined(
@@ -147,8 +148,8 @@ fn write_label_of<'a>(
     let at = s.label_bytes;
     let j = labelled_before(text, mode, items, s.sources, k, number as usize);
     if (j < k) & (j < m) {
-        let from = records::item_field(items, j, records::ITEM_LABEL);
-        let len = records::item_field(items, j, records::ITEM_LABEL_LENGTH);
+        let from = field::<ITEM_WIDTH>(items, j, ITEM_LABEL);
+        let len = field::<ITEM_WIDTH>(items, j, ITEM_LABEL_LENGTH);
         label::copy_label(from, len, at, labels);
         return len;
     }
@@ -273,16 +274,16 @@ pub fn number_group<'a>(
     if !fits {
         return s;
     }
-    let standing = records::group_field(groups, g, records::GROUP_STANDING);
+    let standing = field::<GROUP_WIDTH>(groups, g, GROUP_STANDING);
     if standing == 0 {
         return s;
     }
-    let k = records::group_field(groups, g, records::GROUP_FIRST);
-    let c = records::group_field(groups, g, records::GROUP_COUNT);
+    let k = field::<GROUP_WIDTH>(groups, g, GROUP_FIRST);
+    let c = field::<GROUP_WIDTH>(groups, g, GROUP_COUNT);
     if all_defined(text, pool, groups, items, n, end, k, c) {
         records::put(
             groups,
-            records::GROUP_WIDTH * g + records::GROUP_STANDING,
+            GROUP_WIDTH * g + GROUP_STANDING,
             2,
         );
         cite_from(text, mode, pool, n, end, m, k, c, s, items, groups, labels)

@@ -24,7 +24,8 @@ use Rattle.definition.specs.declared.defined.Defined.{Defined}
 use Rattle.definition.specs.declared.defined.Defined.TheVariants.{Line, Entry as EntryOf, Nothing}
 use Rattle.definition.specs.Lines.{defines_in, defines_key_in, line_in}
 use Rattle.definition.specs.Definitions.{definition_in}
-use Rattle.records.specs.Records.{key_in, group_field}
+use Rattle.records.specs.Records.{key_in}
+use Rattle.records.specs.Fields.{group_field}
 use Rattle.definition.specs.Defined.{defined_as, found_in, definition_number, definition_at, key_by, DefinedIn}
 use Rattle.definition.specs.Entries.{entry_has, entry_in}
 use Rattle.order.specs.Order.{less, insert_by, inserted_from}

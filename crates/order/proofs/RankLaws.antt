@@ -22,8 +22,8 @@ use Rattle.definition.specs.Parts.{author_bytes, author_given, Gives}
 use Rattle.definition.specs.Defs.{def_author, def_year}
 use Rattle.definition.specs.declared.defined.Defined.{Defined}
 use Rattle.definition.specs.declared.defined.Defined.TheVariants.{Line, Entry as EntryOf, Nothing}
-use Rattle.records.specs.Records.{group_field, key_in}
-use Rattle.records.specs.Fields.{item_field}
+use Rattle.records.specs.Records.{key_in}
+use Rattle.records.specs.Fields.{item_field, group_field}
 use Rattle.uses.specs.Uses.{used_at}
 use Rattle.definition.specs.Defined.{defined_as, found_in, definition_number, definition_at, key_by, DefinedIn}
 use Rattle.order.specs.References.{has_number, first_with, source_key_in, number_of_key}

@@ -9,6 +9,7 @@ ghost use Rattle.records.specs.Bounds.{record_bound};
 
 use definition::Author;
 use definition::defined::Defined;
+use records::{GROUP_FIRST, GROUP_WIDTH, ITEM_NUMBER, ITEM_WIDTH, field};
 
 // The number of a definition: a group's own, an entry's after those of the `n` groups.
 fn definition_number(pool: &[u8], n: usize, d: Defined) -> u16
@@ -57,7 +58,7 @@ fn key_by<'a>(
             records::key_in(
                 text,
                 items,
-                records::group_field(groups, group, records::GROUP_FIRST),
+                field::<GROUP_WIDTH>(groups, group, GROUP_FIRST),
             )
         }
         Defined::Entry { number } => definition::entries::entry_id(pool, number),
@@ -94,7 +95,7 @@ fn first_with(items: &[u16], m: usize, k: usize) -> usize
 {
     let mut j: usize = 0;
     while j < m {
-        if records::item_field(items, j, records::ITEM_NUMBER) == k {
+        if field::<ITEM_WIDTH>(items, j, ITEM_NUMBER) == k {
             return j;
         }
         j += 1;
@@ -133,11 +134,11 @@ fn number_of_key(text: &[u8], items: &[u16], m: usize, key: &[u8]) -> usize
     let mut j: usize = 0;
     while j < m {
         if uses::is_use(text, items, j, key) {
-            return records::item_field(items, j, records::ITEM_NUMBER);
+            return field::<ITEM_WIDTH>(items, j, ITEM_NUMBER);
         }
         j += 1;
     }
-    records::item_field(items, j, records::ITEM_NUMBER)
+    field::<ITEM_WIDTH>(items, j, ITEM_NUMBER)
 }
 
 // The number of the source that definition number `i` defines.

@@ -3,16 +3,12 @@ use Prim.Native.Nat.{ℕ, suc, ◌+◌, ◌-◌, ◌*◌, ◌≤◌, ◌<◌}
 use native.Mathlib.Omega.{arith}
 use mathlib.Core.Path.{◌≡◌, refl, sym, ◌∙◌, ap}
 use mathlib.Core.List.{List, [], ◌∷◌, ◌++◌, flat_map, append-nil}
-use mathlib.Core.Bool.{Bool, true, false, true≢false}
-use lib.ListN.{length, take, drop, set, length-append}
-use Rattle.base.specs.Pick.{pick}
+use mathlib.Core.Bool.{true, true≢false}
+use lib.ListN.{length, take, drop, length-append}
 use Rattle.base.specs.First.{first}
 use Rattle.base.specs.Lists.{written}
 use Rattle.base.specs.declared.Span.{Span}
-use Rattle.base.specs.Spans.{pair_of}
 use Rattle.base.proofs.Areas.{rest_room, came_back, back_length, back_next}
-use Rattle.locator.specs.declared.Locator.{Locator}
-use Rattle.locator.specs.Answers.{code_of, value_of, suffix_of}
 use Rattle.item.specs.declared.Item.{Item}
 use Rattle.item.specs.declared.Parsed.{Parsed}
 use Rattle.item.specs.declared.Parsed.TheVariants.{Good, Bad}
@@ -22,10 +18,9 @@ use Rattle.item.specs.Facts.{parts_of}
 use Rattle.item.proofs.Bounds.{item_within}
 use Rattle.item.proofs.Pieces.{items_more, items_last, first_good, rest_good}
 use Rattle.item.specs.Group.{good_items, Group, group_of}
-use Rattle.records.specs.ItemRecords.{marks_of, item_record, unnumbered_record, records_in, records_of, records_length}
-use Rattle.records.specs.Writing.{piece_record, put_at, Narrow, NarrowItem, Writable}
-use Rattle.records.proofs.Areas.{put_written}
-use Rattle.records.specs.Widths.{item_width, item_prefix, item_key, item_locator, item_value, item_suffix, item_code, item_marks, item_number, item_use, item_label, item_label_length}
+use Rattle.records.specs.ItemRecords.{item_record, unnumbered_record, records_in, records_of, records_length}
+use Rattle.records.specs.Writing.{piece_record, Narrow, NarrowItem, Writable}
+use Rattle.records.specs.Widths.{item_width}
 
 -- how many numbers a record has ----------------------------------------------------------------------------------------------------------
 
@@ -42,72 +37,31 @@ pub records_length_lem : (g : Group) → length (records_of g) ≡ records_lengt
 unfolding records_of records_length
 records_length_lem g = records_in_length g.items
 
--- one record -----------------------------------------------------------------------------------------------------------------------
-
-pub pair_put : (k : ℕ) (row : List ℕ) (p : Span) → set (set row k p.at) (k + 1) p.len ≡ put_at k (pair_of p) row
-unfolding put_at
-pair_put k row p = refl
-
-pub marks_put : (row : List ℕ) (marks : ℕ) → set (set (set (set (set row item_marks marks) item_number 0) item_use 0) item_label 0) item_label_length 0 ≡ put_at item_marks (marks ∷ 0 ∷ 0 ∷ 0 ∷ 0 ∷ []) row
-unfolding put_at
-marks_put row marks = refl
-
-module _ {a : Bool} where
-  pub marks_suppressed : a ≡ true → ◌≡◌ {A = ℕ} 1 (pick a 1 0)
-  marks_suppressed p = rw p refl
-
-  pub marks_none : a ≡ false → ◌≡◌ {A = ℕ} 0 (pick a 1 0)
-  marks_none p = rw p refl
-
--- numbers put one after another: the pairs of an item, those of its locator with the code, and all of them with the marks
-module _ (row : List ℕ) {r₁ r₂ : List ℕ} where
-  pub parts_are : (a b c d e f : ℕ) {r₃ : List ℕ} → r₃ ≡ put_at item_locator (e ∷ f ∷ []) r₂ → r₂ ≡ put_at item_key (c ∷ d ∷ []) r₁ → r₁ ≡ put_at item_prefix (a ∷ b ∷ []) row
-      → r₃ ≡ put_at item_prefix (a ∷ b ∷ c ∷ d ∷ e ∷ f ∷ []) row
-  unfolding put_at
-  parts_are a b c d e f e₃ e₂ e₁ = rw (e₃, e₂, e₁) refl
-
-  pub locator_is : (l : Locator) {v w : Span} {code : ℕ} → r₂ ≡ put_at item_suffix (pair_of w) r₁ → r₁ ≡ put_at item_value (pair_of v) row → code ≡ code_of l
-      → w ≡ suffix_of l → v ≡ value_of l → set r₂ item_code code ≡ put_at item_value (pair_of (value_of l) ++ pair_of (suffix_of l) ++ (code_of l ∷ [])) row
-  unfolding put_at
-  locator_is l e₂ e₁ c w v = rw (e₂, e₁, c, w, v) refl
-
-  pub record_is : (it : Item) {r₃ : List ℕ} {marks : ℕ} → r₃ ≡ put_at item_marks (marks ∷ 0 ∷ 0 ∷ 0 ∷ 0 ∷ []) r₂
-      → r₂ ≡ put_at item_value (pair_of (value_of it.parts) ++ pair_of (suffix_of it.parts) ++ (code_of it.parts ∷ [])) r₁
-      → r₁ ≡ put_at item_prefix (pair_of it.prefix ++ pair_of it.key ++ pair_of it.locator) row
-      → marks ≡ pick it.suppressed 1 0 → item_width ≤ length row → r₃ ≡ written (unnumbered_record it) row
-  unfolding unnumbered_record item_record marks_of put_at
-  record_is it e₃ e₂ e₁ m h = rw (e₃, e₂, e₁, m) (put_written (unnumbered_record it) row (rw record_length h))
-
-pub narrow_by : {p : Span} (r : Span) → r ≡ p → Narrow p → Narrow r
-narrow_by r e n = rw e n
-
-pub ruleset record_laws = (pair_put, marks_suppressed, marks_none)
-
 -- an item's places fit a record ----------------------------------------------------------------------------------------------------
 
 narrow_within : {p : Span} {e : ℕ} → e ≤ 65535 → p.at + p.len ≤ e → Narrow p
 narrow_within h k = (omega arith, omega arith)
 
-pub item_narrow : (s : List ℕ) (a e : ℕ) {r : Parsed} {it : Item} → r ≡ item_of s a e → r ≡ Good it → e ≤ length s → length s ≤ 65535 → NarrowItem it
-unfolding parts_of
-item_narrow s a e {it = it} q g h k =
-    let l : e ≤ 65535 = omega arith in
-    let w = item_within s a e it (sym q ∙ g) in
-    record {
-      prefix = narrow_within l w.0;
-      key = narrow_within l w.1.0;
-      locator = narrow_within l w.1.1.0;
-      parts = record { value = narrow_within l w.1.1.1.0; suffix = narrow_within l w.1.1.1.1.0 };
-    }
+module _ (s : List ℕ) (a e : ℕ) {it : Item} (q : Good it ≡ item_of s a e) where
+  pub item_narrow : e ≤ length s → length s ≤ 65535 → NarrowItem it
+  unfolding parts_of
+  item_narrow h k =
+      let l : e ≤ 65535 = omega arith in
+      let w = item_within s a e it (sym q) in
+      record {
+        prefix = narrow_within l w.0;
+        key = narrow_within l w.1.0;
+        locator = narrow_within l w.1.1.0;
+        parts = record { value = narrow_within l w.1.1.1.0; suffix = narrow_within l w.1.1.1.1.0 };
+      }
 
-module _ (s : List ℕ) (a e : ℕ) (row : List ℕ) {r : Parsed} (q : r ≡ item_of s a e) where
-  pub piece_good : {it : Item} {out : List ℕ} → r ≡ Good it → out ≡ written (unnumbered_record it) row → out ≡ written (piece_record (item_of s a e)) row
-  unfolding piece_record
-  piece_good g o = o ∙ rw (← q, g)
-
-  pub piece_bad : r ≡ Bad → row ≡ written (piece_record (item_of s a e)) row
+  pub piece_good : (row : List ℕ) {x : List ℕ} → x ≡ unnumbered_record it → x ++ drop item_width row ≡ written (piece_record (item_of s a e)) row
   unfolding piece_record written
-  piece_bad g = rw (← q, g)
+  piece_good row o = rw (← q, o, record_length it) refl
+
+pub piece_bad : (s : List ℕ) (a e : ℕ) (row : List ℕ) → Bad ≡ item_of s a e → row ≡ written (piece_record (item_of s a e)) row
+unfolding piece_record written
+piece_bad s a e row q = rw (← q) refl
 
 pub ruleset piece_record_laws = (item_narrow, piece_good, piece_bad)
 

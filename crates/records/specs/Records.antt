@@ -1,14 +1,10 @@
 -- Follows the code; nothing to believe: item and group records as they lie in the lent areas. Any numbers may stand there:
 -- what is past the end of an area counts as 0.
-use Rattle.std.specs.Prelude.{ℕ, ◌+◌, ◌-◌, ◌*◌, List, Bool, not, ◌&&◌, length, get_or, eqb, ltb}
+use Rattle.std.specs.Prelude.{ℕ, ◌+◌, ◌-◌, List, Bool, not, ◌&&◌, length, eqb, ltb}
 use Rattle.base.specs.Pick.{pick}
 use Rattle.base.specs.Lists.{part}
-use Rattle.records.specs.Widths.{group_width, item_key, item_key_length, item_marks, item_prefix_length, item_locator_length, group_place, group_length}
-use Rattle.records.specs.Fields.{item_field}
-
--- the number at place `c` of group record `g`
-unfoldable pub group_field : List ℕ → ℕ → ℕ → ℕ
-group_field groups g c = get_or groups (group_width * g + c) 0
+use Rattle.records.specs.Widths.{item_key, item_key_length, item_marks, item_prefix_length, item_locator_length, group_place, group_length}
+use Rattle.records.specs.Fields.{item_field, group_field}
 
 -- the bytes of the key of item record `k`
 unfoldable pub key_in : List ℕ → List ℕ → ℕ → List ℕ

@@ -1,5 +1,5 @@
 -- Follows the code; nothing to believe: item records as they are written, and the pairs that fit one.
-use Rattle.std.specs.Prelude.{ℕ, ◌+◌, ◌≤◌, ◌<◌, ◌≡◌, List, [], ◌∷◌, Bool, true, length, set}
+use Rattle.std.specs.Prelude.{ℕ, ◌+◌, ◌≤◌, ◌<◌, ◌≡◌, List, [], ◌∷◌, true, length, set}
 use Rattle.base.specs.declared.Span.{Span}
 use Rattle.locator.specs.declared.Locator.{Locator}
 use Rattle.locator.specs.Answers.{value_of, suffix_of}
@@ -9,7 +9,7 @@ use Rattle.item.specs.declared.Parsed.TheVariants.{Good, Bad}
 use Rattle.item.specs.Group.{good_items, group_of}
 use Rattle.records.specs.ItemRecords.{unnumbered_record, records_length}
 
--- For the code that writes them. The record of what a piece of a group was parsed to.
+-- the record of what a piece of a group was parsed to
 unfoldable pub piece_record : Parsed → List ℕ
 piece_record (Good it) = unnumbered_record it
 piece_record Bad = []
@@ -18,10 +18,6 @@ piece_record Bad = []
 unfoldable pub put_at : ℕ → List ℕ → List ℕ → List ℕ
 put_at k [] row = row
 put_at k (v ∷ vs) row = put_at (k + 1) vs (set row k v)
-
--- `after` is the row after that, which is as long as it was
-abbrev pub Put : ℕ → List ℕ → List ℕ → List ℕ → Type 0
-Put k vs row after = (after ≡ put_at k vs row) × (length after ≡ length row)
 
 -- a pair that fits a record
 abbrev pub Narrow : Span → Type 0

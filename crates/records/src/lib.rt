@@ -5,8 +5,8 @@ pub mod item_records;
 
 ghost use Rattle.std.specs.Prelude.{◌≡◌, ◌+◌, ◌<◌, get_or, set};
 ghost use Rattle.records.specs.Facts.{ItemPlaces, MarksBelow};
-ghost use Rattle.records.specs.Records.{group_field, key_in, suppressed_in, bare_in, close_of_record, next_in};
-ghost use Rattle.records.specs.Fields.{item_field};
+ghost use Rattle.records.specs.Records.{key_in, suppressed_in, bare_in, close_of_record, next_in};
+ghost use Rattle.records.specs.Fields.{field_at};
 ghost use Rattle.records.specs.Bounds.{record_bound};
 
 // How many numbers an item record has.
@@ -59,86 +59,77 @@ pub const GROUP_STANDING: usize = 4;
 pub fn number_at(area: &[u16], i: usize) -> usize
     ensures { (result ≡ get_or area.now i 0) × (result < 65536) }
 {
-    if i < area.len() { wide(area[i]) } else { 0 }
-}
-
-fn wide(x: u16) -> usize
-    ensures { (result ≡ x) × (result < 65536) }
-{
-    x as usize
+    usize::from(area.get(i).copied().unwrap_or(0))
 }
 
 // The number `v` at place `i` of an area; nothing past its end.
 pub fn put(area: &mut [u16], i: usize, v: u16)
     ensures { area.new ≡ set area.old i v }
 {
-    if area.len() <= i {
-        return;
+    if i < area.len() {
+        area[i] = v;
     }
-    area[i] = v;
 }
 
-// The number at place `c` of item record `k`.
-pub fn item_field(items: &[u16], k: usize, c: usize) -> usize
-    requires { (k < record_bound) × (c < 65536) }
-    ensures { (result ≡ item_field items.now k c) × (result < 65536) }
+// The number at place `c` of record `k`, in an area of records of `WIDTH` numbers: `ITEM_WIDTH` for items, `GROUP_WIDTH` for groups.
+#[tactic(auto, unfolding(crate::specs::Fields::field_at))]
+pub fn field<const WIDTH: usize>(area: &[u16], k: usize, c: usize) -> usize
+    requires { (WIDTH < 65536) × (k < record_bound) × (c < 65536) }
+    ensures { (result ≡ field_at WIDTH area.now k c) × (result < 65536) }
 {
-    number_at(items, ITEM_WIDTH * k + c)
-}
-
-// The number at place `c` of group record `g`.
-pub fn group_field(groups: &[u16], g: usize, c: usize) -> usize
-    requires { (g < record_bound) × (c < 65536) }
-    ensures { (result ≡ group_field groups.now g c) × (result < 65536) }
-{
-    number_at(groups, GROUP_WIDTH * g + c)
+    number_at(area, WIDTH * k + c)
 }
 
 // The key of item record `k`.
+#[tactic(auto, unfolding(crate::specs::Records::key_in))]
 pub fn key_in<'a>(text: &'a [u8], items: &[u16], k: usize) -> &'a [u8]
     requires { k < record_bound }
     ensures { result.now ≡ key_in text.now items.now k }
 {
-    let at = item_field(items, k, ITEM_KEY);
-    let len = item_field(items, k, ITEM_KEY_LENGTH);
+    let at = field::<ITEM_WIDTH>(items, k, ITEM_KEY);
+    let len = field::<ITEM_WIDTH>(items, k, ITEM_KEY_LENGTH);
     base::slices::part_of(text, at, len)
 }
 
 // Whether item record `k` is marked as suppressed.
+#[tactic(auto, unfolding(crate::specs::Records::suppressed_in))]
 pub fn suppressed_in(items: &[u16], k: usize) -> bool
     requires { k < record_bound }
     ensures { result ≡ suppressed_in items.now k }
 {
-    item_field(items, k, ITEM_MARKS) == 1
+    field::<ITEM_WIDTH>(items, k, ITEM_MARKS) == 1
 }
 
 // Whether it has no prefix, no locator, and is not suppressed.
+#[tactic(auto, unfolding(crate::specs::Records::bare_in))]
 pub fn bare_in(items: &[u16], k: usize) -> bool
     requires { k < record_bound }
     ensures { result ≡ bare_in items.now k }
 {
-    let prefix = item_field(items, k, ITEM_PREFIX_LENGTH);
-    let locator = item_field(items, k, ITEM_LOCATOR_LENGTH);
-    let suppressed = suppressed_in(items, k);
-    (prefix == 0) & (locator == 0) & !suppressed
+    field::<ITEM_WIDTH>(items, k, ITEM_PREFIX_LENGTH) == 0
+        && field::<ITEM_WIDTH>(items, k, ITEM_LOCATOR_LENGTH) == 0
+        && !suppressed_in(items, k)
 }
 
 // The place of the close of group record `g`.
+#[tactic(auto, unfolding(crate::specs::Records::close_of_record))]
 pub fn close_of_record(groups: &[u16], g: usize) -> usize
     requires { g < record_bound }
     ensures { result ≡ close_of_record groups.now g }
 {
-    let end = group_field(groups, g, GROUP_PLACE) + group_field(groups, g, GROUP_LENGTH);
-    if end == 0 { 0 } else { end - 1 }
+    let end = field::<GROUP_WIDTH>(groups, g, GROUP_PLACE)
+        + field::<GROUP_WIDTH>(groups, g, GROUP_LENGTH);
+    end.saturating_sub(1)
 }
 
 // Where the group after number `g` of `n` begins; the text's end where there is none.
+#[tactic(auto, unfolding(crate::specs::Records::next_in))]
 pub fn next_in(text: &[u8], groups: &[u16], n: usize, g: usize) -> usize
     requires { g + 1 < record_bound }
     ensures { result ≡ next_in text.now groups.now n g }
 {
     if g + 1 < n {
-        group_field(groups, g + 1, GROUP_PLACE)
+        field::<GROUP_WIDTH>(groups, g + 1, GROUP_PLACE)
     } else {
         text.len()
     }

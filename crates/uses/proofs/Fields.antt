@@ -12,8 +12,7 @@ use Rattle.records.specs.ItemRecords.{item_record}
 use Rattle.records.specs.Widths.{item_width, item_number, item_label, item_label_length, item_use, group_standing}
 use Rattle.standing.specs.GroupRecords.{Placed, placed, group_record}
 use Rattle.records.specs.Widths.{group_width}
-use Rattle.records.specs.Records.{group_field}
-use Rattle.records.specs.Fields.{item_field}
+use Rattle.records.specs.Fields.{field_at, item_field, group_field}
 use Rattle.uses.specs.Uses.{set_last}
 
 pub set_append_add : (xs ys : List ℕ) (n a : ℕ) → set (xs ++ ys) (length xs + n) a ≡ xs ++ set ys n a
@@ -24,18 +23,18 @@ set_append_add (x ∷ xs) ys n a =
 
 -- a record after `k` others, and after `g` others
 pub item_field_lem : (before here : List ℕ) (k c : ℕ) → length before ≡ item_width * k → item_field (before ++ here) k c ≡ get_or here c 0
-unfolding item_field
+unfolding field_at
 item_field_lem before here k c h = rw (← h) (get_or-append-add before here c 0)
 
 -- the records after those
 pub item_skip : (before after : List ℕ) (k j c : ℕ) → length before ≡ item_width * k → item_field (before ++ after) (k + j) c ≡ item_field after j c
-unfolding item_field
+unfolding field_at
 item_skip before after k j c h =
     let e : item_width * (k + j) + c ≡ length before + (item_width * j + c) = omega arith in
     rw e (get_or-append-add before after (item_width * j + c) 0)
 
 pub group_field_lem : (before here : List ℕ) (g c : ℕ) → length before ≡ group_width * g → group_field (before ++ here) g c ≡ get_or here c 0
-unfolding group_field
+unfolding field_at
 group_field_lem before here g c h = rw (← h) (get_or-append-add before here c 0)
 
 -- the last four numbers of an item record
@@ -82,13 +81,13 @@ module _ (items : List ℕ) (k n u at len : ℕ) where
 
   -- no other item record changes
   pub set_last_other : (j c : ℕ) → (j ≡ k → ⊥) → c < item_width → item_field (set_last items k n u at len) j c ≡ item_field items j c
-  unfolding item_field
+  unfolding field_at
   set_last_other j c h l = set_last_away (item_width * j + c) (λ d a b e. h (omega arith))
 
   -- the number and the label pair of the record itself
   module _ (h : item_width * k + item_width ≤ length items) where
     pub set_last_number : item_field (set_last items k n u at len) k item_number ≡ n
-    unfolding item_field set_last
+    unfolding field_at set_last
     set_last_number =
         get_or-set_other third (item_width * k + item_label_length) (item_width * k + item_number) len 0 (λ e. omega arith)
         ∙ get_or-set_other second (item_width * k + item_label) (item_width * k + item_number) at 0 (λ e. omega arith)
@@ -96,19 +95,19 @@ module _ (items : List ℕ) (k n u at len : ℕ) where
         ∙ get_or-set_same items (item_width * k + item_number) n 0 (omega arith)
 
     pub set_last_at : item_field (set_last items k n u at len) k item_label ≡ at
-    unfolding item_field set_last
+    unfolding field_at set_last
     set_last_at =
         get_or-set_other third (item_width * k + item_label_length) (item_width * k + item_label) len 0 (λ e. omega arith)
         ∙ get_or-set_same second (item_width * k + item_label) at 0 (simp length-set (omega arith))
 
     pub set_last_len : item_field (set_last items k n u at len) k item_label_length ≡ len
-    unfolding item_field set_last
+    unfolding field_at set_last
     set_last_len = get_or-set_same third (item_width * k + item_label_length) len 0 (simp length-set (omega arith))
 
 pub set_last_same : (items : List ℕ) (k n u at len : ℕ) → SameItems (set_last items k n u at len) items
-unfolding item_field
+unfolding field_at
 set_last_same items k n u at len j c h = set_last_away items k n u at len (item_width * j + c) (λ d a b e. omega arith)
 
 pub set_standing_same : (groups : List ℕ) (g s : ℕ) → SameGroups (set groups (group_width * g + group_standing) s) groups
-unfolding group_field
+unfolding field_at
 set_standing_same groups g s j c h = get_or-set_other groups (group_width * g + group_standing) (group_width * j + c) s 0 (λ e. omega arith)

@@ -7,6 +7,8 @@ ghost use Rattle.uses.specs.Uses.{used_at, last_use, alike_at, last_alike, set_l
 ghost use Rattle.uses.specs.Uses.{Counts};
 ghost use Rattle.records.specs.Bounds.{record_bound, source_bound};
 
+use records::{ITEM_LABEL, ITEM_LABEL_LENGTH, ITEM_MARKS, ITEM_NUMBER, ITEM_USE, ITEM_WIDTH, field};
+
 // The number and the use of an item record, and the sources after it.
 #[derive(Clone, Copy)]
 pub struct Count {
@@ -20,7 +22,7 @@ pub fn is_use(text: &[u8], items: &[u16], j: usize, key: &[u8]) -> bool
     requires { j < record_bound }
     ensures { result ≡ used_at text.now items.now key.now j }
 {
-    let number = records::item_field(items, j, records::ITEM_NUMBER);
+    let number = field::<ITEM_WIDTH>(items, j, ITEM_NUMBER);
     if number == 0 {
         return false;
     }
@@ -48,10 +50,10 @@ fn is_alike(text: &[u8], items: &[u16], number: usize, mark: usize, key: &[u8], 
     requires { j < record_bound }
     ensures { result ≡ alike_at text.now items.now number mark key.now j }
 {
-    if records::item_field(items, j, records::ITEM_NUMBER) != number {
+    if field::<ITEM_WIDTH>(items, j, ITEM_NUMBER) != number {
         return false;
     }
-    if records::item_field(items, j, records::ITEM_MARKS) != mark {
+    if field::<ITEM_WIDTH>(items, j, ITEM_MARKS) != mark {
         return false;
     }
     base::slices::is_same(records::key_in(text, items, j), key)
@@ -63,7 +65,7 @@ pub fn last_alike(text: &[u8], items: &[u16], k: usize, number: usize) -> usize
     requires { k < record_bound }
     ensures { result ≡ last_alike text.now items.now k number }
 {
-    let mark = records::item_field(items, k, records::ITEM_MARKS);
+    let mark = field::<ITEM_WIDTH>(items, k, ITEM_MARKS);
     let key = records::key_in(text, items, k);
     let mut j = k;
     while 0 < j {
@@ -95,8 +97,8 @@ pub fn count_in(text: &[u8], items: &[u16], pooled: bool, sources: usize, k: usi
     let j = last_use(text, items, k);
     if j < k {
         Count {
-            number: records::item_field(items, j, records::ITEM_NUMBER) as u16,
-            use_index: next_use(pooled, records::item_field(items, j, records::ITEM_USE)),
+            number: field::<ITEM_WIDTH>(items, j, ITEM_NUMBER) as u16,
+            use_index: next_use(pooled, field::<ITEM_WIDTH>(items, j, ITEM_USE)),
             sources,
         }
     } else {
@@ -115,18 +117,18 @@ pub fn set_last(items: &mut [u16], k: usize, number: u16, use_index: u16, at: u1
 {
     records::put(
         items,
-        records::ITEM_WIDTH * k + records::ITEM_NUMBER,
+        ITEM_WIDTH * k + ITEM_NUMBER,
         number,
     );
     records::put(
         items,
-        records::ITEM_WIDTH * k + records::ITEM_USE,
+        ITEM_WIDTH * k + ITEM_USE,
         use_index,
     );
-    records::put(items, records::ITEM_WIDTH * k + records::ITEM_LABEL, at);
+    records::put(items, ITEM_WIDTH * k + ITEM_LABEL, at);
     records::put(
         items,
-        records::ITEM_WIDTH * k + records::ITEM_LABEL_LENGTH,
+        ITEM_WIDTH * k + ITEM_LABEL_LENGTH,
         len,
     );
 }

@@ -11,14 +11,14 @@ returns-then-not-fits-clause-advances c = group_full _ _ _ _ _ _ _ _ _ c.require
 
 pub returns-then-standing-eq0-clause-advances : goal.returns-then-standing-eq0-clause-advances
 returns-then-standing-eq0-clause-advances c =
-    group_line _ _ _ _ _ _ _ _ _ c.requires.4 (ap not c.if-not-fits.false) c.group_field-standing.ensures.0 c.if-standing-eq0.true
+    group_line _ _ _ _ _ _ _ _ _ c.requires.4 (ap not c.if-not-fits.false) c.field-standing.ensures.0 c.if-standing-eq0.true
 
 pub cite_from-requires : goal.cite_from-requires
 cite_from-requires c = (
   c.requires.0,
   c.requires.1,
-  c.group_field-k.ensures.1,
-  c.group_field-c.ensures.1,
+  c.field-k.ensures.1,
+  c.field-c.ensures.1,
   c.requires.3,
   c.requires.4,
   lines_stood _ _ _ c.requires.5 _ _ c.put.ensures,
@@ -27,10 +27,10 @@ cite_from-requires c = (
 
 pub returns-then-all_defined-clause-advances : goal.returns-then-all_defined-clause-advances
 returns-then-all_defined-clause-advances c =
-    group_numbered _ _ _ _ _ _ _ _ _ c.requires.4 (ap not c.if-not-fits.false) c.group_field-k.ensures.0 c.group_field-c.ensures.0 c.all_defined.ensures
-    c.group_field-standing.ensures.0 (search rules) c.put.ensures c.if-all_defined.true c.group_field-c.ensures.1 c.cite_from.ensures.advances
+    group_numbered _ _ _ _ _ _ _ _ _ c.requires.4 (ap not c.if-not-fits.false) c.field-k.ensures.0 c.field-c.ensures.0 c.all_defined.ensures
+    c.field-standing.ensures.0 (search rules) c.put.ensures c.if-all_defined.true c.field-c.ensures.1 c.cite_from.ensures.advances
 
 pub returns-else-all_defined-clause-advances : goal.returns-else-all_defined-clause-advances
 returns-else-all_defined-clause-advances c =
-    group_undefined _ _ _ _ _ _ _ _ _ c.requires.4 (ap not c.if-not-fits.false) c.group_field-k.ensures.0 c.group_field-c.ensures.0 c.all_defined.ensures
+    group_undefined _ _ _ _ _ _ _ _ _ c.requires.4 (ap not c.if-not-fits.false) c.field-k.ensures.0 c.field-c.ensures.0 c.all_defined.ensures
     c.if-all_defined.false

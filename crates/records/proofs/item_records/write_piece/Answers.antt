@@ -1,0 +1,6 @@
+use Rattle.std.proofs.Common.{arith}
+use Rattle.records.proofs.RecordLaws.{item_narrow}
+use Rattle.records.proofs.item_records.write_piece.Goals as goal
+
+pub record_of-requires : goal.record_of-requires
+record_of-requires c = item_narrow _ _ _ c.in-Good.ensures (omega arith) (omega arith)
