@@ -9,7 +9,10 @@ ghost use Rattle.line_writers.specs.Writes.{Put, Room, answer_by};
 ghost use Rattle.records.specs.Widths.{group_width, item_width};
 ghost use Rattle.records.specs.Bounds.{record_bound};
 
-use records::{GROUP_COUNT, GROUP_FIRST, GROUP_LENGTH, GROUP_PLACE, GROUP_STANDING, GROUP_WIDTH, ITEM_CODE, ITEM_NUMBER, ITEM_WIDTH, field, key_in};
+use records::{
+    GROUP_COUNT, GROUP_FIRST, GROUP_LENGTH, GROUP_PLACE, GROUP_STANDING, GROUP_WIDTH, ITEM_CODE,
+    ITEM_NUMBER, ITEM_WIDTH, field, key_in,
+};
 
 // The numbers of an answer that the listing says: the number of a refusal, or 0 and the counts of groups, items and sources.
 #[derive(Clone, Copy)]

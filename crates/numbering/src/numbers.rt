@@ -12,8 +12,11 @@ use crate::Numbering;
 use base::least;
 use definition::defined::Defined;
 use definition::{Author, Year};
+use records::{
+    GROUP_COUNT, GROUP_FIRST, GROUP_STANDING, GROUP_WIDTH, ITEM_LABEL, ITEM_LABEL_LENGTH,
+    ITEM_WIDTH, field,
+};
 use uses::Count;
-use records::{GROUP_COUNT, GROUP_FIRST, GROUP_STANDING, GROUP_WIDTH, ITEM_LABEL, ITEM_LABEL_LENGTH, ITEM_WIDTH, field};
 
 // Whether the key of item record `k` is defined.
 fn is_defined(
@@ -281,11 +284,7 @@ pub fn number_group<'a>(
     let k = field::<GROUP_WIDTH>(groups, g, GROUP_FIRST);
     let c = field::<GROUP_WIDTH>(groups, g, GROUP_COUNT);
     if all_defined(text, pool, groups, items, n, end, k, c) {
-        records::put(
-            groups,
-            GROUP_WIDTH * g + GROUP_STANDING,
-            2,
-        );
+        records::put(groups, GROUP_WIDTH * g + GROUP_STANDING, 2);
         cite_from(text, mode, pool, n, end, m, k, c, s, items, groups, labels)
     } else {
         s

@@ -7,7 +7,9 @@ ghost use Rattle.uses.specs.Uses.{used_at, last_use, alike_at, last_alike, set_l
 ghost use Rattle.uses.specs.Uses.{Counts};
 ghost use Rattle.records.specs.Bounds.{record_bound, source_bound};
 
-use records::{ITEM_LABEL, ITEM_LABEL_LENGTH, ITEM_MARKS, ITEM_NUMBER, ITEM_USE, ITEM_WIDTH, field};
+use records::{
+    ITEM_LABEL, ITEM_LABEL_LENGTH, ITEM_MARKS, ITEM_NUMBER, ITEM_USE, ITEM_WIDTH, field,
+};
 
 // The number and the use of an item record, and the sources after it.
 #[derive(Clone, Copy)]
@@ -115,20 +117,8 @@ pub fn set_last(items: &mut [u16], k: usize, number: u16, use_index: u16, at: u1
     requires { k < record_bound }
     ensures { items.new ≡ set_last items.old k number use_index at len }
 {
-    records::put(
-        items,
-        ITEM_WIDTH * k + ITEM_NUMBER,
-        number,
-    );
-    records::put(
-        items,
-        ITEM_WIDTH * k + ITEM_USE,
-        use_index,
-    );
+    records::put(items, ITEM_WIDTH * k + ITEM_NUMBER, number);
+    records::put(items, ITEM_WIDTH * k + ITEM_USE, use_index);
     records::put(items, ITEM_WIDTH * k + ITEM_LABEL, at);
-    records::put(
-        items,
-        ITEM_WIDTH * k + ITEM_LABEL_LENGTH,
-        len,
-    );
+    records::put(items, ITEM_WIDTH * k + ITEM_LABEL_LENGTH, len);
 }
