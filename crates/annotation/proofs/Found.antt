@@ -5,9 +5,9 @@ use mathlib.Core.List.{List, [], ◌∷◌, ◌++◌}
 use mathlib.Core.Bool.{Bool, true, false}
 use lib.ListN.{length}
 use lib.Dec.{ltb}
+use Rattle.std.specs.Prelude.{Option}
 use Rattle.base.specs.Pick.{pick}
 use Rattle.base.specs.Sorted.{Each}
-use Rattle.close.specs.declared.Close.{Close}
 use Rattle.index.specs.Entries.{opens_at}
 use Rattle.resolve.specs.Groups.{GroupAnswer, NoGroup, judge}
 use Rattle.item.specs.Group.{Group, group_of}
@@ -26,7 +26,7 @@ pub each_append : {A : Type 0} (P : A → Type 0) (xs ys : List A) → Each P xs
 each_append P [] ys h k = k
 each_append P (x ∷ xs) ys h k = (h.0, each_append P xs ys h.1 k)
 
-judged_within : (text : List ℕ) (p : ℕ) (c : Close) → Inside text p c → Each (Within text) (found_groups (judge text p c))
+judged_within : (text : List ℕ) (p : ℕ) (c : Option ℕ) → Inside text p c → Each (Within text) (found_groups (judge text p c))
 unfolding group_of
 judged_within text p d k =
     judge_either text p (λ (g : GroupAnswer). Each (Within text) (found_groups g)) d (λ c e f. let i = rw e at k in ((i.0, i.1), tt)) tt

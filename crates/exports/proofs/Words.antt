@@ -7,13 +7,12 @@ use mathlib.Core.Bool.{Bool, true, false, not, ◌&&◌}
 use lib.ListN.{length, length-append}
 use lib.Dec.{eqb, leb, ltb}
 use borrow.Author.Tests.{eqb-true, ltb-false, leb-true}
+use Rattle.std.specs.Prelude.{Option, Some}
 use Rattle.base.specs.Pick.{pick}
 use Rattle.utf8.specs.Utf8.{too_long, utf8}
 use Rattle.text.specs.Escape.{escaped_at}
 use Rattle.utf8.specs.Refusal.{after_text, text_refusal}
 use Rattle.base.specs.Lists.{is_at}
-use Rattle.close.specs.declared.Close.{Close}
-use Rattle.close.specs.declared.Close.TheVariants.{At}
 use Rattle.base.proofs.Bools.{and_right}
 use Rattle.index.specs.declared.Bracket.{Bracket}
 use Rattle.locator.specs.declared.Locator.TheVariants.{Nothing as NoLocator}
@@ -102,14 +101,14 @@ unfolding look_up_refused
 refused_low n items h = record { number = h; close = omega arith; count = omega arith }
 
 module _ (s : List ℕ) (at : ℕ) (items : List ℕ) where
-  judged_low : length s ≤ 65535 → (c : Close) → Inside s at c → Low (look_up_answers (judge s at c) items)
+  judged_low : length s ≤ 65535 → (c : Option ℕ) → Inside s at c → Low (look_up_answers (judge s at c) items)
   unfolding look_up_answers look_up_gives group_of
   judged_low h d k =
       judge_either s at (λ (g : GroupAnswer). Low (look_up_answers g items)) d
       (λ c e f. full c (rw e at k) (ltb (length items) (records_length (group_of s at c))))
       (refused_low 5 items (omega arith))
     where
-      full : (c : ℕ) → Inside s at (At c) → (t : Bool) → Low (pick t (look_up_refused 10 items) (look_up_gives (group_of s at c) items))
+      full : (c : ℕ) → Inside s at (Some c) → (t : Bool) → Low (pick t (look_up_refused 10 items) (look_up_gives (group_of s at c) items))
       full c k true = refused_low 10 items (omega arith)
       full c k false =
           let z = items_size s at c k.0 in

@@ -5,63 +5,67 @@ use mathlib.Core.Path.{◌≡◌, refl, sym, ◌∙◌, ap}
 use mathlib.Core.List.{List, [], ◌∷◌}
 use mathlib.Core.Bool.{Bool, true, false}
 use lib.ListN.{length}
+use Rattle.std.specs.Prelude.{Result, Ok, Err}
+use Rattle.item.specs.declared.BadItem.{BadItem}
 use Rattle.base.specs.Pick.{pick}
 use Rattle.base.specs.First.{first}
-use Rattle.item.specs.declared.Judged.{Judged}
-use Rattle.item.specs.declared.Judged.TheVariants.{Good, Bad}
 use Rattle.item.specs.Items.{item_of, is_good}
 use Rattle.item.specs.Pieces.{Stretch, stretch, semicolon_at, pieces, items_start, pieces_of, parsed, all_good, items_of}
 use Rattle.item.specs.Group.{good_items}
-use Rattle.item.specs.Judge.{first_bad, judged_in, judged_of}
+use Rattle.item.specs.Judge.{bad_item_at, first_bad, judged_in, judged_of}
 use Rattle.item.proofs.Pieces.{pieces_more, pieces_last, items_count}
 
 -- what the judgement says ----------------------------------------------------------------------------------------------------------
 
 -- The items as a judgement and as a Boolean: where all are good it has their number, and else the first bad one.
-pub data JudgedBy (s : List ℕ) (p c : ℕ) : Judged → Type 0 where
-  all_good_lem : good_items s p c ≡ true → JudgedBy s p c (Good (length (items_of s p c)))
-  one_bad : (n : ℕ) → good_items s p c ≡ false → n ≡ first_bad s (pieces_of s p c) → JudgedBy s p c (Bad n)
+pub data JudgedBy (s : List ℕ) (p c : ℕ) : Result ℕ BadItem → Type 0 where
+  all_good_lem : good_items s p c ≡ true → JudgedBy s p c (Ok (length (items_of s p c)))
+  one_bad : (n : ℕ) → good_items s p c ≡ false → n ≡ first_bad s (pieces_of s p c) → JudgedBy s p c (Err (bad_item_at n))
 
 pub judged_by : (s : List ℕ) (p c : ℕ) → JudgedBy s p c (judged_of s p c)
 unfolding judged_of judged_in good_items items_of
 judged_by s p c = go (all_good s (pieces_of s p c)) refl
   where
     go : (t : Bool) → all_good s (pieces_of s p c) ≡ t
-        → JudgedBy s p c (pick t (Good (length (pieces_of s p c))) (Bad (first_bad s (pieces_of s p c))))
+        → JudgedBy s p c (pick t (Ok (length (pieces_of s p c))) (Err (bad_item_at (first_bad s (pieces_of s p c)))))
     go true q = rw (← items_count s (pieces_of s p c) q) (all_good_lem q)
     go false q = one_bad _ q refl
+
+-- the first bad item by its number
+abbrev err : ℕ → Result ℕ BadItem
+err n = Err (bad_item_at n)
 
 -- one piece at a time --------------------------------------------------------------------------------------------------------------
 
 -- the judgement on the pieces that follow `n` good ones, with those
-unfoldable pub past : ℕ → Judged → Judged
-past n (Good count) = Good (n + count)
-past n (Bad item) = Bad (n + item)
+unfoldable pub past : ℕ → Result ℕ BadItem → Result ℕ BadItem
+past n (Ok count) = Ok (n + count)
+past n (Err bad) = Err (bad_item_at (n + bad.item))
 
-past_next : (n : ℕ) (j : Judged) → past n (past 1 j) ≡ past (n + 1) j
+past_next : (n : ℕ) (j : Result ℕ BadItem) → past n (past 1 j) ≡ past (n + 1) j
 unfolding past
-past_next n (Good k) = ap Good (omega arith)
-past_next n (Bad k) = ap Bad (omega arith)
+past_next n (Ok k) = ap Ok (omega arith)
+past_next n (Err bad) = ap err (omega arith)
 
-past_none : (j : Judged) → j ≡ past 0 j
+past_none : (j : Result ℕ BadItem) → j ≡ past 0 j
 unfolding past
-past_none (Good k) = ap Good (omega arith)
-past_none (Bad k) = ap Bad (omega arith)
+past_none (Ok k) = ap Ok (omega arith)
+past_none (Err bad) = ap err (omega arith)
 
 -- a piece before others
 in_good : (s : List ℕ) (x : Stretch) (qs : List Stretch) → is_good (parsed s x) ≡ true → judged_in s (x ∷ qs) ≡ past 1 (judged_in s qs)
 unfolding judged_in all_good first_bad past
 in_good s x qs g = rw g (go (all_good s qs))
   where
-    go : (t : Bool) → pick t (Good (suc (length qs))) (Bad (suc (first_bad s qs))) ≡ past 1 (pick t (Good (length qs)) (Bad (first_bad s qs)))
-    go true = ap Good (omega arith)
-    go false = ap Bad (omega arith)
+    go : (t : Bool) → pick t (Ok (suc (length qs))) (err (suc (first_bad s qs))) ≡ past 1 (pick t (Ok (length qs)) (err (first_bad s qs)))
+    go true = ap Ok (omega arith)
+    go false = ap err (omega arith)
 
-in_one : (s : List ℕ) (x : Stretch) → is_good (parsed s x) ≡ true → judged_in s (x ∷ []) ≡ Good 1
+in_one : (s : List ℕ) (x : Stretch) → is_good (parsed s x) ≡ true → judged_in s (x ∷ []) ≡ Ok 1
 unfolding judged_in all_good
 in_one s x g = rw g
 
-in_bad : (s : List ℕ) (x : Stretch) (qs : List Stretch) → is_good (parsed s x) ≡ false → judged_in s (x ∷ qs) ≡ Bad 0
+in_bad : (s : List ℕ) (x : Stretch) (qs : List Stretch) → is_good (parsed s x) ≡ false → judged_in s (x ∷ qs) ≡ err 0
 unfolding judged_in all_good first_bad
 in_bad s x qs g = rw g
 
@@ -70,22 +74,22 @@ pub judge_start : (s : List ℕ) (p c : ℕ) {a : ℕ} → a ≡ items_start s p
 unfolding judged_of pieces_of
 judge_start s p c d = rw d (past_none _)
 
-module _ (s : List ℕ) (n a e : ℕ) {w : Judged} {q : ℕ} {b : Bool}
+module _ (s : List ℕ) (n a e : ℕ) {w : Result ℕ BadItem} {q : ℕ} {b : Bool}
     (p : w ≡ past n (judged_in s (pieces s a e))) (d : q ≡ first (semicolon_at s) (e - a) a) (g : b ≡ is_good (item_of s a q)) where
   pub judge_more : q < e → b ≡ true → w ≡ past (n + 1) (judged_in s (pieces s (q + 1) e))
   unfolding parsed
   judge_more h t = p ∙ rw (pieces_more s a e d h, in_good s (stretch a q) (pieces s (q + 1) e) (sym g ∙ t)) (past_next n _)
 
-  pub judge_last : e ≤ q → b ≡ true → Good (n + 1) ≡ w
+  pub judge_last : e ≤ q → b ≡ true → Ok (n + 1) ≡ w
   unfolding parsed past
   judge_last h t = sym (p ∙ rw (pieces_last s a e d h, in_one s (stretch a q) (sym g ∙ t)))
 
-  pub judge_bad : q < e → b ≡ false → Bad n ≡ w
+  pub judge_bad : q < e → b ≡ false → err n ≡ w
   unfolding parsed past
-  judge_bad h t = sym (p ∙ rw (pieces_more s a e d h, in_bad s (stretch a q) (pieces s (q + 1) e) (sym g ∙ t)) (ap Bad (omega arith)))
+  judge_bad h t = sym (p ∙ rw (pieces_more s a e d h, in_bad s (stretch a q) (pieces s (q + 1) e) (sym g ∙ t)) (ap err (omega arith)))
 
-  pub judge_bad_last : e ≤ q → b ≡ false → Bad n ≡ w
+  pub judge_bad_last : e ≤ q → b ≡ false → err n ≡ w
   unfolding parsed past
-  judge_bad_last h t = sym (p ∙ rw (pieces_last s a e d h, in_bad s (stretch a q) [] (sym g ∙ t)) (ap Bad (omega arith)))
+  judge_bad_last h t = sym (p ∙ rw (pieces_last s a e d h, in_bad s (stretch a q) [] (sym g ∙ t)) (ap err (omega arith)))
 
 pub ruleset judge_laws = (judge_start, judge_more, judge_last, judge_bad, judge_bad_last)

@@ -9,6 +9,7 @@ use mathlib.Core.Bool.{Bool, true, false, ◌&&◌, not, or-false, true≢false}
 use lib.ListN.{length}
 use lib.Dec.{eqb, ltb}
 use borrow.Author.Tests.{eq-eqb, ne_eqb, lt-ltb, le-ltb, ltb-true, ltb-false}
+use Rattle.std.specs.Prelude.{Some, None}
 use Rattle.base.specs.Pick.{pick}
 use Rattle.base.specs.Lists.{byte_at}
 use Rattle.base.specs.First.{first, first_of}
@@ -24,7 +25,6 @@ use Rattle.key.proofs.Laws.{key_by_lem, key_ends}
 use Rattle.locator.specs.declared.Locator.{Locator}
 use Rattle.locator.specs.Locators.{locator_of}
 use Rattle.item.specs.declared.Item.{Item}
-use Rattle.item.specs.declared.Parsed.TheVariants.{Good, Bad}
 use Rattle.item.specs.Items.{at_sign, key_serves, wins, winner, suppresses, prefix_end, locator_start, item_at, item_in, item_of, is_good}
 use Rattle.item.specs.Pieces.{semicolon_at, plus_at, items_start}
 use Rattle.item.specs.Facts.{MarkServesNot}
@@ -118,17 +118,17 @@ pub in_good : (s : List ℕ) (a e : ℕ) → is_good (item_in s a e) ≡ ltb (wi
 unfolding item_in
 in_good s a e = go (ltb (winner s a e) e) (item_at s a e (winner s a e) (key_end s (winner s a e + 1)))
   where
-    go : (t : Bool) (it : Item) → is_good (pick t (Good it) Bad) ≡ t
+    go : (t : Bool) (it : Item) → is_good (pick t (Some it) None) ≡ t
     go true it = refl
     go false it = refl
 
-in_empty : (s : List ℕ) (a e : ℕ) → e ≤ a → item_in s a e ≡ Bad
+in_empty : (s : List ℕ) (a e : ℕ) → e ≤ a → item_in s a e ≡ None
 unfolding item_in
 in_empty s a e h = rw (le-ltb (winner s a e) e (omega (arith, winner_out s e a refl h)))
 
 module _ (s : List ℕ) (start end : ℕ) {a : ℕ} (p : a ≡ trim_start s start end) where
   -- nothing but white space
-  pub item_empty : end ≤ a → Bad ≡ item_of s start end
+  pub item_empty : end ≤ a → None ≡ item_of s start end
   unfolding item_of
   item_empty h = rw (← p) (sym (in_empty s a (trim_end s a end) (omega (arith, end_by s a end))))
 
@@ -148,11 +148,11 @@ module _ (s : List ℕ) (start end : ℕ) {a : ℕ} (p : a ≡ trim_start s star
     good_is r = rw (← p, ← ends, r) (sym (in_good s a e))
 
     module _ {w : ℕ} (r : w ≡ winner s a e) where
-      pub item_good : {it : Item} → w < e → it ≡ item_at s a e w (key_end s (w + 1)) → Good it ≡ item_of s start end
+      pub item_good : {it : Item} → w < e → it ≡ item_at s a e w (key_end s (w + 1)) → Some it ≡ item_of s start end
       unfolding item_of item_in
       item_good h d = rw (← p, ← ends, ← r, lt-ltb w e h, d)
 
-      pub item_bad : e ≤ w → Bad ≡ item_of s start end
+      pub item_bad : e ≤ w → None ≡ item_of s start end
       unfolding item_of item_in
       item_bad h = rw (← p, ← ends, ← r, le-ltb w e h)
 

@@ -7,6 +7,7 @@ use mathlib.Core.Bool.{Bool, true, false, ◌&&◌, ◌||◌, not, true≢false}
 use lib.ListN.{length}
 use lib.Dec.{eqb, leb, ltb}
 use borrow.Author.Tests.{eqb-true, eqb-false, ne_eqb, ltb-true, ltb-false, leb-true, leb-false}
+use Rattle.std.specs.Prelude.{Some, None}
 use Rattle.base.specs.Pick.{pick}
 use Rattle.base.specs.Lists.{byte_at, part}
 use Rattle.base.specs.First.{first}
@@ -23,7 +24,6 @@ use Rattle.text.specs.Trim.{trim_start, trim_end}
 use Rattle.text.proofs.Trims.{start_by, end_by, end_shift}
 use Rattle.key.specs.Keys.{is_first, is_mark, is_key, run_end, without_marks, key_end}
 use Rattle.key.proofs.Laws.{key_out, key_not, key_yes, run_from, run_by}
-use Rattle.item.specs.declared.Parsed.TheVariants.{Good, Bad}
 use Rattle.item.specs.Items.{at_sign, key_serves, wins, winner, suppresses, prefix_end, locator_start, item_at, item_in, item_of}
 use Rattle.item.specs.Moved.{moved_item, moved_parsed}
 use Rattle.item.specs.Pieces.{stretch, semicolon_at, ends_piece, pieces_in, pieces, plus_at, items_start, pieces_of, parsed}
@@ -317,8 +317,8 @@ module _ (s : List ℕ) (a e : ℕ) (l : a ≤ e) (h : e ≤ length s)
   in_same x y q = rw (winner_same x y q, ltb_move a (winner t x y) y) (go (ltb (winner t x y) y) refl)
     where
       go : (b : Bool) → ltb (winner t x y) y ≡ b
-          → pick b (Good (item_at s (x + a) (y + a) (winner t x y + a) (key_end s (winner t x y + a + 1)))) Bad
-          ≡ moved_parsed a (pick b (Good (item_at t x y (winner t x y) (key_end t (winner t x y + 1)))) Bad)
+          → pick b (Some (item_at s (x + a) (y + a) (winner t x y + a) (key_end s (winner t x y + a + 1)))) None
+          ≡ moved_parsed a (pick b (Some (item_at t x y (winner t x y) (key_end t (winner t x y + 1)))) None)
       go true p =
           let g = ltb-true (winner t x y) y p in
           let f = winner_from x y in

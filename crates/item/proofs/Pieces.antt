@@ -7,12 +7,12 @@ use mathlib.Core.Bool.{Bool, true, false, ◌&&◌, and-true, true≢false}
 use lib.ListN.{length}
 use lib.Dec.{ltb}
 use borrow.Author.Tests.{ltb-true, ltb-false}
+use Rattle.std.specs.Prelude.{Option, Some, None}
 use Rattle.base.specs.Pick.{pick}
 use Rattle.base.specs.First.{first}
 use Rattle.base.proofs.Bools.{and_left, and_right}
 use Rattle.base.proofs.Searches.{first_from, first_by}
-use Rattle.item.specs.declared.Parsed.{Parsed}
-use Rattle.item.specs.declared.Parsed.TheVariants.{Good, Bad}
+use Rattle.item.specs.declared.Item.{Item}
 use Rattle.item.specs.Items.{item_of, is_good}
 use Rattle.item.specs.Pieces.{Stretch, stretch, semicolon_at, ends_piece, pieces_in, pieces, plus_at, items_start, parsed, all_good, kept, items_in}
 
@@ -128,6 +128,6 @@ unfolding items_in all_good
 items_count s [] h = refl
 items_count s (q ∷ qs) h = go (parsed s q) h (λ g. items_count s qs g)
   where
-    go : (r : Parsed) → is_good r && all_good s qs ≡ true → (all_good s qs ≡ true → length (items_in s qs) ≡ length qs) → length (kept r (items_in s qs)) ≡ suc (length qs)
-    go (Good it) h rest = ap suc (rest h)
-    go Bad h rest = absurd (true≢false (sym h))
+    go : (r : Option Item) → is_good r && all_good s qs ≡ true → (all_good s qs ≡ true → length (items_in s qs) ≡ length qs) → length (kept r (items_in s qs)) ≡ suc (length qs)
+    go (Some it) h rest = ap suc (rest h)
+    go None h rest = absurd (true≢false (sym h))

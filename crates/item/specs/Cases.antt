@@ -1,5 +1,6 @@
 -- Cases: items, the pieces of a group and the judgement on them.
-use Rattle.std.specs.Prelude.{ℕ, ◌≡◌, refl, [], ◌∷◌, true, false}
+use Rattle.std.specs.Prelude.{ℕ, ◌≡◌, refl, [], ◌∷◌, true, false, Some, None, Ok, Err}
+use Rattle.item.specs.Judge.{bad_item_at}
 use Rattle.base.specs.Ascii.{ascii}
 use Rattle.base.specs.First.{first}
 use Rattle.base.specs.Last.{last_end}
@@ -11,8 +12,6 @@ use Rattle.key.specs.Keys.{is_first, is_mark, is_key, run_end, without_marks, ke
 use Rattle.locator.specs.declared.Locator.TheVariants.{Nothing, Plain, Labelled}
 use Rattle.locator.specs.Matchers.{matchers}
 use Rattle.locator.specs.Locators.{locator_of, locator_from, labelled, valued, value_end, is_loose, value_run, in_value, roman_end, letters_end, is_digit_or_mark, is_roman, label_of, or_page, match_in, stands, may_follow, fits, lower, skip_blanks}
-use Rattle.item.specs.declared.Parsed.TheVariants.{Good, Bad}
-use Rattle.item.specs.declared.Judged.TheVariants.{Good as AllGood, Bad as FirstBad}
 use Rattle.item.specs.Items.{item_of, item_in, item_at, locator_start, prefix_end, suppresses, winner, wins, key_serves, at_sign}
 use Rattle.item.specs.Pieces.{pieces_of, pieces, pieces_in, semicolon_at, items_start, plus_at, stretch, parsed, all_good}
 use Rattle.item.specs.Judge.{judged_of, judged_in, first_bad}
@@ -28,41 +27,41 @@ opened = 0
 
 -- "`[x -@a, p. 3]` prefix `x`, suppressed, page, `3`"
 page_three : item_of (ascii "[x -@a, p. 3]") 1 12
-    ≡ Good (record { prefix = span 1 1; key = span 5 1; locator = span 8 4; parts = Labelled 9 (span 11 1) missing; suppressed = true })
+    ≡ Some (record { prefix = span 1 1; key = span 5 1; locator = span 8 4; parts = Labelled 9 (span 11 1) missing; suppressed = true })
 unfolding opened
 page_three = refl
 
 -- "`[@a,]` has no locator."
 comma : item_of (ascii "[@a,]") 1 4
-    ≡ Good (record { prefix = missing; key = span 2 1; locator = missing; parts = Nothing; suppressed = false })
+    ≡ Some (record { prefix = missing; key = span 2 1; locator = missing; parts = Nothing; suppressed = false })
 unfolding opened
 comma = refl
 
 -- `[ @a ]`: white space around the item belongs to no part of it
 alone : item_of (ascii "[ @a ]") 1 5
-    ≡ Good (record { prefix = missing; key = span 3 1; locator = missing; parts = Nothing; suppressed = false })
+    ≡ Some (record { prefix = missing; key = span 3 1; locator = missing; parts = Nothing; suppressed = false })
 unfolding opened
 alone = refl
 
 -- "The first .. wins": `[@a, @b]` has the key `a`
 first_wins : item_of (ascii "[@a, @b]") 1 7
-    ≡ Good (record { prefix = missing; key = span 2 1; locator = span 5 2; parts = Plain (span 5 2); suppressed = false })
+    ≡ Some (record { prefix = missing; key = span 2 1; locator = span 5 2; parts = Plain (span 5 2); suppressed = false })
 unfolding opened
 first_wins = refl
 
 -- "In `[@ant., p. 3]` a stop now stands before the comma, and no group is found"
-stop_before_comma : item_of (ascii "[@ant., p. 3]") 1 12 ≡ Bad
+stop_before_comma : item_of (ascii "[@ant., p. 3]") 1 12 ≡ None
 unfolding opened
 stop_before_comma = refl
 
 -- where a key does not serve the next `@` is tried: `[@a.,@b]` has the key `b` and the prefix `@a.,`
 next_wins : item_of (ascii "[@a.,@b]") 1 7
-    ≡ Good (record { prefix = span 1 4; key = span 6 1; locator = missing; parts = Nothing; suppressed = false })
+    ≡ Some (record { prefix = span 1 4; key = span 6 1; locator = missing; parts = Nothing; suppressed = false })
 unfolding opened
 next_wins = refl
 
 -- "`[\@a]` 5"
-escaped : item_of (ascii "[\\@a]") 1 4 ≡ Bad
+escaped : item_of (ascii "[\\@a]") 1 4 ≡ None
 unfolding opened
 escaped = refl
 
@@ -72,16 +71,16 @@ unfolding opened
 two_pieces = refl
 
 -- `[+@a;@b]` has two good items
-both_good : judged_of (ascii "[+@a;@b]") 0 7 ≡ AllGood 2
+both_good : judged_of (ascii "[+@a;@b]") 0 7 ≡ Ok 2
 unfolding opened
 both_good = refl
 
 -- "one bad item means none": the second item of `[@a;b;]` is bad
-second_bad : judged_of (ascii "[@a;b;]") 0 6 ≡ FirstBad 1
+second_bad : judged_of (ascii "[@a;b;]") 0 6 ≡ Err (bad_item_at 1)
 unfolding opened
 second_bad = refl
 
 -- the one item of `[+]` is empty, and so bad
-only_plus : judged_of (ascii "[+]") 0 2 ≡ FirstBad 0
+only_plus : judged_of (ascii "[+]") 0 2 ≡ Err (bad_item_at 0)
 unfolding opened
 only_plus = refl

@@ -1,12 +1,11 @@
 -- Theorems: what the papers claim of an item's parts, and of a key before a mark, proved in proofs/.
-use Rattle.std.specs.Prelude.{ℕ, ◌+◌, ◌-◌, ◌≤◌, ◌<◌, ◌≡◌, List, [], ◌∷◌, false, length}
+use Rattle.std.specs.Prelude.{ℕ, ◌+◌, ◌-◌, ◌≤◌, ◌<◌, ◌≡◌, List, [], ◌∷◌, false, length, Some}
 use Rattle.base.specs.Lists.{byte_at, part}
 use Rattle.base.specs.Sorted.{Each}
 use Rattle.base.specs.declared.Span.{Span}
 use Rattle.base.specs.InOrder.{present_of, InOrder}
 use Rattle.locator.specs.Answers.{value_of, suffix_of}
 use Rattle.item.specs.declared.Item.{Item}
-use Rattle.item.specs.declared.Parsed.TheVariants.{Good}
 use Rattle.key.specs.Keys.{is_key, run_end, key_end}
 use Rattle.item.specs.Items.{item_of, key_serves}
 use Rattle.item.specs.Moved.{moved_parsed}
@@ -19,7 +18,7 @@ parts_of it = it.prefix ∷ it.key ∷ it.locator ∷ value_of it.parts ∷ suff
 -- "the offsets of those present never falling": those parts of a good item that are there lie in its stretch, from `a` to `e`, in this
 -- order
 abbrev pub ItemInOrder : Type 0
-ItemInOrder = (s : List ℕ) (a e : ℕ) (it : Item) → item_of s a e ≡ Good it → InOrder a e (present_of (parts_of it))
+ItemInOrder = (s : List ℕ) (a e : ℕ) (it : Item) → item_of s a e ≡ Some it → InOrder a e (present_of (parts_of it))
 
 -- the parts of each item of a group lie between its bracket at `p` and its close at `c`
 abbrev pub ItemsInOrder : Type 0

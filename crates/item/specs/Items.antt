@@ -1,6 +1,6 @@
 -- Document 01, Corners of the Rust: one item (`parse_item`), a stretch of the text between brackets and `;`.
 -- Places count from the text's start.
-use Rattle.std.specs.Prelude.{ℕ, ◌+◌, ◌-◌, List, Bool, true, false, ◌&&◌, ◌||◌, not, eqb, ltb}
+use Rattle.std.specs.Prelude.{ℕ, ◌+◌, ◌-◌, List, Bool, true, false, ◌&&◌, ◌||◌, not, eqb, ltb, Option, Some, None}
 use Rattle.base.specs.Pick.{pick}
 use Rattle.base.specs.First.{first}
 use Rattle.base.specs.Lists.{byte_at}
@@ -10,8 +10,6 @@ use Rattle.text.specs.Trim.{trim_start, trim_end}
 use Rattle.key.specs.Keys.{key_end}
 use Rattle.locator.specs.Locators.{locator_of}
 use Rattle.item.specs.declared.Item.{Item}
-use Rattle.item.specs.declared.Parsed.{Parsed}
-use Rattle.item.specs.declared.Parsed.TheVariants.{Good, Bad}
 
 -- an unescaped `@` at place `i`
 unfoldable pub at_sign : List ℕ → ℕ → Bool
@@ -54,14 +52,14 @@ item_at s a e i m = record {
 }
 
 -- the item in a stretch that is trimmed
-unfoldable pub item_in : List ℕ → ℕ → ℕ → Parsed
-item_in s a e = pick (ltb (winner s a e) e) (Good (item_at s a e (winner s a e) (key_end s (winner s a e + 1)))) Bad
+unfoldable pub item_in : List ℕ → ℕ → ℕ → Option Item
+item_in s a e = pick (ltb (winner s a e) e) (Some (item_at s a e (winner s a e) (key_end s (winner s a e + 1)))) None
 
 -- the item in the stretch from `a` to `e`: "Trims Unicode white space"
-unfoldable pub item_of : List ℕ → ℕ → ℕ → Parsed
+unfoldable pub item_of : List ℕ → ℕ → ℕ → Option Item
 item_of s a e = item_in s (trim_start s a e) (trim_end s (trim_start s a e) e)
 
 -- a stretch that was parsed to an item
-abbrev pub is_good : Parsed → Bool
-is_good (Good it) = true
-is_good Bad = false
+abbrev pub is_good : Option Item → Bool
+is_good (Some it) = true
+is_good None = false

@@ -1,13 +1,11 @@
 -- Theorems: parts, items and pieces moved by a number of bytes, for `ItemLocal` and `PiecesLocal`.
-use Rattle.std.specs.Prelude.{ℕ, ◌+◌, eqb}
+use Rattle.std.specs.Prelude.{ℕ, ◌+◌, eqb, Option, Some, None}
 use Rattle.base.specs.Pick.{pick}
 use Rattle.base.specs.declared.Span.{Span}
 use Rattle.base.specs.Spans.{span, missing}
 use Rattle.locator.specs.declared.Locator.{Locator}
 use Rattle.locator.specs.declared.Locator.TheVariants.{Nothing, Plain, Labelled}
 use Rattle.item.specs.declared.Item.{Item}
-use Rattle.item.specs.declared.Parsed.{Parsed}
-use Rattle.item.specs.declared.Parsed.TheVariants.{Good, Bad}
 
 -- a span `d` places further on; one that is missing stays so
 unfoldable pub moved_span : ℕ → Span → Span
@@ -30,6 +28,6 @@ moved_item d it = record {
 }
 
 -- what a stretch is parsed to
-abbrev pub moved_parsed : ℕ → Parsed → Parsed
-moved_parsed d (Good it) = Good (moved_item d it)
-moved_parsed d Bad = Bad
+abbrev pub moved_parsed : ℕ → Option Item → Option Item
+moved_parsed d (Some it) = Some (moved_item d it)
+moved_parsed d None = None

@@ -25,18 +25,10 @@ pub struct Item {
     pub suppressed: bool,
 }
 
-// What a stretch of the text is parsed to: an item, or none.
-#[derive(Clone, Copy)]
-pub enum Parsed {
-    Good(Item),
-    Bad,
-}
-
-// The items between a bracket and its close: how many, or which is the first bad one, from 0.
-#[derive(Clone, Copy)]
-pub enum Judged {
-    Good { count: usize },
-    Bad { item: usize },
+// The first bad item between a bracket and its close, by its number from 0.
+#[derive(Clone, Copy, PartialEq, Eq)]
+pub struct BadItem {
+    pub item: usize,
 }
 
 // Whether a `+` stands right after the bracket at `p`.
@@ -170,7 +162,7 @@ fn item_at(text: &[u8], a: usize, e: usize, i: usize) -> Item
 }
 
 // The item in the stretch from `start` to `end`.
-pub fn parse_item(text: &[u8], start: usize, end: usize) -> Parsed
+pub fn parse_item(text: &[u8], start: usize, end: usize) -> Option<Item>
     requires { end ≤ length text.now }
     ensures { result ≡ item_of text.now start end }
 {
@@ -178,18 +170,18 @@ pub fn parse_item(text: &[u8], start: usize, end: usize) -> Parsed
     let a = t.start;
     let e = t.end;
     if end <= a {
-        return Parsed::Bad;
+        return None;
     }
     let i = find_winner(text, a, e);
     if i < e {
-        Parsed::Good(item_at(text, a, e, i))
+        Some(item_at(text, a, e, i))
     } else {
-        Parsed::Bad
+        None
     }
 }
 
-// The judgement on the items between the bracket at `p` and the close at `c`.
-pub fn judge_items(text: &[u8], p: usize, c: usize) -> Judged
+// How many items stand between the bracket at `p` and the close at `c`, where all are good; else the first bad one.
+pub fn judge_items(text: &[u8], p: usize, c: usize) -> Result<usize, BadItem>
     requires { (p < c) × (c < length text.now) }
     ensures { result ≡ judged_of text.now p c }
 {
@@ -202,13 +194,13 @@ pub fn judge_items(text: &[u8], p: usize, c: usize) -> Judged
             from = to + 1;
             to = piece_end(text, from, c);
         } else {
-            return Judged::Bad { item: n };
+            return Err(BadItem { item: n });
         }
     }
     if is_good_item(text, from, to) {
-        Judged::Good { count: n + 1 }
+        Ok(n + 1)
     } else {
-        Judged::Bad { item: n }
+        Err(BadItem { item: n })
     }
 }
 

@@ -7,10 +7,10 @@ use mathlib.Core.Bool.{Bool, true, false, ◌&&◌}
 use lib.ListN.{length}
 use lib.Dec.{eqb, ltb}
 use borrow.Author.Tests.{lt-ltb, le-ltb, eq-eqb, ne_eqb, eqb-true}
+use Rattle.std.specs.Prelude.{Option}
 use Rattle.base.specs.Pick.{pick}
 use Rattle.base.specs.Lists.{written}
 use Rattle.base.proofs.Bools.{and_left}
-use Rattle.close.specs.declared.Close.{Close}
 use Rattle.index.specs.declared.Bracket.{Bracket}
 use Rattle.index.specs.Building.{Enough}
 use Rattle.resolve.specs.declared.Look.{Look}
@@ -67,7 +67,7 @@ module _ {b : Bool} (note : ℕ) where
 pub ruleset prepare_laws = (prepare_refused, prepare_ready, wants_none, wants_look, note_built, note_kept)
 
 -- the answer of a bracket: `m` is what the match gave
-module _ (s : List ℕ) (at note : ℕ) (d : Close) (items : List ℕ) {m : Matched} (q : m ≡ matched (judge s at d)) where
+module _ (s : List ℕ) (at note : ℕ) (d : Option ℕ) (items : List ℕ) {m : Matched} (q : m ≡ matched (judge s at d)) where
   pub answer_none : m ≡ NotMatched → Refused 5 note ≡ look_up_returns (look_up_answers (judge s at d) items) note
   unfolding look_up_returns look_up_answers look_up_refused
   answer_none e = rw (matched_none s at d q e)
@@ -127,10 +127,10 @@ module _ (s : List ℕ) (at note : ℕ) (index items : List ℕ) {p : Prepared} 
     pub ready_there : CanFinish s at p → at < length s
     ready_there f = (rw e at f).1
 
-    pub ready_inside : {d : Close} → CanFinish s at p → d ≡ close_after s at index l → Inside s at d
+    pub ready_inside : {d : Option ℕ} → CanFinish s at p → d ≡ close_after s at index l → Inside s at d
     ready_inside f g = rw g (after_inside s at index l (rw e at f).2)
 
-    module _ {d : Close} (g : d ≡ close_after s at index l) where
+    module _ {d : Option ℕ} (g : d ≡ close_after s at index l) where
       pub finish_answer : {r : LookUp} {b : Bool} {n : ℕ} → b ≡ is_build l → n ≡ note_after b note
           → r ≡ look_up_returns (look_up_answers (judge s at d) items) n → r ≡ finished_of s at note p index items
       unfolding finished_of
@@ -244,7 +244,7 @@ module _ (s : List ℕ) (at note : ℕ) (index : List ℕ) (records : List Brack
     where
       go : (t : Bool) → finished_items s at (P t) (index_after (prepared_wants (P t)) s index) items
           ≡ (pick t (look_up_answers (group_as_run s at note index) items) (look_up_refused r items)).items
-      go true = ap (λ (c : Close). (look_up_answers (judge s at c) items).items) (look_close s at note index)
+      go true = ap (λ (c : Option ℕ). (look_up_answers (judge s at c) items).items) (look_close s at note index)
       go false = refl
 
   -- the index and the bracket records

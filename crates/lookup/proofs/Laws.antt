@@ -4,8 +4,7 @@ use native.Mathlib.Omega.{arith}
 use mathlib.Core.Path.{◌≡◌, refl, sym, ◌∙◌, ap, subst}
 use mathlib.Core.List.{List}
 use lib.ListN.{length}
-use Rattle.close.specs.declared.Close.{Close}
-use Rattle.close.specs.declared.Close.TheVariants.{At}
+use Rattle.std.specs.Prelude.{Option, Some}
 use Rattle.item.specs.Pieces.{items_of}
 use Rattle.item.specs.Group.{group_of}
 use Rattle.resolve.specs.declared.Matched.{Matched}
@@ -18,18 +17,18 @@ use Rattle.records.specs.ItemRecords.{records_length}
 use Rattle.records.specs.Writing.{Writable}
 use Rattle.records.specs.Widths.{item_width}
 
-module _ (s : List ℕ) (p : ℕ) (d : Close) where
+module _ (s : List ℕ) (p : ℕ) (d : Option ℕ) where
   matched_is : {c n : ℕ} → matched (judge s p d) ≡ MatchedGroup c n
-      → (d ≡ At c) × Cited s p c × (judge s p d ≡ Found (group_of s p c)) × (n ≡ length (items_of s p c))
+      → (d ≡ Some c) × Cited s p c × (judge s p d ≡ Found (group_of s p c)) × (n ≡ length (items_of s p c))
   unfolding matched group_of
   matched_is {c} {n} = go (judges s p d)
     where
-      go : {d : Close} {g : GroupAnswer} → Judges s p d g → matched g ≡ MatchedGroup c n
-          → (d ≡ At c) × Cited s p c × (g ≡ Found (group_of s p c)) × (n ≡ length (items_of s p c))
+      go : {d : Option ℕ} {g : GroupAnswer} → Judges s p d g → matched g ≡ MatchedGroup c n
+          → (d ≡ Some c) × Cited s p c × (g ≡ Found (group_of s p c)) × (n ≡ length (items_of s p c))
       go (cites k f) e =
           let j : k ≡ c = cc in
           let i : length (items_of s p k) ≡ n = cc in
-          (ap At j, subst (λ (x : ℕ). Cited s p x) j f, ap (λ (x : ℕ). Found (group_of s p x)) j, sym i ∙ ap (λ (x : ℕ). length (items_of s p x)) j)
+          (ap Some j, subst (λ (x : ℕ). Cited s p x) j f, ap (λ (x : ℕ). Found (group_of s p x)) j, sym i ∙ ap (λ (x : ℕ). length (items_of s p x)) j)
       go no_close e = let y : ◌≡◌ {A = ℕ} 0 1 = cc in absurd (omega (arith, y))
       go (follows k b) e = let y : ◌≡◌ {A = ℕ} 0 1 = cc in absurd (omega (arith, y))
       go (bad_item k i b g j) e = let y : ◌≡◌ {A = ℕ} 0 1 = cc in absurd (omega (arith, y))
@@ -44,7 +43,7 @@ module _ (s : List ℕ) (p : ℕ) (d : Close) where
         go NoGroup h = refl
 
     module _ {c n : ℕ} (e : m ≡ MatchedGroup c n) where
-      matched_at : d ≡ At c
+      matched_at : d ≡ Some c
       matched_at = (matched_is (sym q ∙ e)).0
 
       pub matched_found : judge s p d ≡ Found (group_of s p c)

@@ -5,11 +5,10 @@ use mathlib.Core.Path.{◌≡◌, refl, sym, ◌∙◌}
 use mathlib.Core.List.{List}
 use mathlib.Core.Bool.{Bool, true, false, ◌&&◌, not, true≢false}
 use lib.ListN.{length}
+use Rattle.std.specs.Prelude.{Option, Some, None, Result, Ok, Err}
+use Rattle.item.specs.declared.BadItem.{BadItem}
+use Rattle.item.specs.Judge.{bad_item_at}
 use Rattle.base.specs.Pick.{pick}
-use Rattle.close.specs.declared.Close.{Close}
-use Rattle.close.specs.declared.Close.TheVariants.{At, Nothing}
-use Rattle.item.specs.declared.Judged.{Judged}
-use Rattle.item.specs.declared.Judged.TheVariants.{Good, Bad}
 use Rattle.item.specs.Pieces.{items_of}
 use Rattle.item.specs.Judge.{judged_of}
 use Rattle.item.specs.Group.{good_items, group_of}
@@ -21,33 +20,33 @@ pub record Cited (s : List ℕ) (p c : ℕ) : Type 0 where
   pub clear : barred s c ≡ false
   pub good : good_items s p c ≡ true
   pub accepted : group_accepted s p c ≡ true
-  pub judged : judged_of s p c ≡ Good (length (items_of s p c))
+  pub judged : judged_of s p c ≡ Ok (length (items_of s p c))
 
 -- THE LAW. The bracket at `p` with this close gives a group of which these facts hold, or no group for one of three reasons: it has no
 -- close, a byte after the close bars it, or its item number `n` is the first bad one.
-pub data Judges (s : List ℕ) (p : ℕ) : Close → GroupAnswer → Type 0 where
-  cites : (c : ℕ) → Cited s p c → Judges s p (At c) (Found (group_of s p c))
-  no_close : Judges s p Nothing NoGroup
-  follows : (c : ℕ) → barred s c ≡ true → Judges s p (At c) NoGroup
-  bad_item : (c n : ℕ) → barred s c ≡ false → good_items s p c ≡ false → judged_of s p c ≡ Bad n → Judges s p (At c) NoGroup
+pub data Judges (s : List ℕ) (p : ℕ) : Option ℕ → GroupAnswer → Type 0 where
+  cites : (c : ℕ) → Cited s p c → Judges s p (Some c) (Found (group_of s p c))
+  no_close : Judges s p None NoGroup
+  follows : (c : ℕ) → barred s c ≡ true → Judges s p (Some c) NoGroup
+  bad_item : (c n : ℕ) → barred s c ≡ false → good_items s p c ≡ false → judged_of s p c ≡ Err (bad_item_at n) → Judges s p (Some c) NoGroup
 
-pub judges : (s : List ℕ) (p : ℕ) (d : Close) → Judges s p d (judge s p d)
+pub judges : (s : List ℕ) (p : ℕ) (d : Option ℕ) → Judges s p d (judge s p d)
 unfolding judge group_accepted
-judges s p Nothing = no_close
-judges s p (At c) = go (barred s c) refl (judged_of s p c) refl (judged_by s p c)
+judges s p None = no_close
+judges s p (Some c) = go (barred s c) refl (judged_of s p c) refl (judged_by s p c)
   where
-    go : (b : Bool) → barred s c ≡ b → (j : Judged) → judged_of s p c ≡ j → JudgedBy s p c j
-        → Judges s p (At c) (pick (not b && good_items s p c) (Found (group_of s p c)) NoGroup)
+    go : (b : Bool) → barred s c ≡ b → (j : Result ℕ BadItem) → judged_of s p c ≡ j → JudgedBy s p c j
+        → Judges s p (Some c) (pick (not b && good_items s p c) (Found (group_of s p c)) NoGroup)
     go true q j r by = follows c q
     go false q j r (all_good_lem g) = rw g (cites c (record { clear = q; good = g; accepted = rw (q, g); judged = r }))
     go false q j r (one_bad n g e) = rw g (bad_item c n q g r)
 
 -- what holds of each group, and where there is none, holds of what the bracket gives
-pub judge_either : (s : List ℕ) (p : ℕ) (P : GroupAnswer → Type 0) (d : Close)
-    → ((c : ℕ) → d ≡ At c → Cited s p c → P (Found (group_of s p c))) → P NoGroup → P (judge s p d)
+pub judge_either : (s : List ℕ) (p : ℕ) (P : GroupAnswer → Type 0) (d : Option ℕ)
+    → ((c : ℕ) → d ≡ Some c → Cited s p c → P (Found (group_of s p c))) → P NoGroup → P (judge s p d)
 judge_either s p P d found none = go (judges s p d) found
   where
-    go : {d : Close} {g : GroupAnswer} → Judges s p d g → ((c : ℕ) → d ≡ At c → Cited s p c → P (Found (group_of s p c))) → P g
+    go : {d : Option ℕ} {g : GroupAnswer} → Judges s p d g → ((c : ℕ) → d ≡ Some c → Cited s p c → P (Found (group_of s p c))) → P g
     go (cites c k) f = f c refl k
     go no_close f = none
     go (follows c b) f = none
@@ -55,56 +54,56 @@ judge_either s p P d found none = go (judges s p d) found
 
 -- the law read from left to right
 module _ (s : List ℕ) (p : ℕ) where
-  pub judge_nothing : judge s p Nothing ≡ NoGroup
-  judge_nothing = go (judges s p Nothing)
+  pub judge_nothing : judge s p None ≡ NoGroup
+  judge_nothing = go (judges s p None)
     where
-      go : {g : GroupAnswer} → Judges s p Nothing g → g ≡ NoGroup
+      go : {g : GroupAnswer} → Judges s p None g → g ≡ NoGroup
       go no_close = refl
 
   module _ (c : ℕ) where
-    pub judge_barred : barred s c ≡ true → judge s p (At c) ≡ NoGroup
-    judge_barred b = go (judges s p (At c))
+    pub judge_barred : barred s c ≡ true → judge s p (Some c) ≡ NoGroup
+    judge_barred b = go (judges s p (Some c))
       where
-        go : {g : GroupAnswer} → Judges s p (At c) g → g ≡ NoGroup
+        go : {g : GroupAnswer} → Judges s p (Some c) g → g ≡ NoGroup
         go (cites _ k) = absurd (true≢false (sym b ∙ k.clear))
         go (follows _ q) = refl
         go (bad_item _ n q g j) = refl
 
-    pub judge_bad : good_items s p c ≡ false → judge s p (At c) ≡ NoGroup
-    judge_bad b = go (judges s p (At c))
+    pub judge_bad : good_items s p c ≡ false → judge s p (Some c) ≡ NoGroup
+    judge_bad b = go (judges s p (Some c))
       where
-        go : {g : GroupAnswer} → Judges s p (At c) g → g ≡ NoGroup
+        go : {g : GroupAnswer} → Judges s p (Some c) g → g ≡ NoGroup
         go (cites _ k) = absurd (true≢false (sym k.good ∙ b))
         go (follows _ q) = refl
         go (bad_item _ n q g j) = refl
 
-    pub judge_good : barred s c ≡ false → good_items s p c ≡ true → judge s p (At c) ≡ Found (group_of s p c)
-    judge_good b t = go (judges s p (At c))
+    pub judge_good : barred s c ≡ false → good_items s p c ≡ true → judge s p (Some c) ≡ Found (group_of s p c)
+    judge_good b t = go (judges s p (Some c))
       where
-        go : {g : GroupAnswer} → Judges s p (At c) g → g ≡ Found (group_of s p c)
+        go : {g : GroupAnswer} → Judges s p (Some c) g → g ≡ Found (group_of s p c)
         go (cites _ k) = refl
         go (follows _ q) = absurd (true≢false (sym q ∙ b))
         go (bad_item _ n q g j) = absurd (true≢false (sym t ∙ g))
 
 -- the same of what the items were judged to be
-module _ (s : List ℕ) (p c : ℕ) {n : ℕ} where
-  pub good_all : judged_of s p c ≡ Good n → good_items s p c ≡ true
-  good_all e = go (judged_by s p c) e
+module _ (s : List ℕ) (p c : ℕ) where
+  pub good_all : {n : ℕ} → judged_of s p c ≡ Ok n → good_items s p c ≡ true
+  good_all {n} e = go (judged_by s p c) e
     where
-      go : {j : Judged} → JudgedBy s p c j → j ≡ Good n → good_items s p c ≡ true
+      go : {j : Result ℕ BadItem} → JudgedBy s p c j → j ≡ Ok n → good_items s p c ≡ true
       go (all_good_lem g) e = g
       go (one_bad k g q) e = let y : ◌≡◌ {A = ℕ} 0 1 = cc in absurd (omega (arith, y))
 
-  pub good_count : judged_of s p c ≡ Good n → n ≡ length (items_of s p c)
-  good_count e = go (judged_by s p c) e
+  pub good_count : {n : ℕ} → judged_of s p c ≡ Ok n → n ≡ length (items_of s p c)
+  good_count {n} e = go (judged_by s p c) e
     where
-      go : {j : Judged} → JudgedBy s p c j → j ≡ Good n → n ≡ length (items_of s p c)
+      go : {j : Result ℕ BadItem} → JudgedBy s p c j → j ≡ Ok n → n ≡ length (items_of s p c)
       go (all_good_lem g) e = cc
       go (one_bad k g q) e = let y : ◌≡◌ {A = ℕ} 0 1 = cc in absurd (omega (arith, y))
 
-  pub bad_some : judged_of s p c ≡ Bad n → good_items s p c ≡ false
-  bad_some e = go (judged_by s p c) e
+  pub bad_some : {e : BadItem} → judged_of s p c ≡ Err e → good_items s p c ≡ false
+  bad_some {e} q = go (judged_by s p c) q
     where
-      go : {j : Judged} → JudgedBy s p c j → j ≡ Bad n → good_items s p c ≡ false
+      go : {j : Result ℕ BadItem} → JudgedBy s p c j → j ≡ Err e → good_items s p c ≡ false
       go (all_good_lem g) e = let y : ◌≡◌ {A = ℕ} 0 1 = cc in absurd (omega (arith, y))
       go (one_bad k g q) e = g

@@ -3,10 +3,9 @@ use Prim.Native.Nat.{ℕ, ◌+◌, ◌<◌}
 use native.Mathlib.Omega.{arith}
 use mathlib.Core.Path.{◌≡◌, refl, subst}
 use lib.ListN.{length}
+use Rattle.std.specs.Prelude.{Option, Some, None}
 use Rattle.base.specs.Sorted.{Each}
 use Rattle.base.specs.InOrder.{present_of, InOrder}
-use Rattle.close.specs.declared.Close.{Close}
-use Rattle.close.specs.declared.Close.TheVariants.{At, Nothing}
 use Rattle.close.specs.Scan.{close_of}
 use Rattle.close.proofs.Laws.{close_there}
 use Rattle.item.specs.declared.Item.{Item}
@@ -29,11 +28,11 @@ group_in_order s p g = go (close_of s p) refl (judges s p (close_of s p))
     no_group : NoGroup ≡ Found g → ⊥
     no_group e = let z : ◌≡◌ {A = ℕ} 0 1 = cc in omega (arith, z)
 
-    go : (d : Close) → close_of s p ≡ d → {a : GroupAnswer} → Judges s p d a → a ≡ Found g → Says g
-    go (At c) e (cites _ k) h =
+    go : (d : Option ℕ) → close_of s p ≡ d → {a : GroupAnswer} → Judges s p d a → a ≡ Found g → Says g
+    go (Some c) e (cites _ k) h =
         let k = close_there s p c e in
         let q : group_of s p c ≡ g = cc in
         subst (λ (x : Group). Says x) q (refl, k.0, k.1, items_in_order s p c k.0 k.2)
-    go (At c) e (follows _ q) h = absurd (no_group h)
-    go (At c) e (bad_item _ n q b j) h = absurd (no_group h)
-    go Nothing e no_close h = absurd (no_group h)
+    go (Some c) e (follows _ q) h = absurd (no_group h)
+    go (Some c) e (bad_item _ n q b j) h = absurd (no_group h)
+    go None e no_close h = absurd (no_group h)

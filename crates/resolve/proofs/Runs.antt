@@ -3,21 +3,14 @@ use Prim.Native.Nat.{ℕ}
 use mathlib.Core.Path.{◌≡◌, refl}
 use mathlib.Core.List.{List}
 use mathlib.Core.Bool.{Bool, true, false, ◌&&◌, not}
+use Rattle.std.specs.Prelude.{Option}
 use Rattle.base.specs.Pick.{pick}
-use Rattle.close.specs.declared.Close.{Close}
-use Rattle.close.specs.declared.Close.TheVariants.{At, Nothing}
 use Rattle.index.specs.Built.{built_index, index_after}
 use Rattle.resolve.specs.declared.Look.{Look}
-use Rattle.resolve.specs.declared.Look.TheVariants.{At as LookAt, Nothing as LookNothing, Build}
-use Rattle.resolve.specs.Resolve.{is_built, stored_close, short_look, settled, shortened, look_of, is_build, close_after, close_as_run, wants_build}
+use Rattle.resolve.specs.declared.Look.TheVariants.{Known, Build}
+use Rattle.resolve.specs.Resolve.{is_built, stored_close, short_look, shortened, look_of, is_build, close_after, close_as_run, wants_build}
 use Rattle.resolve.specs.Looks.{Inside}
 use Rattle.resolve.proofs.Laws.{look_inside, after_inside}
-
--- a close that an index has stays what it is
-pub settled_after : (s : List ℕ) (p : ℕ) (index : List ℕ) (d : Close) → close_after s p index (settled d) ≡ d
-unfolding close_after
-settled_after s p index (At c) = refl
-settled_after s p index Nothing = refl
 
 module _ (s : List ℕ) (at note : ℕ) (index : List ℕ) where
   -- a look asks for the build exactly where the call as run wants one
@@ -25,9 +18,8 @@ module _ (s : List ℕ) (at note : ℕ) (index : List ℕ) where
   unfolding look_of wants_build
   look_wants = go (is_built note) (stored_close s at index)
     where
-      go : (t : Bool) (d : Close) → is_build (pick t (settled d) (shortened s at (short_look s at))) ≡ not t && is_build (shortened s at (short_look s at))
-      go true (At k) = refl
-      go true Nothing = refl
+      go : (t : Bool) (d : Option ℕ) → is_build (pick t (Known d) (shortened s at (short_look s at))) ≡ not t && is_build (shortened s at (short_look s at))
+      go true d = refl
       go false d = refl
 
   -- and then the close after it is that of the call as run
@@ -36,8 +28,7 @@ module _ (s : List ℕ) (at note : ℕ) (index : List ℕ) where
   look_close = go (look_of s at note index)
     where
       go : (l : Look) → close_after s at (index_after (is_build l) s index) l ≡ close_after s at (built_index s index) l
-      go (LookAt c) = refl
-      go LookNothing = refl
+      go (Known d) = refl
       go Build = refl
 
   -- which so lies after its bracket, in the text, at a `]`

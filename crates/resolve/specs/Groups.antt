@@ -1,9 +1,7 @@
 -- Document 01, Corners of the Rust: the group at a bracket (`match_citation`).
-use Rattle.std.specs.Prelude.{ℕ, ◌+◌, List, Bool, ◌||◌, ◌&&◌, not, eqb}
+use Rattle.std.specs.Prelude.{ℕ, ◌+◌, List, Bool, ◌||◌, ◌&&◌, not, eqb, Option, Some, None}
 use Rattle.base.specs.Pick.{pick}
 use Rattle.base.specs.Lists.{byte_at}
-use Rattle.close.specs.declared.Close.{Close}
-use Rattle.close.specs.declared.Close.TheVariants.{At, Nothing}
 use Rattle.close.specs.Scan.{close_of}
 use Rattle.item.specs.Group.{Group, good_items, group_of}
 
@@ -21,9 +19,9 @@ unfoldable pub group_accepted : List ℕ → ℕ → ℕ → Bool
 group_accepted s p c = not (barred s c) && good_items s p c
 
 -- "With a close, `match_citation` judges the items and the byte after it."
-unfoldable pub judge : List ℕ → ℕ → Close → GroupAnswer
-judge s p (At c) = pick (group_accepted s p c) (Found (group_of s p c)) NoGroup
-judge s p Nothing = NoGroup
+unfoldable pub judge : List ℕ → ℕ → Option ℕ → GroupAnswer
+judge s p (Some c) = pick (group_accepted s p c) (Found (group_of s p c)) NoGroup
+judge s p None = NoGroup
 
 -- what the unescaped `[` at `p` gives by the unlimited scan
 unfoldable pub group_at : List ℕ → ℕ → GroupAnswer

@@ -8,13 +8,13 @@ use mathlib.Core.Bool.{Bool, true, false}
 use lib.ListN.{length}
 use lib.Dec.{ltb}
 use borrow.Author.Tests.{ltb-true}
+use Rattle.std.specs.Prelude.{Some, None}
 use Rattle.base.specs.Pick.{pick}
 use Rattle.base.proofs.Searches.{first_from, first_holds}
 use Rattle.text.specs.Trim.{trim_start, trim_end}
 use Rattle.text.proofs.Trims.{start_from, end_by}
 use Rattle.key.specs.Keys.{key_end}
 use Rattle.item.specs.declared.Item.{Item}
-use Rattle.item.specs.declared.Parsed.TheVariants.{Good, Bad}
 use Rattle.item.specs.Items.{wins, winner, item_at, item_in, item_of}
 use Rattle.item.proofs.Parts.{wins_by}
 use Rattle.item.specs.Pieces.{stretch, semicolon_at, ends_piece, pieces_in, pieces, plus_at, items_start, pieces_of, parsed, kept, items_in, items_of}
@@ -43,7 +43,7 @@ module _ (s : List ℕ) (w : Item → ℕ) (light : Light s w) where
   kept_weight a e n rest h = go (ltb (winner s a e) e) refl (item_at s a e (winner s a e) (key_end s (winner s a e + 1))) (winner_light a e)
     where
       go : (t : Bool) → ltb (winner s a e) e ≡ t → (it : Item) → (winner s a e < e → w it ≤ e - a + 1)
-          → weight w (kept (pick t (Good it) Bad) rest) ≤ n + 1 + weight w rest
+          → weight w (kept (pick t (Some it) None) rest) ≤ n + 1 + weight w rest
       go true q it k = let z = k (ltb-true _ _ q) in omega arith
       go false q it k = omega arith
 

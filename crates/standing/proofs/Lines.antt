@@ -7,12 +7,11 @@ use mathlib.Core.Bool.{Bool, true, false, ◌&&◌, not, and-false, and-true, tr
 use lib.ListN.{length}
 use lib.Dec.{eqb, leb, ltb}
 use borrow.Author.Tests.{lt-ltb, le-ltb, leb-true, leb-false, ltb-true, ltb-false}
+use Rattle.std.specs.Prelude.{Option, Some, None}
 use Rattle.base.specs.First.{first}
 use Rattle.base.proofs.Searches.{first_by}
 use Rattle.base.proofs.Bools.{and_right}
 use Rattle.item.specs.declared.Item.{Item}
-use Rattle.item.specs.declared.Parsed.{Parsed}
-use Rattle.item.specs.declared.Parsed.TheVariants.{Good, Bad}
 use Rattle.item.specs.Items.{item_of, is_good}
 use Rattle.item.specs.Pieces.{semicolon_at, pieces, items_start, pieces_of, all_good, kept, items_in, items_of}
 use Rattle.item.proofs.Pieces.{piece_by, pieces_more, pieces_last, items_more, items_last, first_good, rest_good, items_count}
@@ -41,9 +40,9 @@ module _ (s : List ℕ) (a e : ℕ) (g : all_good s (pieces s a e) ≡ true) (on
       q : ℕ
       q = first (semicolon_at s) (e - a) a
 
-      two : (r : Parsed) (n : ℕ) (rest : List Item) → is_good r ≡ true → n ≡ length rest → 1 ≤ n → length (kept r rest) ≡ 1 → ⊥
-      two (Good it) n rest h m k l = omega arith
-      two Bad n rest h m k l = let z : ◌≡◌ {A = ℕ} 0 1 = cc in omega arith
+      two : (r : Option Item) (n : ℕ) (rest : List Item) → is_good r ≡ true → n ≡ length rest → 1 ≤ n → length (kept r rest) ≡ 1 → ⊥
+      two (Some it) n rest h m k l = omega arith
+      two None n rest h m k l = let z : ◌≡◌ {A = ℕ} 0 1 = cc in omega arith
 
       few : (n : ℕ) → n * 3 ≤ q - a + 1 → n ≡ 1 → q ≤ a → ⊥
       few n h k l = omega arith
@@ -85,15 +84,15 @@ module _ (s : List ℕ) (p c n : ℕ) (h : GroupFrom s p c n) where
   unfolding items_of pieces_of
   only_one e = one_item s (items_start s p) c all_good_lem (sym h.counts ∙ e)
 
-  module _ {a : ℕ} {r : Parsed} (e : n ≡ 1) (i : a ≡ items_start s p) (q : r ≡ item_of s a c) where
-    pub only_good : {it : Item} → r ≡ Good it
+  module _ {a : ℕ} {r : Option Item} (e : n ≡ 1) (i : a ≡ items_start s p) (q : r ≡ item_of s a c) where
+    pub only_good : {it : Item} → r ≡ Some it
         → (eqb it.prefix.len 0 && eqb it.locator.len 0 && not it.suppressed) ≡ only_key (items_of s p c)
     unfolding only_key bare_item
-    only_good {it} g = let z : item_of s (items_start s p) c ≡ Good it = cc in rw (only_one e, z)
+    only_good {it} g = let z : item_of s (items_start s p) c ≡ Some it = cc in rw (only_one e, z)
 
-    pub only_bad : r ≡ Bad → false ≡ only_key (items_of s p c)
+    pub only_bad : r ≡ None → false ≡ only_key (items_of s p c)
     unfolding only_key
-    only_bad g = let z : item_of s (items_start s p) c ≡ Bad = cc in rw (only_one e, z)
+    only_bad g = let z : item_of s (items_start s p) c ≡ None = cc in rw (only_one e, z)
 
   pub only_more : (n ≡ 1 → ⊥) → false ≡ only_key (items_of s p c)
   unfolding only_key

@@ -6,10 +6,10 @@ use mathlib.Core.List.{List}
 use mathlib.Core.Bool.{Bool, true, false, not}
 use lib.ListN.{length}
 use borrow.Author.Tests.{lt-ltb, eq-eqb}
+use Rattle.std.specs.Prelude.{Some}
 use Rattle.base.specs.Pick.{pick}
 use Rattle.base.specs.Lists.{byte_at}
 use Rattle.text.specs.Escape.{escaped_at}
-use Rattle.close.specs.declared.Close.TheVariants.{At}
 use Rattle.index.specs.Built.{index_after}
 use Rattle.index.specs.Entries.{opens_at}
 use Rattle.resolve.specs.declared.Look.{Look}
@@ -30,7 +30,7 @@ use Rattle.sweep.specs.Steps.{sweep_step, step_at}
 
 -- a close that it gives lies after the bracket, in the text, at a `]`
 module _ (s : List ℕ) (p note : ℕ) (index : List ℕ) {l : Look} {c : ℕ} (k : l ≡ look_of s p note index) (z : l ≡ LookAt c) where
-  found_inside : Inside s p (At c)
+  found_inside : Inside s p (Some c)
   found_inside = let e : look_of s p note index ≡ LookAt c = sym k ∙ z in rw e at (look_inside s p note index)
 
   pub found_after : p < c
@@ -91,14 +91,14 @@ module _ (s : List ℕ) (note : ℕ) (index : List ℕ) (p : ℕ) where
       unfolding close_after
       step_none z = sym (judged (ap is_build z) ∙ rw (z, judge_nothing s p))
 
-      module _ {c : ℕ} {m : Matched} (z : l ≡ LookAt c) (j : m ≡ matched (judge s p (At c))) where
-        by_match : step_at s note index p ≡ sweep_step (judge s p (At c))
+      module _ {c : ℕ} {m : Matched} (z : l ≡ LookAt c) (j : m ≡ matched (judge s p (Some c))) where
+        by_match : step_at s note index p ≡ sweep_step (judge s p (Some c))
         unfolding close_after
         by_match = judged (ap is_build z) ∙ ap (λ (x : Look). sweep_step (judge s p (close_after s p index x))) z
 
         pub step_group : {close count : ℕ} → m ≡ MatchedGroup close count → StepGroup close count ≡ step_at s note index p
         unfolding matched
-        step_group {close} {count} g = sym (by_match ∙ go (judge s p (At c)) (sym j ∙ g))
+        step_group {close} {count} g = sym (by_match ∙ go (judge s p (Some c)) (sym j ∙ g))
           where
             go : (a : GroupAnswer) → matched a ≡ MatchedGroup close count → sweep_step a ≡ StepGroup close count
             go (Found x) t = cc
@@ -106,7 +106,7 @@ module _ (s : List ℕ) (note : ℕ) (index : List ℕ) (p : ℕ) where
 
         pub step_bad : m ≡ NotMatched → Next ≡ step_at s note index p
         unfolding matched
-        step_bad g = sym (by_match ∙ go (judge s p (At c)) (sym j ∙ g))
+        step_bad g = sym (by_match ∙ go (judge s p (Some c)) (sym j ∙ g))
           where
             go : (a : GroupAnswer) → matched a ≡ NotMatched → sweep_step a ≡ Next
             go (Found x) t = let y : ◌≡◌ {A = ℕ} 0 1 = cc in absurd (omega (arith, y))

@@ -7,8 +7,8 @@ use mathlib.Core.Bool.{Bool, true, false, ◌&&◌, not, true≢false}
 use lib.ListN.{length}
 use lib.Dec.{eqb, ltb}
 use borrow.Author.Tests.{ltb-true, ltb-false, le-ltb}
+use Rattle.std.specs.Prelude.{Option}
 use Rattle.base.specs.Pick.{pick}
-use Rattle.close.specs.declared.Close.{Close}
 use Rattle.index.specs.Entries.{opens_at}
 use Rattle.index.specs.Built.{built_index}
 use Rattle.resolve.specs.declared.Look.{Look}
@@ -24,7 +24,7 @@ use Rattle.resolve.proofs.Judges.{judge_either}
 use Rattle.resolve.proofs.Runs.{settled_after, run_inside}
 
 -- a sweep goes on by a byte or more
-next_judged : (s : List ℕ) (p : ℕ) (c : Close) → Inside s p c → p < next_at p (judge s p c)
+next_judged : (s : List ℕ) (p : ℕ) (c : Option ℕ) → Inside s p c → p < next_at p (judge s p c)
 unfolding group_of
 next_judged s p d h = judge_either s p (λ (g : GroupAnswer). p < next_at p g) d (λ c e k. let i = (rw e at h).0 in omega arith) (omega arith)
 

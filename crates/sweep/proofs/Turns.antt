@@ -7,11 +7,11 @@ use mathlib.Core.Bool.{Bool, true, false, true≢false}
 use lib.ListN.{length}
 use lib.Dec.{eqb}
 use borrow.Author.Tests.{lt-ltb, eqb-true}
+use Rattle.std.specs.Prelude.{Option}
 use Rattle.base.specs.Pick.{pick}
 use Rattle.base.specs.First.{first, first_of}
 use Rattle.base.specs.Lists.{byte_at}
 use Rattle.base.proofs.Searches.{first_from, first_by, first_holds}
-use Rattle.close.specs.declared.Close.{Close}
 use Rattle.item.specs.Pieces.{items_of}
 use Rattle.index.specs.Entries.{opens_at}
 use Rattle.resolve.specs.Groups.{GroupAnswer, Found, NoGroup, group_accepted, judge}
@@ -115,7 +115,7 @@ module _ (text : List ℕ) (note : ℕ) (index : List ℕ) (at : ℕ) where
   unfolding step_at found_with group_as_run group_of
   step_found close count = go (wants_at text note at) refl
     where
-      closed : {c : Close} {g : GroupAnswer} → Judges text at c g → Inside text at c → wants_at text note at ≡ false
+      closed : {c : Option ℕ} {g : GroupAnswer} → Judges text at c g → Inside text at c → wants_at text note at ≡ false
           → found_with text note index at ≡ g → sweep_step g ≡ StepGroup close count → StepFound text note index at close count
       closed (cites c k) i w f e =
           let x : c ≡ close = cc in
