@@ -5,13 +5,12 @@ use mathlib.Core.Path.{◌≡◌, refl, sym, ◌∙◌, ap}
 use mathlib.Core.List.{List, [], ◌∷◌, ◌++◌, flat_map, append-nil}
 use mathlib.Core.Bool.{true, true≢false}
 use lib.ListN.{length, take, drop, length-append}
+use Rattle.std.specs.Prelude.{Option, Some, None}
 use Rattle.base.specs.First.{first}
 use Rattle.base.specs.Lists.{written}
 use Rattle.base.specs.declared.Span.{Span}
 use Rattle.base.proofs.Areas.{rest_room, came_back, back_length, back_next}
 use Rattle.item.specs.declared.Item.{Item}
-use Rattle.item.specs.declared.Parsed.{Parsed}
-use Rattle.item.specs.declared.Parsed.TheVariants.{Good, Bad}
 use Rattle.item.specs.Items.{item_of, is_good}
 use Rattle.item.specs.Pieces.{semicolon_at, pieces, items_start, pieces_of, all_good, kept, items_in, items_of}
 use Rattle.item.specs.Facts.{parts_of}
@@ -42,7 +41,7 @@ records_length_lem g = records_in_length g.items
 narrow_within : {p : Span} {e : ℕ} → e ≤ 65535 → p.at + p.len ≤ e → Narrow p
 narrow_within h k = (omega arith, omega arith)
 
-module _ (s : List ℕ) (a e : ℕ) {it : Item} (q : Good it ≡ item_of s a e) where
+module _ (s : List ℕ) (a e : ℕ) {it : Item} (q : Some it ≡ item_of s a e) where
   pub item_narrow : e ≤ length s → length s ≤ 65535 → NarrowItem it
   unfolding parts_of
   item_narrow h k =
@@ -59,7 +58,7 @@ module _ (s : List ℕ) (a e : ℕ) {it : Item} (q : Good it ≡ item_of s a e) 
   unfolding piece_record written
   piece_good row o = rw (← q, o, record_length it) refl
 
-pub piece_bad : (s : List ℕ) (a e : ℕ) (row : List ℕ) → Bad ≡ item_of s a e → row ≡ written (piece_record (item_of s a e)) row
+pub piece_bad : (s : List ℕ) (a e : ℕ) (row : List ℕ) → None ≡ item_of s a e → row ≡ written (piece_record (item_of s a e)) row
 unfolding piece_record written
 piece_bad s a e row q = rw (← q) refl
 
@@ -68,19 +67,19 @@ pub ruleset piece_record_laws = (item_narrow, piece_good, piece_bad)
 -- all records of a group -----------------------------------------------------------------------------------------------------------
 
 -- a piece and those after it
-kept_records : (r : Parsed) (rest : List Item) → records_in (kept r rest) ≡ piece_record r ++ records_in rest
+kept_records : (r : Option Item) (rest : List Item) → records_in (kept r rest) ≡ piece_record r ++ records_in rest
 unfolding flat_map piece_record
-kept_records (Good it) rest = refl
-kept_records Bad rest = refl
+kept_records (Some it) rest = refl
+kept_records None rest = refl
 
-kept_length : (r : Parsed) (rest : List Item) → is_good r ≡ true → length (kept r rest) ≡ suc (length rest)
-kept_length (Good it) rest g = refl
-kept_length Bad rest g = absurd (true≢false (sym g))
+kept_length : (r : Option Item) (rest : List Item) → is_good r ≡ true → length (kept r rest) ≡ suc (length rest)
+kept_length (Some it) rest g = refl
+kept_length None rest g = absurd (true≢false (sym g))
 
-piece_length : (r : Parsed) → is_good r ≡ true → length (piece_record r) ≡ item_width
+piece_length : (r : Option Item) → is_good r ≡ true → length (piece_record r) ≡ item_width
 unfolding piece_record
-piece_length (Good it) g = record_length it
-piece_length Bad g = absurd (true≢false (sym g))
+piece_length (Some it) g = record_length it
+piece_length None g = absurd (true≢false (sym g))
 
 -- The loop: the pieces from `from` on are left, and their records belong to `items` from `n` on.
 pub record Writing (s : List ℕ) (p c : ℕ) (items₀ : List ℕ) (items : List ℕ) (from n : ℕ) : Type 0 where

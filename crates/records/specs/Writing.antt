@@ -1,18 +1,16 @@
 -- Follows the code; nothing to believe: item records as they are written, and the pairs that fit one.
-use Rattle.std.specs.Prelude.{ℕ, ◌+◌, ◌≤◌, ◌<◌, ◌≡◌, List, [], ◌∷◌, true, length, set}
+use Rattle.std.specs.Prelude.{ℕ, ◌+◌, ◌≤◌, ◌<◌, ◌≡◌, List, [], ◌∷◌, true, length, set, Option, Some, None}
 use Rattle.base.specs.declared.Span.{Span}
 use Rattle.locator.specs.declared.Locator.{Locator}
 use Rattle.locator.specs.Answers.{value_of, suffix_of}
 use Rattle.item.specs.declared.Item.{Item}
-use Rattle.item.specs.declared.Parsed.{Parsed}
-use Rattle.item.specs.declared.Parsed.TheVariants.{Good, Bad}
 use Rattle.item.specs.Group.{good_items, group_of}
 use Rattle.records.specs.ItemRecords.{unnumbered_record, records_length}
 
 -- the record of what a piece of a group was parsed to
-unfoldable pub piece_record : Parsed → List ℕ
-piece_record (Good it) = unnumbered_record it
-piece_record Bad = []
+unfoldable pub piece_record : Option Item → List ℕ
+piece_record (Some it) = unnumbered_record it
+piece_record None = []
 
 -- a row after some numbers were put at `k` and the places after it
 unfoldable pub put_at : ℕ → List ℕ → List ℕ → List ℕ

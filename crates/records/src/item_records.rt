@@ -9,7 +9,7 @@ ghost use Rattle.records.specs.Writing.{piece_record, NarrowItem, Writable};
 ghost use Rattle.records.specs.Widths.{item_width};
 
 use crate::ITEM_WIDTH;
-use item::{Item, Parsed, items_start, parse_item, piece_end};
+use item::{Item, items_start, parse_item, piece_end};
 use locator::{code_of, suffix_of, value_of};
 
 // The record of an item.
@@ -46,7 +46,7 @@ fn write_piece(text: &[u8], from: usize, to: usize, row: &mut [u16])
     requires { (to ≤ length text.now) × (length text.now ≤ 65535) × (item_width ≤ length row.old) }
     ensures { row.new ≡ written (piece_record (item_of text.now from to)) row.old }
 {
-    if let Parsed::Good(item) = parse_item(text, from, to) {
+    if let Some(item) = parse_item(text, from, to) {
         row[..ITEM_WIDTH].copy_from_slice(&record_of(item));
     }
 }

@@ -1,7 +1,6 @@
 // The kinds of a group's parts: close, locator and item. A body is the request's numbers, the answer's numbers, the text.
 use base::Span;
-use close::Close;
-use item::{Item, Parsed};
+use item::Item;
 use locator::Locator;
 use lookup::LocatorAnswer;
 use replay_body::body::{after, flag, number};
@@ -12,10 +11,10 @@ fn limit(n: usize) -> usize {
 }
 
 // Whether a close is the stored one: 1 and its place, or 0 and 0.
-fn is_close(close: Close, body: &[u8]) -> bool {
+fn is_close(close: Option<usize>, body: &[u8]) -> bool {
     match close {
-        Close::At(c) => (number(body, 4) == 1) & (number(body, 6) == c),
-        Close::Nothing => (number(body, 4) == 0) & (number(body, 6) == 0),
+        Some(c) => (number(body, 4) == 1) & (number(body, 6) == c),
+        None => (number(body, 4) == 0) & (number(body, 6) == 0),
     }
 }
 
@@ -66,10 +65,10 @@ fn is_item(item: Item, body: &[u8]) -> bool {
 }
 
 // Whether an answer is the stored one: 1 and the record, or 0.
-fn is_parsed(parsed: Parsed, body: &[u8]) -> bool {
+fn is_parsed(parsed: Option<Item>, body: &[u8]) -> bool {
     match parsed {
-        Parsed::Good(item) => (number(body, 0) == 1) & is_item(item, after(body, 2)),
-        Parsed::Bad => number(body, 0) == 0,
+        Some(item) => (number(body, 0) == 1) & is_item(item, after(body, 2)),
+        None => number(body, 0) == 0,
     }
 }
 

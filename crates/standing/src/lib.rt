@@ -10,7 +10,7 @@ ghost use Rattle.definition_line.specs.Lines.{only_key, defines, in_line};
 ghost use Rattle.standing.specs.Stands.{GroupFrom};
 
 use definition_line::{break_at, in_definition_place};
-use item::{Parsed, items_start, parse_item};
+use item::{items_start, parse_item};
 
 // Whether the group from `at` to `close`, of `count` items, is a key alone: "one item, no prefix, no locator, not suppressed".
 fn is_only_key(text: &[u8], at: usize, close: usize, count: usize) -> bool
@@ -20,8 +20,8 @@ fn is_only_key(text: &[u8], at: usize, close: usize, count: usize) -> bool
     if count == 1 {
         let parsed = parse_item(text, items_start(text, at), close);
         match parsed {
-            Parsed::Good(it) => (it.prefix.len == 0) & (it.locator.len == 0) & !it.suppressed,
-            Parsed::Bad => false,
+            Some(it) => (it.prefix.len == 0) & (it.locator.len == 0) & !it.suppressed,
+            None => false,
         }
     } else {
         false

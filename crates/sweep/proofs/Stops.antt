@@ -12,16 +12,16 @@ use Rattle.base.specs.Pick.{pick}
 use Rattle.index.specs.Entries.{opens_at}
 use Rattle.index.specs.Built.{built_index}
 use Rattle.resolve.specs.declared.Look.{Look}
-use Rattle.resolve.specs.declared.Look.TheVariants.{At as LookAt, Nothing as LookNothing, Build}
+use Rattle.resolve.specs.declared.Look.TheVariants.{Known, Build}
 use Rattle.resolve.specs.Groups.{GroupAnswer, NoGroup, judge}
 use Rattle.item.specs.Group.{Group, group_of}
-use Rattle.resolve.specs.Resolve.{stored_close, short_look, settled, shortened, look_of, is_build, close_after, close_as_run, group_as_run, wants_build, note_after, index_after, records_after}
+use Rattle.resolve.specs.Resolve.{stored_close, short_look, shortened, look_of, is_build, close_after, close_as_run, group_as_run, wants_build, note_after, index_after, records_after}
 use Rattle.sweep.specs.Sweep.{Lent, swept, found_groups, next_at, lent_after, found_run, builds_at, sweep_run_in, sweep_run, found_with, wants_at}
 use Rattle.sweep.specs.Stops.{Stop, stop, after, stop_in, stop_from}
 use Rattle.sweep.specs.Facts.{gone_on, SweepInTwo}
 use Rattle.resolve.specs.Looks.{Inside}
 use Rattle.resolve.proofs.Judges.{judge_either}
-use Rattle.resolve.proofs.Runs.{settled_after, run_inside}
+use Rattle.resolve.proofs.Runs.{run_inside}
 
 -- a sweep goes on by a byte or more
 next_judged : (s : List ℕ) (p : ℕ) (c : Option ℕ) → Inside s p c → p < next_at p (judge s p c)
@@ -119,13 +119,12 @@ module _ (text : List ℕ) where
       built = built_index text l.index
 
       go : (o b : Bool) (k : Look) → o && (not b && is_build k) ≡ true
-          → pick o (judge text at (close_after text at built (pick b (settled (stored_close text at l.index)) k))) NoGroup
-          ≡ pick o (judge text at (close_after text at (built_index text built) (settled (stored_close text at built)))) NoGroup
+          → pick o (judge text at (close_after text at built (pick b (Known (stored_close text at l.index)) k))) NoGroup
+          ≡ pick o (judge text at (close_after text at (built_index text built) (Known (stored_close text at built)))) NoGroup
       go false b k e = refl
       go true true k e = absurd (true≢false (sym e))
-      go true false (LookAt c) e = absurd (true≢false (sym e))
-      go true false LookNothing e = absurd (true≢false (sym e))
-      go true false Build e = ap (judge text at) (sym (settled_after text at (built_index text built) (stored_close text at built)))
+      go true false (Known d) e = absurd (true≢false (sym e))
+      go true false Build e = refl
 
   -- at the end nothing more is found
   at_end : (so_far : List Group) (at : ℕ) (l : Lent) → length text ≤ at → swept so_far l ≡ gone_on text so_far l (stop [] at false)

@@ -7,7 +7,8 @@ use mathlib.Core.Bool.{Bool, true, false, true≢false}
 use lib.ListN.{length}
 use lib.Dec.{eqb}
 use borrow.Author.Tests.{lt-ltb, eqb-true}
-use Rattle.std.specs.Prelude.{Option}
+use Rattle.std.specs.Prelude.{Option, Some, None}
+use Rattle.std.proofs.lemmas.Option.{same_Some}
 use Rattle.base.specs.Pick.{pick}
 use Rattle.base.specs.First.{first, first_of}
 use Rattle.base.specs.Lists.{byte_at}
@@ -17,16 +18,16 @@ use Rattle.index.specs.Entries.{opens_at}
 use Rattle.resolve.specs.Groups.{GroupAnswer, Found, NoGroup, group_accepted, judge}
 use Rattle.item.specs.Group.{Group, group_of}
 use Rattle.resolve.specs.Resolve.{close_as_run, group_as_run}
-use Rattle.resolve.specs.Looks.{Inside}
+use Rattle.resolve.specs.declared.Group.{Group as Matched}
+use Rattle.resolve.specs.Looks.{matched, Inside}
 use Rattle.resolve.proofs.Judges.{Judges, cites, no_close, follows, bad_item, judges}
 use Rattle.resolve.proofs.Runs.{run_inside}
 use Rattle.sweep.specs.declared.group_records.SweepState.{SweepState}
-use Rattle.sweep.specs.declared.Step.{Step}
-use Rattle.sweep.specs.declared.Step.TheVariants.{Next, Group as StepGroup, Build}
+use Rattle.sweep.specs.declared.Step.TheVariants.{Seen, Build}
 use Rattle.sweep.specs.Sweep.{found_groups, next_at, found_with, wants_at}
 use Rattle.sweep.specs.Stops.{stop, after, stop_in, stop_from, SweptTo}
 use Rattle.sweep.specs.Recording.{Counted, Recorded, Recordable, RecordedOne}
-use Rattle.sweep.specs.Steps.{sweep_step, step_at, moved_to, Onward, Turned}
+use Rattle.sweep.specs.Steps.{step_at, moved_to, Onward, Turned}
 use Rattle.standing.specs.Stands.{GroupFrom}
 use Rattle.sweep.proofs.Stops.{stop_end, stop_enough}
 use Rattle.sweep.proofs.Laws.{recorded_none, recorded_both}
@@ -87,39 +88,40 @@ record StepFound (text : List ℕ) (note : ℕ) (index : List ℕ) (at close cou
 module _ (text : List ℕ) (note : ℕ) (index : List ℕ) (at : ℕ) where
   step_wants : step_at text note index at ≡ Build → wants_at text note at ≡ true
   unfolding step_at
-  step_wants = go (wants_at text note at) (found_with text note index at)
+  step_wants = go (wants_at text note at) (matched (found_with text note index at))
     where
-      go : (w : Bool) (f : GroupAnswer) → pick w Build (sweep_step f) ≡ Build → w ≡ true
-      go true f e = refl
-      go false (Found g) e = let z : ◌≡◌ {A = ℕ} 0 1 = cc in absurd (omega (arith, z))
-      go false NoGroup e = let z : ◌≡◌ {A = ℕ} 0 1 = cc in absurd (omega (arith, z))
+      go : (w : Bool) (m : Option Matched) → pick w Build (Seen m) ≡ Build → w ≡ true
+      go true m e = refl
+      go false m e = let z : ◌≡◌ {A = ℕ} 0 1 = cc in absurd (omega (arith, z))
 
-  next_wants : step_at text note index at ≡ Next → wants_at text note at ≡ false
+  next_wants : step_at text note index at ≡ Seen None → wants_at text note at ≡ false
   unfolding step_at
-  next_wants = go (wants_at text note at) (found_with text note index at)
+  next_wants = go (wants_at text note at) (matched (found_with text note index at))
     where
-      go : (w : Bool) (f : GroupAnswer) → pick w Build (sweep_step f) ≡ Next → w ≡ false
-      go true f e = let z : ◌≡◌ {A = ℕ} 0 1 = cc in absurd (omega (arith, z))
-      go false f e = refl
+      go : (w : Bool) (m : Option Matched) → pick w Build (Seen m) ≡ Seen None → w ≡ false
+      go true m e = let z : ◌≡◌ {A = ℕ} 0 1 = cc in absurd (omega (arith, z))
+      go false m e = refl
 
-  next_none : step_at text note index at ≡ Next → found_with text note index at ≡ NoGroup
-  unfolding step_at
+  next_none : step_at text note index at ≡ Seen None → found_with text note index at ≡ NoGroup
+  unfolding step_at matched
   next_none = go (wants_at text note at) (found_with text note index at)
     where
-      go : (w : Bool) (f : GroupAnswer) → pick w Build (sweep_step f) ≡ Next → f ≡ NoGroup
+      go : (w : Bool) (f : GroupAnswer) → pick w Build (Seen (matched f)) ≡ Seen None → f ≡ NoGroup
       go true f e = let z : ◌≡◌ {A = ℕ} 0 1 = cc in absurd (omega (arith, z))
       go false (Found g) e = let z : ◌≡◌ {A = ℕ} 0 1 = cc in absurd (omega (arith, z))
       go false NoGroup e = refl
 
-  step_found : (close count : ℕ) → step_at text note index at ≡ StepGroup close count → StepFound text note index at close count
-  unfolding step_at found_with group_as_run group_of
-  step_found close count = go (wants_at text note at) refl
+  step_found : (m : Matched) → step_at text note index at ≡ Seen (Some m) → StepFound text note index at m.close m.count
+  unfolding step_at found_with group_as_run group_of matched
+  step_found m = go (wants_at text note at) refl
     where
       closed : {c : Option ℕ} {g : GroupAnswer} → Judges text at c g → Inside text at c → wants_at text note at ≡ false
-          → found_with text note index at ≡ g → sweep_step g ≡ StepGroup close count → StepFound text note index at close count
+          → found_with text note index at ≡ g → Seen (matched g) ≡ Seen (Some m) → StepFound text note index at m.close m.count
       closed (cites c k) i w f e =
-          let x : c ≡ close = cc in
-          let y : length (items_of text at c) ≡ count = cc in
+          let r : matched (Found (group_of text at c)) ≡ Some m = cc in
+          let q : record { close = c; count = length (items_of text at c) } ≡ m = same_Some _ _ r in
+          let x : c ≡ m.close = ap (λ (k : Matched). k.close) q in
+          let y : length (items_of text at c) ≡ m.count = ap (λ (k : Matched). k.count) q in
           record {
             no_build = w;
             found = f ∙ ap (λ (k : ℕ). Found (group_of text at k)) x;
@@ -136,13 +138,13 @@ module _ (text : List ℕ) (note : ℕ) (index : List ℕ) (at : ℕ) where
 
       opened : (o : Bool) → opens_at text at ≡ o → wants_at text note at ≡ false
           → found_with text note index at ≡ pick o (judge text at (close_as_run text at note index)) NoGroup
-          → sweep_step (pick o (judge text at (close_as_run text at note index)) NoGroup) ≡ StepGroup close count
-          → StepFound text note index at close count
+          → Seen (matched (pick o (judge text at (close_as_run text at note index)) NoGroup)) ≡ Seen (Some m)
+          → StepFound text note index at m.close m.count
       opened true q w f e = closed (judges text at (close_as_run text at note index)) (run_inside text at note index) w f e
       opened false q w f e = let z : ◌≡◌ {A = ℕ} 0 1 = cc in absurd (omega (arith, z))
 
       go : (w : Bool) → wants_at text note at ≡ w
-          → pick w Build (sweep_step (found_with text note index at)) ≡ StepGroup close count → StepFound text note index at close count
+          → pick w Build (Seen (matched (found_with text note index at))) ≡ Seen (Some m) → StepFound text note index at m.close m.count
       go true q e = let z : ◌≡◌ {A = ℕ} 0 1 = cc in absurd (omega (arith, z))
       go false q e = opened (opens_at text at) refl q refl e
 
@@ -211,11 +213,11 @@ module _ (text : List ℕ) (note : ℕ) (index : List ℕ) (s : SweepState) (ite
         moves = λ z. omega arith;
       }
 
-  module _ (b : at < length text) {step : Step} (p : step ≡ step_at text note index at) where
-    pub turned_next : {r : SweepState} → step ≡ Next → r ≡ moved_to s (at + 1) false → Turned text note index s items groups r items groups
-    turned_next n e =
+  module _ (b : at < length text) where
+    pub turned_next : {f : Option Matched} {r : SweepState} → Seen f ≡ step_at text note index at → f ≡ None → r ≡ moved_to s (at + 1) false → Turned text note index s items groups r items groups
+    turned_next n k e =
         let z = from_here in
-        let f = sym p ∙ n in
+        let f = sym n ∙ ap Seen k in
         rw e
         record {
           onward = moved_on (at + 1) false (omega arith) (omega arith)
@@ -224,33 +226,33 @@ module _ (text : List ℕ) (note : ℕ) (index : List ℕ) (s : SweepState) (ite
           moves = λ w. omega arith;
         }
 
-    pub turned_build : {r : SweepState} → step ≡ Build → r ≡ moved_to s at true → Turned text note index s items groups r items groups
+    pub turned_build : {r : SweepState} → Build ≡ step_at text note index at → r ≡ moved_to s at true → Turned text note index s items groups r items groups
     turned_build n e =
         rw e
         record {
           onward = moved_on at true (omega arith) by_end refl;
-          stops = λ w. stop_build text note index at b (step_wants text note index at (sym p ∙ n));
+          stops = λ w. stop_build text note index at b (step_wants text note index at (sym n));
           moves = λ w. absurd (true≢false w);
         }
 
-    module _ {close count : ℕ} (n : step ≡ StepGroup close count) where
-      step_is : StepFound text note index at close count
-      step_is = step_found text note index at close count (sym p ∙ n)
+    module _ {f : Option Matched} {m : Matched} (n : Seen f ≡ step_at text note index at) (o : f ≡ Some m) where
+      step_is : StepFound text note index at m.close m.count
+      step_is = step_found text note index at m (sym n ∙ ap Seen o)
 
-      pub turn_recordable : length text ≤ 65535 → Recordable text at close count s (length items) (length groups)
+      pub turn_recordable : length text ≤ 65535 → Recordable text at m.close m.count s (length items) (length groups)
       turn_recordable k = record { stands = step_is.stands; short = k; later = from_here; counted = counts }
 
-      pub turned_group : {r : SweepState} {items' groups' : List ℕ} → RecordedOne text at close s items groups r items' groups'
+      pub turned_group : {r : SweepState} {items' groups' : List ℕ} → RecordedOne text at m.close s items groups r items' groups'
           → Turned text note index s items groups r items' groups'
       unfolding group_of
       turned_group {r} d =
           let z = from_here in
           let f = step_is.found in
-          let e : r.at ≡ close + 1 = d.next in
+          let e : r.at ≡ m.close + 1 = d.next in
           let a = step_is.stands.after in
           record {
             onward = record {
-              found = group_of text at close ∷ [];
+              found = group_of text at m.close ∷ [];
               goes_on = skipped ∙ stop_on text note index at b step_is.no_build ∙ rw (f, e);
               recorded = d.recorded;
               counted = d.counted;

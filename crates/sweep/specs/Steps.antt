@@ -1,23 +1,18 @@
 -- Follows the code; nothing to believe: one turn of the sweep, as the code takes it.
 use Rattle.std.specs.Prelude.{ℕ, ◌<◌, ◌≡◌, List, [], Bool, true, false, length}
 use Rattle.base.specs.Pick.{pick}
-use Rattle.resolve.specs.Groups.{GroupAnswer, Found, NoGroup}
 use Rattle.item.specs.Group.{Group}
 use Rattle.sweep.specs.declared.group_records.SweepState.{SweepState}
 use Rattle.sweep.specs.declared.Step.{Step}
-use Rattle.sweep.specs.declared.Step.TheVariants.{Next, Group as StepGroup, Build}
+use Rattle.sweep.specs.declared.Step.TheVariants.{Seen, Build}
+use Rattle.resolve.specs.Looks.{matched}
 use Rattle.sweep.specs.Sweep.{found_with, wants_at}
 use Rattle.sweep.specs.Stops.{stop, after, stop_from}
 use Rattle.sweep.specs.Recording.{Counted, Recorded}
 
--- a group by its close and the count of its items
-abbrev pub sweep_step : GroupAnswer → Step
-sweep_step (Found g) = StepGroup g.close (length g.items)
-sweep_step NoGroup = Next
-
--- what the place `at` gives
+-- what the place `at` gives: a group by its close and the count of its items
 unfoldable pub step_at : List ℕ → ℕ → List ℕ → ℕ → Step
-step_at text note index at = pick (wants_at text note at) Build (sweep_step (found_with text note index at))
+step_at text note index at = pick (wants_at text note at) Build (Seen (matched (found_with text note index at)))
 
 -- a state of the sweep at another place
 abbrev pub moved_to : SweepState → ℕ → Bool → SweepState

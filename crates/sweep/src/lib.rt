@@ -12,15 +12,13 @@ ghost use Rattle.sweep.specs.Facts.{SizeEnough, SizeEnoughRun, SweepInTwo};
 
 use crate::group_records::{SweepState, record_group};
 use base::slices::find_byte;
-use close::Close;
-use resolve::{Look, Matched, look_at, match_citation};
+use resolve::{Group, Look, look_at, match_citation};
 use text::is_escaped_at;
 
-// What a place gives: no group, a group by its close and the count of its items, or that the index has to be built first.
+// What a place gives: a group or none, or that the index has to be built first.
 #[derive(Clone, Copy)]
 enum Step {
-    Next,
-    Group { close: usize, count: usize },
+    Seen(Option<Group>),
     Build,
 }
 
@@ -40,23 +38,16 @@ pub fn start() -> SweepState
 }
 
 // What the `[` at `at` gives.
+#[tactic(auto, using(crate::proofs::Steps::found_inside, crate::proofs::Steps::step_laws))]
 fn step_at(text: &[u8], note: u8, index: &[u16], at: usize) -> Step
     requires { (at < length text.now) × (byte_at text.now at ≡ 91) }
     ensures { result ≡ step_at text.now note index.now at }
 {
     if is_escaped_at(text, at) {
-        return Step::Next;
+        return Step::Seen(None);
     }
-    let look = look_at(text, at, note, index);
-    match look {
-        Look::At(c) => {
-            let matched = match_citation(text, at, Close::At(c));
-            match matched {
-                Matched::Group { close, count } => Step::Group { close, count },
-                Matched::Nothing => Step::Next,
-            }
-        }
-        Look::Nothing => Step::Next,
+    match look_at(text, at, note, index) {
+        Look::Known(close) => Step::Seen(match_citation(text, at, close)),
         Look::Build => Step::Build,
     }
 }
@@ -65,15 +56,7 @@ fn step_at(text: &[u8], note: u8, index: &[u16], at: usize) -> Step
 fn move_to(s: SweepState, at: usize, wants: bool) -> SweepState
     ensures { result ≡ moved_to s at wants }
 {
-    SweepState {
-        at,
-        groups: s.groups,
-        items: s.items,
-        inside: s.inside,
-        from: s.from,
-        fits: s.fits,
-        wants,
-    }
+    SweepState { at, wants, ..s }
 }
 
 // One turn: at the next `[` from the state's place on, or at the text's end.
@@ -92,11 +75,12 @@ fn turn(
     if text.len() <= at {
         return move_to(s, at, false);
     }
-    let step = step_at(text, note, index, at);
-    match step {
-        Step::Next => move_to(s, at + 1, false),
+    match step_at(text, note, index, at) {
         Step::Build => move_to(s, at, true),
-        Step::Group { close, count } => record_group(text, s, at, close, count, items, groups),
+        Step::Seen(found) => match found {
+            Some(group) => record_group(text, s, at, group.close, group.count, items, groups),
+            None => move_to(s, at + 1, false),
+        },
     }
 }
 

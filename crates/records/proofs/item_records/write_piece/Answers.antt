@@ -3,4 +3,4 @@ use Rattle.records.proofs.RecordLaws.{item_narrow}
 use Rattle.records.proofs.item_records.write_piece.Goals as goal
 
 pub record_of-requires : goal.record_of-requires
-record_of-requires c = item_narrow _ _ _ c.in-Good.ensures (omega arith) (omega arith)
+record_of-requires c = item_narrow _ _ _ c.in-Some.ensures (omega arith) (omega arith)
