@@ -1,5 +1,5 @@
 -- Attributes of a line whose close, or whose next group, lies past the text, and the needs of `attributes`.
-use Prim.Native.Nat.{ℕ, ◌+◌, ◌-◌, ◌≤◌, ◌<◌}
+use Prim.Native.Nat.{ℕ, ◌+◌, ◌-◌, min, ◌≤◌, ◌<◌}
 use native.Mathlib.Omega.{arith}
 use mathlib.Core.Path.{◌≡◌, refl, sym, ◌∙◌}
 use mathlib.Core.List.{List, []}
@@ -10,12 +10,9 @@ use borrow.Author.Tests.{lt-ltb, le-ltb, ltb-true, ltb-false, ne_eqb}
 use Rattle.base.specs.Pick.{pick}
 use Rattle.base.specs.First.{first_of, first_other}
 use Rattle.base.specs.Lists.{byte_at, is_at, part}
-use Rattle.base.specs.Spans.{span, bytes_of}
-use Rattle.base.specs.declared.Span.{Span}
 use Rattle.base.proofs.Searches.{first_from, first_by, first_beyond}
 use Rattle.base.proofs.Parts.{byte_past}
 use Rattle.definition_line.specs.Lines.{break_at, brace_at, after_spaces, braced_at, attributes_of}
-use Rattle.definition_line.proofs.Laws.{part_none}
 
 past : (s : List ℕ) (b : ℕ) → 0 < b → (k : ℕ) → length s ≤ k → eqb (byte_at s k) b ≡ false
 past s b n k h = rw (← byte_past s k h) (ne_eqb 0 b (λ e. omega arith))
@@ -80,11 +77,21 @@ attributes_clip s close next h = go (ltb a (length s)) refl
         sym (brace_past s a (break_at s a next) l) ∙ brace_past s a (break_at s a (length s)) l
 
 -- what `attributes` needs
-pub clip_past : (s : List ℕ) (close next : ℕ) → length s ≤ close → bytes_of s (span 0 0) ≡ attributes_of s close next
-clip_past s close next h = part_none s ∙ sym (attributes_past s close next h)
+module _ (s : List ℕ) (close next : ℕ) where
+  pub clip_past : length s ≤ close → [] ≡ attributes_of s close next
+  clip_past h = sym (attributes_past s close next h)
 
-pub clip_end : (s : List ℕ) (close next : ℕ) (r : Span) → length s < next → bytes_of s r ≡ attributes_of s close (length s)
-    → bytes_of s r ≡ attributes_of s close next
-clip_end s close next r h e = e ∙ sym (attributes_clip s close next h)
+  pub clip_end : attributes_of s close (min next (length s)) ≡ attributes_of s close next
+  clip_end = go (ltb (length s) next) refl
+    where
+      go : (t : Bool) → ltb (length s) next ≡ t → attributes_of s close (min next (length s)) ≡ attributes_of s close next
+      go true q =
+          let l = ltb-true (length s) next q in
+          let e : min next (length s) ≡ length s = omega arith in
+          rw e (sym (attributes_clip s close next l))
+      go false q =
+          let l = ltb-false (length s) next q in
+          let e : min next (length s) ≡ next = omega arith in
+          rw e refl
 
 pub ruleset clip_laws = (clip_past, clip_end)

@@ -1,28 +1,20 @@
--- What the code's needs cite, each law in the form of a need: premises are what the loop's invariant, the callees and the branches say.
+-- Where the attributes of a definition line lie.
 use Prim.Native.Nat.{ℕ, ◌+◌, ◌-◌, ◌≤◌, ◌<◌}
 use native.Mathlib.Omega.{arith}
 use mathlib.Core.Path.{◌≡◌, refl, sym, ◌∙◌, ap}
 use mathlib.Core.List.{List, []}
-use mathlib.Core.Bool.{Bool, true, false, ◌&&◌, ◌||◌, and-false, or-true}
-use lib.ListN.{length, get_or-eq_default}
+use mathlib.Core.Bool.{Bool, true, false, ◌||◌, and-false, or-true}
+use lib.ListN.{length, take, drop}
 use lib.Dec.{eqb, ltb}
-use borrow.Author.Tests.{eq-eqb, ne_eqb, le-leb, lt-ltb, le-ltb, eqb-true, eqb-false, ltb-true, ltb-false}
-use Rattle.base.specs.First.{first, first_of, first_other}
-use Rattle.base.specs.Lists.{byte_at, part}
-use Rattle.base.specs.Spans.{span, bytes_of}
-use Rattle.base.proofs.Searches.{first_from, first_by, first_holds, first_before, first_out, first_stop, first_more}
-use Rattle.definition_line.specs.Lines.{break_at, brace_at, starts_line, colon_after, after_spaces, braced_at, attributes_of}
+use borrow.Author.Tests.{eq-eqb, ne_eqb, lt-ltb, le-ltb, eqb-true, eqb-false, ltb-true, ltb-false}
+use Rattle.base.specs.First.{first_of}
+use Rattle.base.specs.Lists.{byte_at}
+use Rattle.base.proofs.Searches.{first_from, first_by, first_holds, first_before}
+use Rattle.base.proofs.Parts.{part_is}
+use Rattle.definition_line.specs.Lines.{break_at, brace_at, after_spaces, braced_at, attributes_of}
 use Rattle.definition_line.specs.Search.{brace_or_break}
 
-pub part_none : (s : List ℕ) → bytes_of s (span 0 0) ≡ []
-unfolding part
-part_none s = rw (le-leb 0 (length s) (omega arith)) refl
-
--- definition lines ---------------------------------------------------------------------------------------------------------------
-
-pub break_is : (s : List ℕ) (a e : ℕ) {r : ℕ} → r ≡ first_of 10 s a e → r ≡ break_at s a e
-unfolding break_at
-break_is s a e p = p
+-- a search for `}` up to the first LF, and one that ends at either ------------------------------------------------------------------
 
 abbrev is_brace : List ℕ → ℕ → Bool
 is_brace s i = eqb (byte_at s i) 125
@@ -30,57 +22,9 @@ is_brace s i = eqb (byte_at s i) 125
 abbrev is_break : List ℕ → ℕ → Bool
 is_break s i = eqb (byte_at s i) 10
 
-abbrev pub is_either : List ℕ → ℕ → Bool
+abbrev is_either : List ℕ → ℕ → Bool
 is_either s i = is_brace s i || is_break s i
 
-pub either_start : (s : List ℕ) (a e : ℕ) → brace_or_break s a e ≡ first (is_either s) (e - a) a
-unfolding brace_or_break
-either_start s a e = refl
-
-pub spaces_are : (s : List ℕ) (close : ℕ) {r : ℕ} → r ≡ first_other 32 s (close + 2) (length s) → r ≡ after_spaces s close
-unfolding after_spaces
-spaces_are s close p = p
-
-module _ (s : List ℕ) (at : ℕ) where
-  pub line_first : at ≡ 0 → true ≡ starts_line s at
-  unfolding starts_line
-  line_first p = rw (eq-eqb at 0 p) refl
-
-  pub line_after : (at ≡ 0 → ⊥) → eqb (byte_at s (at - 1)) 10 ≡ starts_line s at
-  unfolding starts_line
-  line_after p = rw (ne_eqb at 0 p) refl
-
-  pub line_past : (at ≡ 0 → ⊥) → length s < at → false ≡ starts_line s at
-  unfolding starts_line
-  line_past p h = rw (ne_eqb at 0 p, get_or-eq_default s 0 {n = at - 1} (omega arith)) refl
-
-module _ (s : List ℕ) (close : ℕ) where
-  pub colon_there : close + 2 < length s → (eqb (byte_at s (close + 1)) 58 && eqb (byte_at s (close + 2)) 32) ≡ colon_after s close
-  unfolding colon_after
-  colon_there h = rw (lt-ltb (close + 1) (length s) (omega arith), lt-ltb (close + 2) (length s) h) refl
-
-  pub colon_cut : length s ≤ close + 2 → false ≡ colon_after s close
-  unfolding colon_after
-  colon_cut h = rw (le-ltb (close + 2) (length s) h, and-false) refl
-
-  pub colon_past : length s ≤ close → false ≡ colon_after s close
-  colon_past h = colon_cut (omega arith)
-
--- the place of a group that starts a definition line
-module _ (s : List ℕ) (at close : ℕ) {b : Bool} (q : b ≡ starts_line s at) where
-  pub place_other : b ≡ false → false ≡ (starts_line s at && colon_after s close)
-  place_other f = rw (sym q ∙ f) refl
-
-  pub place_colon : {r : Bool} → b ≡ true → r ≡ colon_after s close → r ≡ (starts_line s at && colon_after s close)
-  place_colon t p = p ∙ rw (sym q ∙ t) refl
-
-pub ruleset either_laws = (either_start, first_out, first_stop, first_more)
-
-pub ruleset line_laws = (break_is, spaces_are, line_first, line_after, line_past, colon_there, colon_cut, colon_past, place_other, place_colon)
-
--- attributes ---------------------------------------------------------------------------------------------------------------------
-
--- a search for `}` up to the first LF, and one that ends at either
 module _ (s : List ℕ) (a e : ℕ) {z : ℕ} (p : z ≡ brace_or_break s a e) where
   either_ge : a ≤ z
   unfolding brace_or_break
@@ -149,37 +93,46 @@ module _ (s : List ℕ) (a e : ℕ) {z : ℕ} (p : z ≡ brace_or_break s a e) w
           omega (arith, broken (either_holds k) k)
       go false q = ltb-false b y q
 
-pub brace_ge : (s : List ℕ) (a e z : ℕ) → z ≡ brace_or_break s a e → byte_at s a ≡ 123 → byte_at s z ≡ 125 → a + 1 ≤ z
-brace_ge s a e z p b c = go (eqb a z) refl
-  where
-    go : (t : Bool) → eqb a z ≡ t → a + 1 ≤ z
-    go true q = let u = ap (byte_at s) (eqb-true a z q) in absurd (omega arith)
-    go false q = let u = eqb-false a z q in omega (arith, either_ge s a e p)
+-- the attributes of a definition line -----------------------------------------------------------------------------------------------
 
-module _ (s : List ℕ) (close next : ℕ) {a : ℕ} (p : a ≡ after_spaces s close) where
-  pub braces_past : length s ≤ a → bytes_of s (span 0 0) ≡ attributes_of s close next
+module _ (s : List ℕ) (close next : ℕ) where
+  abbrev start : ℕ
+  start = after_spaces s close
+
+  abbrev brace : ℕ
+  brace = brace_or_break s (after_spaces s close) next
+
+  pub braces_past : length s ≤ after_spaces s close → [] ≡ attributes_of s close next
   unfolding attributes_of braced_at
-  braces_past h = rw (← p, le-ltb a (length s) h) (part_none s)
+  braces_past h = rw (le-ltb start (length s) h) refl
 
-  pub braces_other : (byte_at s a ≡ 123 → ⊥) → bytes_of s (span 0 0) ≡ attributes_of s close next
+  pub braces_other : (byte_at s (after_spaces s close) ≡ 123 → ⊥) → [] ≡ attributes_of s close next
   unfolding attributes_of braced_at
-  braces_other n = rw (← p, ne_eqb _ _ n, and-false) (part_none s)
+  braces_other n = rw (ne_eqb _ _ n, and-false) refl
 
-  module _ {z : ℕ} (q : z ≡ brace_or_break s a next) where
-    none : (z < next → byte_at s z ≡ 125 → ⊥) → bytes_of s (span 0 0) ≡ attributes_of s close next
+  none : (brace < next → byte_at s brace ≡ 125 → ⊥) → [] ≡ attributes_of s close next
+  unfolding attributes_of braced_at
+  none n = rw (le-ltb (brace_at s start (break_at s start next)) (break_at s start next) (brace_none s start next refl n), and-false) refl
+
+  pub braces_end : next ≤ brace_or_break s (after_spaces s close) next → [] ≡ attributes_of s close next
+  braces_end h = none (λ l c. omega arith)
+
+  pub braces_broken : (byte_at s (brace_or_break s (after_spaces s close) next) ≡ 125 → ⊥) → [] ≡ attributes_of s close next
+  braces_broken n = none (λ l c. n c)
+
+  module _ (b : byte_at s (after_spaces s close) ≡ 123) (c : byte_at s (brace_or_break s (after_spaces s close) next) ≡ 125) where
+    pub brace_after : after_spaces s close + 1 ≤ brace_or_break s (after_spaces s close) next
+    brace_after = go (eqb start brace) refl
+      where
+        go : (t : Bool) → eqb start brace ≡ t → start + 1 ≤ brace
+        go true q = let u = ap (byte_at s) (eqb-true start brace q) in absurd (omega arith)
+        go false q = let u = eqb-false start brace q in omega (arith, either_ge s start next refl)
+
+    pub braces_are : after_spaces s close < length s → next ≤ length s → brace_or_break s (after_spaces s close) next < next
+        → take (brace_or_break s (after_spaces s close) next - (after_spaces s close + 1)) (drop (after_spaces s close + 1) s) ≡ attributes_of s close next
     unfolding attributes_of braced_at
-    none n = rw (← p, le-ltb (brace_at s a (break_at s a next)) (break_at s a next) (brace_none s a next q n), and-false) (part_none s)
+    braces_are l m h =
+        sym (part_is s (start + 1) brace brace_after (omega arith))
+        ∙ rw (brace_is s start next refl h c, lt-ltb start (length s) l, eq-eqb _ 123 b, lt-ltb brace (break_at s start next) (break_after s start next refl h c)) refl
 
-    pub braces_end : next ≤ z → bytes_of s (span 0 0) ≡ attributes_of s close next
-    braces_end h = none (λ l c. omega arith)
-
-    pub braces_broken : (byte_at s z ≡ 125 → ⊥) → bytes_of s (span 0 0) ≡ attributes_of s close next
-    braces_broken n = none (λ l c. n c)
-
-    pub braces_are : a < length s → byte_at s a ≡ 123 → z < next → byte_at s z ≡ 125 → bytes_of s (span (a + 1) (z - (a + 1))) ≡ attributes_of s close next
-    unfolding attributes_of braced_at
-    braces_are l b h c =
-        let k : a + 1 + (z - (a + 1)) ≡ z = omega (arith, brace_ge s a next z q b c) in
-        rw (← p, brace_is s a next q h c, lt-ltb a (length s) l, eq-eqb _ 123 b, lt-ltb z (break_at s a next) (break_after s a next q h c), k) refl
-
-pub ruleset attributes_laws = (brace_ge, braces_past, braces_other, braces_end, braces_broken, braces_are)
+pub ruleset attributes_laws = (braces_past, braces_other, braces_end, braces_broken, brace_after, braces_are)
