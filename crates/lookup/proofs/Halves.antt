@@ -7,7 +7,7 @@ use mathlib.Core.Bool.{Bool, true, false, ◌&&◌}
 use lib.ListN.{length}
 use lib.Dec.{eqb, ltb}
 use borrow.Author.Tests.{lt-ltb, le-ltb, eq-eqb, ne_eqb, eqb-true}
-use Rattle.std.specs.Prelude.{Option}
+use Rattle.std.specs.Prelude.{Option, Some, None}
 use Rattle.base.specs.Pick.{pick}
 use Rattle.base.specs.Lists.{written}
 use Rattle.base.proofs.Bools.{and_left}
@@ -16,8 +16,7 @@ use Rattle.index.specs.Building.{Enough}
 use Rattle.resolve.specs.declared.Look.{Look}
 use Rattle.lookup.specs.declared.LookUp.{LookUp}
 use Rattle.lookup.specs.declared.LookUp.TheVariants.{Accepted, Refused}
-use Rattle.resolve.specs.declared.Matched.{Matched}
-use Rattle.resolve.specs.declared.Matched.TheVariants.{Group as MatchedGroup, Nothing as NotMatched}
+use Rattle.resolve.specs.declared.Group.{Group as Matched}
 use Rattle.lookup.specs.declared.Prepared.{Prepared}
 use Rattle.lookup.specs.declared.Prepared.TheVariants.{Refused as NotReady, Ready}
 use Rattle.resolve.specs.Groups.{GroupAnswer, Found, NoGroup, judge}
@@ -67,23 +66,23 @@ module _ {b : Bool} (note : ℕ) where
 pub ruleset prepare_laws = (prepare_refused, prepare_ready, wants_none, wants_look, note_built, note_kept)
 
 -- the answer of a bracket: `m` is what the match gave
-module _ (s : List ℕ) (at note : ℕ) (d : Option ℕ) (items : List ℕ) {m : Matched} (q : m ≡ matched (judge s at d)) where
-  pub answer_none : m ≡ NotMatched → Refused 5 note ≡ look_up_returns (look_up_answers (judge s at d) items) note
+module _ (s : List ℕ) (at note : ℕ) (d : Option ℕ) (items : List ℕ) {m : Option Matched} (q : m ≡ matched (judge s at d)) where
+  pub answer_none : m ≡ None → Refused 5 note ≡ look_up_returns (look_up_answers (judge s at d) items) note
   unfolding look_up_returns look_up_answers look_up_refused
   answer_none e = rw (matched_none s at d q e)
 
-  pub items_none : m ≡ NotMatched → items ≡ (look_up_answers (judge s at d) items).items
+  pub items_none : m ≡ None → items ≡ (look_up_answers (judge s at d) items).items
   unfolding look_up_answers look_up_refused
   items_none e = rw (matched_none s at d q e)
 
-  module _ {c n : ℕ} (e : m ≡ MatchedGroup c n) where
-    width : records_length (group_of s at c) ≡ item_width * n
+  module _ {f : Matched} (e : m ≡ Some f) where
+    width : records_length (group_of s at f.close) ≡ item_width * f.count
     unfolding records_length group_of
     width = rw (matched_count s at d q e) refl
 
-    module _ (h : length items / 16 < n) where
-      few : ltb (length items) (records_length (group_of s at c)) ≡ true
-      few = lt-ltb (length items) (records_length (group_of s at c)) (omega (arith, width))
+    module _ (h : length items / 16 < f.count) where
+      few : ltb (length items) (records_length (group_of s at f.close)) ≡ true
+      few = lt-ltb (length items) (records_length (group_of s at f.close)) (omega (arith, width))
 
       pub answer_few : Refused 10 note ≡ look_up_returns (look_up_answers (judge s at d) items) note
       unfolding look_up_returns look_up_answers look_up_refused
@@ -93,18 +92,18 @@ module _ (s : List ℕ) (at note : ℕ) (d : Option ℕ) (items : List ℕ) {m :
       unfolding look_up_answers look_up_refused
       items_few = rw (matched_found s at d q e, few)
 
-    module _ (h : n ≤ length items / 16) where
-      pub items_room : item_width * n ≤ length items
+    module _ (h : f.count ≤ length items / 16) where
+      pub items_room : item_width * f.count ≤ length items
       items_room = omega arith
 
-      enough : ltb (length items) (records_length (group_of s at c)) ≡ false
-      enough = le-ltb (length items) (records_length (group_of s at c)) (omega (arith, width, items_room))
+      enough : ltb (length items) (records_length (group_of s at f.close)) ≡ false
+      enough = le-ltb (length items) (records_length (group_of s at f.close)) (omega (arith, width, items_room))
 
-      pub answer_found : Accepted c n note ≡ look_up_returns (look_up_answers (judge s at d) items) note
+      pub answer_found : Accepted f.close f.count note ≡ look_up_returns (look_up_answers (judge s at d) items) note
       unfolding look_up_returns look_up_answers look_up_gives group_of
       answer_found = rw (matched_found s at d q e, enough, matched_count s at d q e)
 
-      pub items_found : {after : List ℕ} → after ≡ written (records_of (group_of s at c)) items → after ≡ (look_up_answers (judge s at d) items).items
+      pub items_found : {after : List ℕ} → after ≡ written (records_of (group_of s at f.close)) items → after ≡ (look_up_answers (judge s at d) items).items
       unfolding look_up_answers look_up_gives
       items_found o = o ∙ rw (matched_found s at d q e, enough)
 
