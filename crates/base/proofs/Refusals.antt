@@ -1,5 +1,6 @@
 -- The number of a refusal, and the refusal of a number.
-use Prim.Native.Nat.{ℕ}
+use Prim.Native.Nat.{ℕ, zero, suc, ◌≤◌}
+use native.Mathlib.Omega.{arith}
 use mathlib.Core.Path.{◌≡◌, refl, ◌∙◌}
 use Rattle.std.specs.Prelude.{Result, Ok, Err}
 use Rattle.base.specs.declared.refusal.Refusal.{Refusal}
@@ -41,3 +42,19 @@ module _ {A B : Type 0} {n : ℕ} {r : Result B Refusal} (q : refusal_number r �
 
   pub accepted_by : {b : B} (x : A) → r ≡ Ok b → Ok x ≡ answered n x
   accepted_by x h = rw (← q, h)
+
+-- the refusal of a number has that number
+pub number_back : (n : ℕ) → (n ≡ 0 → ⊥) → n ≤ 10 → number_of (refusal_of n) ≡ n
+unfolding refusal_of
+number_back zero z h = absurd (z refl)
+number_back (suc zero) z h = refl
+number_back (suc (suc zero)) z h = refl
+number_back (suc (suc (suc zero))) z h = refl
+number_back (suc (suc (suc (suc zero)))) z h = refl
+number_back (suc (suc (suc (suc (suc zero))))) z h = refl
+number_back (suc (suc (suc (suc (suc (suc zero)))))) z h = refl
+number_back (suc (suc (suc (suc (suc (suc (suc zero))))))) z h = refl
+number_back (suc (suc (suc (suc (suc (suc (suc (suc zero)))))))) z h = refl
+number_back (suc (suc (suc (suc (suc (suc (suc (suc (suc zero))))))))) z h = refl
+number_back (suc (suc (suc (suc (suc (suc (suc (suc (suc (suc zero)))))))))) z h = refl
+number_back (suc (suc (suc (suc (suc (suc (suc (suc (suc (suc (suc n))))))))))) z h = absurd (omega arith)

@@ -1,64 +1,119 @@
--- What the caller of `match_citation` knows of a group that was found: `m` is what the call gave.
-use Prim.Native.Nat.{ℕ, ◌*◌, ◌≤◌}
+-- What the caller of `match_citation` knows of the group that it found, and the answer that it makes of it.
+use Prim.Native.Nat.{ℕ, ◌*◌, ◌/◌, ◌≤◌, ◌<◌}
 use native.Mathlib.Omega.{arith}
-use mathlib.Core.Path.{◌≡◌, refl, sym, ◌∙◌, ap, subst}
+use mathlib.Core.Path.{◌≡◌, refl, sym, ◌∙◌, ap}
 use mathlib.Core.List.{List}
+use mathlib.Core.Bool.{true, false}
 use lib.ListN.{length}
-use Rattle.std.specs.Prelude.{Option, Some, None}
-use Rattle.std.proofs.lemmas.Option.{same_Some}
+use lib.Dec.{ltb}
+use borrow.Author.Tests.{lt-ltb, le-ltb}
+use Rattle.std.specs.Prelude.{Option, Some, None, Result, Ok, Err}
+use Rattle.std.specs.Option.{ok_or}
+use Rattle.base.specs.Lists.{written}
+use Rattle.base.specs.Refusals.{refusal_of}
+use Rattle.base.specs.declared.refusal.Refusal.{Refusal}
+use Rattle.base.specs.declared.refusal.Refusal.TheVariants.{NoGroup as NoGroupHere, NoRoom}
 use Rattle.item.specs.Pieces.{items_of}
 use Rattle.item.specs.Group.{group_of}
-use Rattle.resolve.specs.declared.Group.{Group as Matched}
+use Rattle.resolve.specs.declared.Group.{Group}
 use Rattle.resolve.specs.Groups.{GroupAnswer, Found, NoGroup, judge}
 use Rattle.resolve.specs.Looks.{matched, Inside}
 use Rattle.resolve.proofs.Judges.{Cited, Judges, cites, no_close, follows, bad_item, judges}
 use Rattle.resolve.proofs.Laws.{at_after, at_inside}
-use Rattle.records.specs.ItemRecords.{records_length}
+use Rattle.records.specs.ItemRecords.{records_of, records_length}
 use Rattle.records.specs.Writing.{Writable}
 use Rattle.records.specs.Widths.{item_width}
+use Rattle.lookup.specs.LookUps.{look_up_refused, look_up_gives, look_up_answers}
+use Rattle.lookup.specs.Values.{look_up_group}
 
 module _ (s : List ℕ) (p : ℕ) (d : Option ℕ) where
-  matched_is : {f : Matched} → matched (judge s p d) ≡ Some f
-      → (d ≡ Some f.close) × Cited s p f.close × (judge s p d ≡ Found (group_of s p f.close)) × (f.count ≡ length (items_of s p f.close))
+  matched_is : (g : Group) → matched (judge s p d) ≡ Some g
+      → (d ≡ Some g.close) × Cited s p g.close × (judge s p d ≡ Found (group_of s p g.close)) × (g.count ≡ length (items_of s p g.close))
   unfolding matched group_of
-  matched_is {f} = go (judges s p d)
+  matched_is g = go (judges s p d)
     where
-      go : {d : Option ℕ} {g : GroupAnswer} → Judges s p d g → matched g ≡ Some f
-          → (d ≡ Some f.close) × Cited s p f.close × (g ≡ Found (group_of s p f.close)) × (f.count ≡ length (items_of s p f.close))
-      go (cites k h) e =
-          let q : record { close = k; count = length (items_of s p k) } ≡ f = same_Some _ _ e in
-          let j : k ≡ f.close = ap (λ (x : Matched). x.close) q in
-          let i : length (items_of s p k) ≡ f.count = ap (λ (x : Matched). x.count) q in
-          (ap Some j, subst (λ (x : ℕ). Cited s p x) j h, ap (λ (x : ℕ). Found (group_of s p x)) j, sym i ∙ ap (λ (x : ℕ). length (items_of s p x)) j)
-      go no_close e = let y : ◌≡◌ {A = ℕ} 0 1 = cc in absurd (omega (arith, y))
-      go (follows k b) e = let y : ◌≡◌ {A = ℕ} 0 1 = cc in absurd (omega (arith, y))
-      go (bad_item k i b g j) e = let y : ◌≡◌ {A = ℕ} 0 1 = cc in absurd (omega (arith, y))
+      go : {d : Option ℕ} {j : GroupAnswer} → Judges s p d j → matched j ≡ Some g
+          → (d ≡ Some g.close) × Cited s p g.close × (j ≡ Found (group_of s p g.close)) × (g.count ≡ length (items_of s p g.close))
+      go (cites k f) e =
+          let h : ◌≡◌ {A = Group} (record { close = k; count = length (items_of s p k) }) g = cc in
+          rw (← h) (refl, f, refl, refl)
+      go no_close e = let y : None ≡ Some g = e in absurd (cc)
+      go (follows k b) e = let y : None ≡ Some g = e in absurd (cc)
+      go (bad_item k i b g' j) e = let y : None ≡ Some g = e in absurd (cc)
 
-  module _ {m : Option Matched} (q : m ≡ matched (judge s p d)) where
-    pub matched_none : m ≡ None → judge s p d ≡ NoGroup
-    unfolding matched
-    matched_none e = go (judge s p d) (sym q ∙ e)
-      where
-        go : (g : GroupAnswer) → matched g ≡ None → g ≡ NoGroup
-        go (Found g) h = let y : ◌≡◌ {A = ℕ} 0 1 = cc in absurd (omega (arith, y))
-        go NoGroup h = refl
+  none_is : matched (judge s p d) ≡ None → judge s p d ≡ NoGroup
+  unfolding matched
+  none_is = go (judge s p d)
+    where
+      go : (j : GroupAnswer) → matched j ≡ None → j ≡ NoGroup
+      go (Found g) h = absurd (cc)
+      go NoGroup h = refl
 
-    module _ {f : Matched} (e : m ≡ Some f) where
-      matched_at : d ≡ Some f.close
-      matched_at = (matched_is (sym q ∙ e)).0
+-- the answer of a bracket: `m` is what the match gave, and `r` the group or the refusal
+module _ (s : List ℕ) (at : ℕ) (d : Option ℕ) (items : List ℕ) {m : Option Group} {r : Result Group Refusal}
+    (q : m ≡ matched (judge s at d)) (o : r ≡ ok_or m NoGroupHere) where
+  found : {g : Group} → r ≡ Ok g → matched (judge s at d) ≡ Some g
+  found {g} e = go m (sym q) (sym o ∙ e)
+    where
+      go : (m : Option Group) → matched (judge s at d) ≡ m → ok_or m NoGroupHere ≡ Ok g → matched (judge s at d) ≡ Some g
+      go (Some x) p e = let h : x ≡ g = cc in p ∙ ap Some h
+      go None p e = absurd (cc)
 
-      pub matched_found : judge s p d ≡ Found (group_of s p f.close)
-      matched_found = (matched_is (sym q ∙ e)).2
+  none : {e : Refusal} → r ≡ Err e → (e ≡ NoGroupHere) × (judge s at d ≡ NoGroup)
+  none {e} h = go m (sym q) (sym o ∙ h)
+    where
+      go : (m : Option Group) → matched (judge s at d) ≡ m → ok_or m NoGroupHere ≡ Err e → (e ≡ NoGroupHere) × (judge s at d ≡ NoGroup)
+      go (Some x) p h = absurd (cc)
+      go None p h = (cc, none_is s at d p)
 
-      pub matched_count : f.count ≡ length (items_of s p f.close)
-      matched_count = (matched_is (sym q ∙ e)).3
+  module _ {e : Refusal} (h : r ≡ Err e) where
+    pub answer_none : Err e ≡ look_up_group (look_up_answers (judge s at d) items)
+    unfolding look_up_group look_up_answers look_up_refused refusal_of
+    answer_none = rw ((none h).0, (none h).1)
 
-      pub matched_writable : (items : List ℕ) → length s ≤ 65535 → Inside s p d → item_width * f.count ≤ length items → Writable s p f.close items
-      unfolding records_length group_of
-      matched_writable items h i r = record {
-        short = h;
-        after = at_after s p matched_at i;
-        inside = at_inside s p matched_at i;
-        good = (matched_is (sym q ∙ e)).1.good;
-        room = rw matched_count at r;
+    pub items_none : items ≡ (look_up_answers (judge s at d) items).items
+    unfolding look_up_answers look_up_refused
+    items_none = rw (none h).1
+
+  module _ {g : Group} (e : r ≡ Ok g) where
+    abbrev is : (d ≡ Some g.close) × Cited s at g.close × (judge s at d ≡ Found (group_of s at g.close)) × (g.count ≡ length (items_of s at g.close))
+    is = matched_is s at d g (found e)
+
+    width : records_length (group_of s at g.close) ≡ item_width * g.count
+    unfolding records_length group_of
+    width = rw is.3 refl
+
+    module _ (h : length items / 16 < g.count) where
+      few : ltb (length items) (records_length (group_of s at g.close)) ≡ true
+      few = lt-ltb (length items) (records_length (group_of s at g.close)) (omega (arith, width))
+
+      pub answer_few : Err NoRoom ≡ look_up_group (look_up_answers (judge s at d) items)
+      unfolding look_up_group look_up_answers look_up_refused refusal_of
+      answer_few = rw (is.2, few)
+
+      pub items_few : items ≡ (look_up_answers (judge s at d) items).items
+      unfolding look_up_answers look_up_refused
+      items_few = rw (is.2, few)
+
+    module _ (h : g.count ≤ length items / 16) where
+      enough : ltb (length items) (records_length (group_of s at g.close)) ≡ false
+      enough = le-ltb (length items) (records_length (group_of s at g.close)) (omega (arith, width))
+
+      pub answer_found : Ok g ≡ look_up_group (look_up_answers (judge s at d) items)
+      unfolding look_up_group look_up_answers look_up_gives group_of
+      answer_found = rw (is.2, enough, ← is.3)
+
+      pub items_found : {after : List ℕ} → after ≡ written (records_of (group_of s at g.close)) items → after ≡ (look_up_answers (judge s at d) items).items
+      unfolding look_up_answers look_up_gives
+      items_found o = o ∙ rw (is.2, enough)
+
+      pub matched_writable : length s ≤ 65535 → Inside s at d → Writable s at g.close items
+      matched_writable k i = record {
+        short = k;
+        after = at_after s at is.0 i;
+        inside = at_inside s at is.0 i;
+        good = is.1.good;
+        room = omega (arith, width);
       }
+
+pub ruleset answer_laws = (answer_none, items_none, answer_few, items_few, answer_found, items_found, matched_writable)

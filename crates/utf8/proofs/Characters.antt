@@ -11,6 +11,9 @@ use lib.Dec.{eqb, leb}
 use borrow.Author.Tests.{eq-eqb, ne_eqb, le-leb, lt-leb, lt-ltb, le-ltb, leb-true}
 use Rattle.base.specs.Pick.{pick}
 use Rattle.base.specs.Lists.{byte_at}
+use Rattle.base.specs.Refusals.{number_of}
+use Rattle.base.specs.declared.refusal.Refusal.{Refusal}
+use Rattle.base.specs.declared.refusal.Refusal.TheVariants.{TextTooLong, TextNotUtf8, NoBracket, EscapedBracket, NoGroup, UnknownMode, PoolBroken, NoEntry, IndexTooShort, NoRoom}
 use Rattle.base.proofs.Bools.{and_left, and_right}
 use Rattle.utf8.specs.Utf8.{too_long, two_bytes, three_bytes, four_bytes, char_width, utf8_in, utf8}
 use Rattle.utf8.specs.Blocks.{all_ascii, ascii_step}
@@ -178,33 +181,29 @@ pub ruleset block_laws = (run_start, run_more, run_end, step_off, step_few, step
 
 -- what refuses a text ----------------------------------------------------------------------------------------------------------------
 
-module _ (s : List ℕ) where
-  pub refused_long : 65535 < length s → 1 ≡ text_refusal s
-  unfolding text_refusal after_text
-  refused_long h = rw (lt-ltb 65535 (length s) h)
-
-  module _ {t : Bool} (h : length s ≤ 65535) (p : t ≡ utf8 s) where
-    pub refused_not : t ≡ true → 0 ≡ text_refusal s
-    unfolding text_refusal after_text
-    refused_not e = rw (le-ltb 65535 (length s) h, sym p ∙ e)
-
-    pub refused_bytes : t ≡ false → 2 ≡ text_refusal s
-    unfolding text_refusal after_text
-    refused_bytes e = rw (le-ltb 65535 (length s) h, sym p ∙ e)
-
-pub ruleset refusal_laws = (refused_long, refused_not, refused_bytes)
-
--- what a call's answer `r` tells a call that asks for more: what comes next, or `r` itself
+-- what comes next where the text is accepted, and the text's own refusal where it is not
 refusal_cases : (l u : Bool) (next : ℕ) → pick l 1 (pick u next 2) ≡ pick (eqb (pick l 1 (pick u 0 2)) 0) next (pick l 1 (pick u 0 2))
 refusal_cases true u next = refl
 refusal_cases false true next = refl
 refusal_cases false false next = refl
 
-module _ (s : List ℕ) {r : ℕ} (p : r ≡ text_refusal s) where
-  pub refused_after : (next : ℕ) → (r ≡ 0 → ⊥) → r ≡ after_text s next
+module _ (s : List ℕ) (next : ℕ) where
+  pub accepted_after : 0 ≡ text_refusal s → after_text s next ≡ next
   unfolding text_refusal after_text
-  refused_after next n = sym (refusal_cases (too_long s) (utf8 s) next ∙ rw (← p, ne_eqb r 0 n))
+  accepted_after z = refusal_cases (too_long s) (utf8 s) next ∙ rw (← z)
 
-  pub accepted_after : (next : ℕ) → r ≡ 0 → next ≡ after_text s next
+  pub refused_after : (e : Refusal) → number_of e ≡ text_refusal s → after_text s next ≡ number_of e
   unfolding text_refusal after_text
-  accepted_after next z = sym (refusal_cases (too_long s) (utf8 s) next ∙ rw (← p, eq-eqb r 0 z))
+  refused_after e q = refusal_cases (too_long s) (utf8 s) next ∙ rw (← q) (numbered e)
+    where
+      numbered : (e : Refusal) → pick (eqb (number_of e) 0) next (number_of e) ≡ number_of e
+      numbered TextTooLong = refl
+      numbered TextNotUtf8 = refl
+      numbered NoBracket = refl
+      numbered EscapedBracket = refl
+      numbered NoGroup = refl
+      numbered UnknownMode = refl
+      numbered PoolBroken = refl
+      numbered NoEntry = refl
+      numbered IndexTooShort = refl
+      numbered NoRoom = refl

@@ -4,11 +4,13 @@
 
 ghost use Rattle.std.specs.Prelude.{◌≡◌, ◌+◌, ◌≤◌, ◌<◌, length};
 ghost use Rattle.base.specs.Pick.{pick};
+ghost use Rattle.base.specs.Refusals.{refusal_number};
 ghost use Rattle.utf8.specs.Facts.{EncodedIsUtf8, Utf8IsEncoded, DecodedIsBack};
 ghost use Rattle.utf8.specs.Blocks.{all_ascii, ascii_step};
 ghost use Rattle.utf8.specs.Refusal.{text_refusal};
 ghost use Rattle.utf8.specs.Utf8.{two_bytes, three_bytes, four_bytes, char_width, utf8};
 
+use base::refusal::Refusal;
 use base::slices::byte_at;
 
 // A character of two bytes.
@@ -117,17 +119,18 @@ pub fn is_utf8(text: &[u8]) -> bool
     true
 }
 
-// What refuses a text by itself: 1 above 65,535 bytes, 2 not UTF-8; else 0.
-pub fn text_refusal(text: &[u8]) -> u8
-    ensures { result ≡ text_refusal text.now }
+// Refuses a text by itself: above 65,535 bytes, or not UTF-8.
+#[tactic(auto, unfolding(crate::specs::Refusal::text_refusal, crate::specs::Refusal::after_text))]
+pub fn check_text(text: &[u8]) -> Result<(), Refusal>
+    ensures { refusal_number result ≡ text_refusal text.now }
 {
     if 65535 < text.len() {
-        return 1;
+        return Err(Refusal::TextTooLong);
     }
-    if is_utf8(text) {
-        return 0;
+    if !is_utf8(text) {
+        return Err(Refusal::TextNotUtf8);
     }
-    2
+    Ok(())
 }
 
 // The theorems of specs/Facts. The function does nothing; its contract states them.
