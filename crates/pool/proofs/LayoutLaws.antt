@@ -8,29 +8,11 @@ use lib.ListN.{length, take, drop}
 use lib.Dec.{eqb, leb}
 use borrow.Author.Tests.{lt-ltb, le-ltb, leb-true, le-leb, lt-leb, eq-eqb, ne_eqb}
 use Rattle.base.specs.Lists.{byte_at, part}
-use Rattle.base.proofs.Parts.{part_is, part_length}
-use Rattle.utf8.specs.Utf8.{utf8}
+use Rattle.base.proofs.Parts.{part_is}
 use Rattle.pool.specs.Fields.{field_end, field_at, fields_of, fill, follows, content_good, fields_good, good_from, entry_good}
 use Rattle.pool.specs.Layout.{count_of, offset_of, end_of, entries_good, laid_out, well_formed}
 use Rattle.pool.specs.Steps.{field_good, pair_good}
 use Rattle.pool.proofs.FieldLaws.{field_after, field_shrinks, fields_next, fill_next, fields_end, fill_end}
-
--- the content of a field
-module _ (s : List ℕ) (tag a e : ℕ) where
-  pub content_name : a ≤ e → e ≤ length s → tag ≡ 2 → eqb (e - a) 0 ≡ content_good tag (part s a e)
-  unfolding content_good
-  content_name p q t = rw (eq-eqb tag 2 t, part_length s a e p q) refl
-
-  pub content_year : a ≤ e → e ≤ length s → (tag ≡ 2 → ⊥) → tag ≡ 6 → eqb (e - a) 8 ≡ content_good tag (part s a e)
-  unfolding content_good
-  content_year p q n t = rw (ne_eqb tag 2 n, eq-eqb tag 6 t, part_length s a e p q) refl
-
-  pub content_text : {r : Bool} → a ≤ e → e ≤ length s → (tag ≡ 2 → ⊥) → (tag ≡ 6 → ⊥) → r ≡ utf8 (take (e - a) (drop a s))
-      → r ≡ content_good tag (part s a e)
-  unfolding content_good
-  content_text p q n m u = rw (ne_eqb tag 2 n, ne_eqb tag 6 m, part_is s a e p q) u
-
-pub ruleset content_laws = (content_name, content_year, content_text)
 
 -- one field
 module _ (s : List ℕ) (last at e : ℕ) where
@@ -47,10 +29,13 @@ module _ (s : List ℕ) (last at e : ℕ) where
   unfolding field_good
   field_order h l p q f n = rw (le-leb (at + 3) e (omega arith), ← p, le-leb _ e q, ← f, n) refl
 
-  pub field_content : {k : ℕ} {t r : Bool} → at < e → 3 ≤ e - at → k ≡ field_end s at → k ≤ e → t ≡ follows last (byte_at s at) → t ≡ true
-      → r ≡ content_good (byte_at s at) (part s (at + 3) k) → r ≡ field_good last s at e
+  pub field_content : {k : ℕ} {t r : Bool} → at < e → e ≤ length s → 3 ≤ e - at → k ≡ field_end s at → k ≤ e → t ≡ follows last (byte_at s at) → t ≡ true
+      → r ≡ content_good (byte_at s at) (take (k - (at + 3)) (drop (at + 3) s)) → r ≡ field_good last s at e
   unfolding field_good
-  field_content h l p q f n g = rw (le-leb (at + 3) e (omega arith), ← p, le-leb _ e q, ← f, n) g
+  field_content {k} h b l p q f n g =
+      let m : at + 3 ≤ k = field_after s at p in
+      let u = part_is s (at + 3) k m (omega arith) in
+      rw (le-leb (at + 3) e (omega arith), ← p, le-leb _ e q, ← f, n, u) g
 
   -- from this field on
   good_next : at < e → good_from last s at e ≡ (field_good last s at e && good_from (byte_at s at) s (field_end s at) e)

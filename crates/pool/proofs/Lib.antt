@@ -1,7 +1,8 @@
 pub mod NumberLaws
 pub mod FieldLaws
-pub mod LayoutLaws
-pub mod ReaderLaws
+pub mod PartLaws
+pub mod YearLaws
 pub mod PoolLaws
+pub mod LayoutLaws
 pub mod Shapes
 pub mod Readings

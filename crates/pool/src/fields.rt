@@ -1,0 +1,89 @@
+// The fields of an entry, read one after the other.
+ghost use Rattle.std.specs.Prelude.{◌≡◌, true};
+ghost use Rattle.pool.specs.Readers.{are_fields};
+
+use crate::numbers::u16_at;
+
+// The tags of the fields.
+pub mod tag {
+    pub const ID: u8 = 1;
+
+    pub const NAME: u8 = 2;
+
+    pub const FAMILY: u8 = 3;
+
+    pub const GIVEN: u8 = 4;
+
+    pub const LITERAL: u8 = 5;
+
+    pub const YEAR: u8 = 6;
+
+    pub const DATE: u8 = 7;
+
+    pub const TITLE: u8 = 8;
+}
+
+// A field: its tag, and its bytes.
+#[derive(Clone, Copy)]
+pub struct Field<'a> {
+    pub tag: u8,
+    pub bytes: &'a [u8],
+}
+
+// The fields of an entry, or those that are left of it.
+#[derive(Clone, Copy)]
+pub struct Fields<'a> {
+    pub bytes: &'a [u8],
+    pub ghost filled: { are_fields bytes.now ≡ true },
+}
+
+#[tactic(auto, using(crate::proofs::PartLaws::front))]
+impl<'a> Iterator for Fields<'a> {
+    ghost use Rattle.std.specs.Iterator.{YieldsFirstBy, item_count};
+    ghost use Rattle.pool.specs.Views.{field_lent, fields_left};
+
+    type Item = Field<'a>;
+
+    ghost next_gives = { YieldsFirstBy field_lent fields_left };
+
+    ghost remaining = { item_count fields_left };
+
+    fn next(&mut self) -> Option<Field<'a>> {
+        if self.bytes.is_empty() {
+            return None;
+        }
+        let (field, rest) = self.bytes.split_at(3 + u16_at(self.bytes, 1));
+        self.bytes = rest;
+        Some(Field {
+            tag: field[0],
+            bytes: &field[3..],
+        })
+    }
+}
+
+impl<'a> Fields<'a> {
+    ghost use Rattle.pool.specs.Entries.{field_with, year_in};
+    ghost use Rattle.pool.specs.Readers.{lent, read_number};
+    ghost use Rattle.pool.specs.Views.{fields_left};
+
+    // The bytes of the first field with the tag `tag`.
+    #[tactic(auto, unfolding(crate::specs::Entries::field_with))]
+    pub fn field(self, tag: u8) -> Option<&'a [u8]>
+        ensures { lent result ≡ field_with tag (fields_left self.entry) }
+    {
+        for field in self {
+            if field.tag == tag {
+                return Some(field.bytes);
+            }
+        }
+        None
+    }
+
+    // The number of the field 6.
+    pub fn year(self) -> Option<i64>
+        ensures { read_number result ≡ year_in (field_with 6 (fields_left self.entry)) }
+    {
+        let bytes = self.field(tag::YEAR)?.first_chunk()?;
+        Some(u64::from_le_bytes(*bytes).cast_signed())
+    }
+}
