@@ -121,7 +121,7 @@ fn labelled_before(
     if (mode == 0) | (number == 0) | (sources < number) {
         return k;
     }
-    uses::last_alike(text, items, k, number)
+    uses::last_alike(text, items, k, number).unwrap_or(k)
 }
 
 // The label of item record `k` with the number `number`, after the label bytes so far, where it fits: that of an earlier record, copied, or

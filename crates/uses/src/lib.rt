@@ -4,11 +4,14 @@
 ghost use Rattle.std.specs.Prelude.{◌≡◌, ◌+◌, ◌%◌, ◌<◌};
 ghost use Rattle.base.specs.Pick.{pick};
 ghost use Rattle.uses.specs.Uses.{used_at, last_use, alike_at, last_alike, set_last};
-ghost use Rattle.uses.specs.Uses.{Counts};
+ghost use Rattle.uses.specs.Uses.{Found, Counts};
 ghost use Rattle.records.specs.Bounds.{record_bound, source_bound};
 
+use base::search::last_place;
+use base::slices::is_same;
 use records::{
-    ITEM_LABEL, ITEM_LABEL_LENGTH, ITEM_MARKS, ITEM_NUMBER, ITEM_USE, ITEM_WIDTH, field,
+    ITEM_LABEL, ITEM_LABEL_LENGTH, ITEM_MARKS, ITEM_NUMBER, ITEM_USE, ITEM_WIDTH, field, key_in,
+    put,
 };
 
 // The number and the use of an item record, and the sources after it.
@@ -24,27 +27,17 @@ pub fn is_use(text: &[u8], items: &[u16], j: usize, key: &[u8]) -> bool
     requires { j < record_bound }
     ensures { result ≡ used_at text.now items.now key.now j }
 {
-    let number = field::<ITEM_WIDTH>(items, j, ITEM_NUMBER);
-    if number == 0 {
-        return false;
-    }
-    base::slices::is_same(records::key_in(text, items, j), key)
+    0 < field::<ITEM_WIDTH>(items, j, ITEM_NUMBER) && is_same(key_in(text, items, j), key)
 }
 
-// The last item record before `k` that is numbered and has the key of record `k`; `k` where there is none.
-pub fn last_use(text: &[u8], items: &[u16], k: usize) -> usize
+// The last item record before `k` that is numbered and has the key of record `k`.
+#[tactic(auto, using(crate::proofs::UseLaws::found_last), unfolding(crate::specs::Uses::last_use, crate::specs::Uses::same_use))]
+pub fn last_use(text: &[u8], items: &[u16], k: usize) -> Option<usize>
     requires { k < record_bound }
-    ensures { result ≡ last_use text.now items.now k }
+    ensures { Found k (last_use text.now items.now k) result }
 {
-    let key = records::key_in(text, items, k);
-    let mut j = k;
-    while 0 < j {
-        j -= 1;
-        if is_use(text, items, j, key) {
-            return j;
-        }
-    }
-    k
+    let key = key_in(text, items, k);
+    last_place(k, |j| is_use(text, items, j, key))
 }
 
 // Whether item record `j` has the number `number`, the mark of suppression `mark` and the key `key`.
@@ -52,31 +45,21 @@ fn is_alike(text: &[u8], items: &[u16], number: usize, mark: usize, key: &[u8], 
     requires { j < record_bound }
     ensures { result ≡ alike_at text.now items.now number mark key.now j }
 {
-    if field::<ITEM_WIDTH>(items, j, ITEM_NUMBER) != number {
-        return false;
-    }
-    if field::<ITEM_WIDTH>(items, j, ITEM_MARKS) != mark {
-        return false;
-    }
-    base::slices::is_same(records::key_in(text, items, j), key)
+    field::<ITEM_WIDTH>(items, j, ITEM_NUMBER) == number
+        && field::<ITEM_WIDTH>(items, j, ITEM_MARKS) == mark
+        && is_same(key_in(text, items, j), key)
 }
 
 // The last item record before `k` that has the number `number`, and the mark of suppression and the key of record `k`: it has the label of
-// record `k` with that number. `k` where there is none.
-pub fn last_alike(text: &[u8], items: &[u16], k: usize, number: usize) -> usize
+// record `k` with that number.
+#[tactic(auto, using(crate::proofs::UseLaws::found_last), unfolding(crate::specs::Uses::last_alike, crate::specs::Uses::same_label))]
+pub fn last_alike(text: &[u8], items: &[u16], k: usize, number: usize) -> Option<usize>
     requires { k < record_bound }
-    ensures { result ≡ last_alike text.now items.now k number }
+    ensures { Found k (last_alike text.now items.now k number) result }
 {
     let mark = field::<ITEM_WIDTH>(items, k, ITEM_MARKS);
-    let key = records::key_in(text, items, k);
-    let mut j = k;
-    while 0 < j {
-        j -= 1;
-        if is_alike(text, items, number, mark, key, j) {
-            return j;
-        }
-    }
-    k
+    let key = key_in(text, items, k);
+    last_place(k, |j| is_alike(text, items, number, mark, key, j))
 }
 
 // The use after the use `before`; 0 without a pool.
@@ -96,29 +79,29 @@ pub fn count_in(text: &[u8], items: &[u16], pooled: bool, sources: usize, k: usi
     requires { (k < record_bound) × (sources < source_bound) }
     ensures { Counts text.now items.now pooled sources k result }
 {
-    let j = last_use(text, items, k);
-    if j < k {
-        Count {
+    match last_use(text, items, k) {
+        Some(j) => Count {
             number: field::<ITEM_WIDTH>(items, j, ITEM_NUMBER) as u16,
             use_index: next_use(pooled, field::<ITEM_WIDTH>(items, j, ITEM_USE)),
             sources,
-        }
-    } else {
-        Count {
+        },
+        None => Count {
             number: ((sources + 1) % 65536) as u16,
             use_index: next_use(pooled, 0),
             sources: sources + 1,
-        }
+        },
     }
 }
 
 // The last four numbers of item record `k`.
+#[tactic(auto, unfolding(crate::specs::Uses::set_last))]
 pub fn set_last(items: &mut [u16], k: usize, number: u16, use_index: u16, at: u16, len: u16)
     requires { k < record_bound }
     ensures { items.new ≡ set_last items.old k number use_index at len }
 {
-    records::put(items, ITEM_WIDTH * k + ITEM_NUMBER, number);
-    records::put(items, ITEM_WIDTH * k + ITEM_USE, use_index);
-    records::put(items, ITEM_WIDTH * k + ITEM_LABEL, at);
-    records::put(items, ITEM_WIDTH * k + ITEM_LABEL_LENGTH, len);
+    let record = ITEM_WIDTH * k;
+    put(items, record + ITEM_NUMBER, number);
+    put(items, record + ITEM_USE, use_index);
+    put(items, record + ITEM_LABEL, at);
+    put(items, record + ITEM_LABEL_LENGTH, len);
 }
