@@ -1,6 +1,6 @@
 -- Escapes, and the ends of trimmed stretches. Most laws have the form of a need of the code: premises are what the loop's invariant, the
 -- callees and the branches say.
-use Prim.Native.Nat.{ℕ, suc, ◌+◌, ◌-◌, ◌%◌, ◌≤◌, ◌<◌}
+use Prim.Native.Nat.{ℕ, zero, suc, ◌+◌, ◌-◌, ◌%◌, ◌≤◌, ◌<◌}
 use native.Mathlib.Omega.{arith}
 use mathlib.Core.Path.{◌≡◌, refl, sym, ◌∙◌, ap}
 use mathlib.Core.List.{List}
@@ -9,6 +9,7 @@ use lib.Dec.{eqb, ltb}
 use borrow.Author.Tests.{eq-eqb, ne_eqb, eqb-true, eqb-false, lt-ltb, le-ltb}
 use Rattle.base.specs.Pick.{pick}
 use Rattle.base.specs.Lists.{byte_at}
+use Rattle.base.specs.Last.{last_end}
 use Rattle.base.proofs.Searches.{first_out, first_stop, first_more}
 use Rattle.base.proofs.Lasts.{last_end_out, last_end_stop, last_end_more}
 use Rattle.text.specs.Escape.{slashes, escaped_at}
@@ -17,35 +18,19 @@ use Rattle.text.specs.Trim.{trim_start, trim_end}
 
 -- escape -------------------------------------------------------------------------------------------------------------------------
 
--- the run before `at`, where the last `n` bytes before it are backslashes
-unfoldable pub slashes_past : List ℕ → ℕ → ℕ → ℕ
-slashes_past s at n = n + slashes s (at - n)
+-- the run of backslashes before `at` begins after the last other byte
+slashes_are : (s : List ℕ) (at : ℕ) → last_end (λ i. not (eqb (byte_at s i) 92)) at 0 0 + slashes s at ≡ at
+unfolding slashes last_end
+slashes_are s zero = refl
+slashes_are s (suc i) = let z : 0 + i ≡ i = omega arith in rw z (go (eqb (byte_at s i) 92) (slashes_are s i))
+  where
+    go : (t : Bool) → last_end (λ i. not (eqb (byte_at s i) 92)) i 0 0 + slashes s i ≡ i
+        → pick (not t) (suc i) (last_end (λ i. not (eqb (byte_at s i) 92)) i 0 0) + pick t (suc (slashes s i)) 0 ≡ suc i
+    go true p = omega arith
+    go false p = omega arith
 
-pub slash_start : (s : List ℕ) (at : ℕ) → slashes s at ≡ slashes_past s at 0
-unfolding slashes_past
-slash_start s at = let e : at - 0 ≡ at = omega arith in rw e (omega arith)
-
-module _ (s : List ℕ) (at n : ℕ) where
-  pub slash_out : {w : ℕ} → w ≡ slashes_past s at n → at ≤ n → n ≡ w
-  unfolding slashes_past slashes
-  slash_out p h = let e : at - n ≡ 0 = omega arith in sym (p ∙ rw e (omega arith))
-
-  last : n < at → at - n ≡ suc (at - 1 - n)
-  last h = omega arith
-
-  pub slash_stop : {w : ℕ} → w ≡ slashes_past s at n → n < at → (byte_at s (at - 1 - n) ≡ 92 → ⊥) → n ≡ w
-  unfolding slashes_past slashes
-  slash_stop p h f = sym (p ∙ rw (last h, ne_eqb (byte_at s (at - 1 - n)) 92 f) (omega arith))
-
-  pub slash_more : {w : ℕ} → w ≡ slashes_past s at n → n < at → byte_at s (at - 1 - n) ≡ 92 → w ≡ slashes_past s at (n + 1)
-  unfolding slashes_past slashes
-  slash_more p h f =
-      let e : at - (n + 1) ≡ at - 1 - n = omega arith in
-      p ∙ rw (e, last h, eq-eqb (byte_at s (at - 1 - n)) 92 f) (omega arith)
-
-pub escaped_odd : (s : List ℕ) (at : ℕ) {n : ℕ} → n ≡ slashes s at → eqb (n % 2) 1 ≡ escaped_at s at
-unfolding escaped_at
-escaped_odd s at p = rw p
+pub slashes_after : (s : List ℕ) (at : ℕ) {r : ℕ} → r ≡ last_end (λ i. not (eqb (byte_at s i) 92)) (at - 0) 0 0 → r + slashes s at ≡ at
+slashes_after s at p = let z : at - 0 ≡ at = omega arith in rw p (rw z (slashes_are s at))
 
 -- a place is escaped exactly where an unescaped backslash stands just before it
 pub escaped_next : (s : List ℕ) (i : ℕ) → escaped_at s (suc i) ≡ (eqb (byte_at s i) 92 && not (escaped_at s i))
@@ -60,7 +45,7 @@ escaped_next s i = go (eqb (byte_at s i) 92)
     go true = odd (slashes s i) (eqb (slashes s i % 2) 1) refl
     go false = refl
 
-pub ruleset escape_laws = (slash_start, slash_out, slash_stop, slash_more, escaped_odd)
+pub ruleset slash_laws = (slashes_after)
 
 -- trims --------------------------------------------------------------------------------------------------------------------------
 
@@ -98,8 +83,4 @@ white_one_lem s i {k} p = go (is_white s i) refl
     go true q = let r = start_out s (i + 1) (i + 1) (start_more s i (i + 1) p (omega arith) (sym q) refl) (omega arith) in lt-ltb i k (omega arith)
     go false q = let r = start_stop s i (i + 1) p (omega arith) (sym q) refl in le-ltb i k (omega arith)
 
--- with the bound 0 nothing is trimmed off the start
-pub end_alone : (s : List ℕ) (a e : ℕ) {r : ℕ} → r ≡ trim_end s (trim_start s a 0) e → r ≡ trim_end s a e
-end_alone s a e p = let q = start_out s a 0 refl (omega arith) in p ∙ rw (← q)
-
-pub ruleset trim_laws = (start_out, start_stop, start_more, end_out, end_stop, end_more, white_one_lem, end_alone)
+pub ruleset trim_laws = (start_out, start_stop, start_more, end_out, end_stop, end_more, white_one_lem)

@@ -1,8 +1,11 @@
-// A reader that keeps the text and a position: what stands there, and where the white space from there ends.
-// Each function here is one call over the slice. Callers use the functions of the crate's root, which take the text and a place.
-ghost use Rattle.std.specs.Prelude.{◌≡◌, ◌≤◌, length};
-ghost use Rattle.text.specs.Escape.{escaped_at};
+// A reader that keeps the text and a position: whether the position is escaped, and where the white space from there ends.
+// Callers use the functions of the crate's root, which take the text and a place.
+ghost use Rattle.std.specs.Prelude.{◌≡◌, ◌+◌, ◌≤◌, length};
+ghost use Rattle.text.specs.Escape.{escaped_at, slashes};
 ghost use Rattle.text.specs.Trim.{trim_start, trim_end};
+
+use base::search::{after_last, first_place};
+use white::is_white;
 
 // "Escape and white space are read by a reader that keeps the text and a position."
 #[derive(Drop)]
@@ -11,32 +14,40 @@ pub struct Reader<'a> {
     pub at: usize,
 }
 
-// Whether the reader's place is escaped.
-pub fn is_escaped<'a>(r: Reader<'a>) -> bool
-    requires { r.at ≤ length r.text.now }
-    ensures { result ≡ escaped_at r.entry.text.now r.entry.at }
-{
-    crate::odd_slashes(r.text, r.at)
-}
-
-// The reader moved on to the first byte before `end` that is not white, or to `end`; it stays where it is if that is past `end`.
-pub fn skip_white<'a>(r: Reader<'a>, end: usize) -> Reader<'a>
-    requires { end ≤ length r.text.now }
-    ensures { (result.text ≡ r.entry.text) × (result.at ≡ trim_start r.entry.text.now r.entry.at end) }
-{
-    Reader {
-        text: r.text,
-        at: crate::first_not_white(r.text, r.at, end),
+impl<'a> Reader<'a> {
+    // Where the run of backslashes just before the position begins.
+    #[tactic(auto, using(crate::proofs::Laws::slashes_after))]
+    fn slashes_start(&self) -> usize
+        requires { self.now.at ≤ length self.now.text.now }
+        ensures { result + slashes self.now.text.now self.now.at ≡ self.now.at }
+    {
+        after_last(0, self.at, |i| self.text[i] != b'\\')
     }
-}
 
-// The reader moved back to the end of the last byte after `start` that is not white, or to `start`.
-pub fn skip_white_back<'a>(r: Reader<'a>, start: usize) -> Reader<'a>
-    requires { r.at ≤ length r.text.now }
-    ensures { (result.text ≡ r.entry.text) × (result.at ≡ trim_end r.entry.text.now start r.entry.at) }
-{
-    Reader {
-        text: r.text,
-        at: crate::last_not_white(r.text, r.at, start),
+    // Whether the position is escaped: an odd run of backslashes stands just before it.
+    #[tactic(auto, unfolding(crate::specs::Escape::escaped_at))]
+    pub fn is_escaped(&self) -> bool
+        requires { self.now.at ≤ length self.now.text.now }
+        ensures { result ≡ escaped_at self.now.text.now self.now.at }
+    {
+        (self.at - self.slashes_start()) % 2 == 1
+    }
+
+    // Moves on to the first byte before `end` that is not white, or to `end`; stays where it is if that is past `end`.
+    #[tactic(auto, unfolding(crate::specs::Trim::trim_start))]
+    pub fn skip_white(&mut self, end: usize)
+        requires { end ≤ length self.old.text.now }
+        ensures { (self.new.text ≡ self.old.text) × (self.new.at ≡ trim_start self.old.text.now self.old.at end) }
+    {
+        self.at = first_place(self.at, end, |i| !is_white(self.text, i));
+    }
+
+    // Moves back to the end of the last byte after `start` that is not white, or to `start`.
+    #[tactic(auto, unfolding(crate::specs::Trim::trim_end))]
+    pub fn skip_white_back(&mut self, start: usize)
+        requires { self.old.at ≤ length self.old.text.now }
+        ensures { (self.new.text ≡ self.old.text) × (self.new.at ≡ trim_end self.old.text.now start self.old.at) }
+    {
+        self.at = after_last(start, self.at, |i| !is_white(self.text, i));
     }
 }
