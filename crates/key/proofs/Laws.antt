@@ -1,40 +1,23 @@
--- Keys: the run unrolled at a place, each law in the form of a need (`b` is what a call of a test gave, `e` what the loop's invariant speaks
--- of); where a key ends, and of which bytes it is.
+-- Keys: where a key ends (`b` is what a call of a test gave, `e` what one of `run_end` gave), and of which bytes it is.
 use Prim.Native.Nat.{ℕ, ◌+◌, ◌-◌, ◌≤◌, ◌<◌}
 use native.Mathlib.Omega.{arith}
 use mathlib.Core.Path.{◌≡◌, refl, sym, ◌∙◌, ap, subst}
 use mathlib.Core.List.{List}
-use mathlib.Core.Logic.{◌⊎◌, inl, inr, ⊎_elim}
+use mathlib.Core.Logic.{◌⊎◌, inl, inr}
 use mathlib.Core.Bool.{Bool, true, false, ◌||◌, not, true≢false}
 use lib.ListN.{length}
 use lib.Dec.{ltb}
-use borrow.Author.Tests.{lt-ltb, le-ltb, ltb-true, ltb-false, not-true, not-false}
+use borrow.Author.Tests.{lt-ltb, le-ltb, ltb-true, ltb-false, not-false}
 use Rattle.base.specs.Pick.{pick}
 use Rattle.base.specs.Lists.{byte_at}
 use Rattle.base.specs.Last.{last_end}
 use Rattle.base.proofs.Bools.{and_left, and_right, split}
-use Rattle.base.proofs.Searches.{first_from, first_by, first_fails, first_out, first_stop, first_more}
-use Rattle.base.proofs.Lasts.{last_end_from, last_end_by, last_end_behind, last_end_holds, last_end_out, last_end_stop, last_end_more}
+use Rattle.base.proofs.Searches.{first_from, first_by, first_fails}
+use Rattle.base.proofs.Lasts.{last_end_from, last_end_by, last_end_behind, last_end_holds, last_end_stop}
 use Rattle.key.specs.Keys.{is_first, is_mark, is_key, run_end, starts_key, without_marks, key_end}
 use Rattle.key.specs.Facts.{KeyEnds, OldKeys}
 
-pub key_or : (b : ℕ) {f m : Bool} → f ≡ is_first b → m ≡ is_mark b → f || m ≡ is_key b
-unfolding is_key
-key_or b p q = rw (p, q)
-
 module _ (s : List ℕ) (i : ℕ) where
-  pub run_out : {e : ℕ} → e ≡ run_end s i → length s ≤ i → i ≡ e
-  unfolding run_end
-  run_out = first_out (λ j. not (is_key (byte_at s j))) i (length s)
-
-  pub run_stop : {e : ℕ} {b : Bool} → e ≡ run_end s i → i < length s → b ≡ is_key (byte_at s i) → b ≡ false → i ≡ e
-  unfolding run_end
-  run_stop p h q f = first_stop (λ j. not (is_key (byte_at s j))) i (length s) p h (ap not (sym q ∙ f))
-
-  pub run_more : {e : ℕ} {b : Bool} → e ≡ run_end s i → i < length s → b ≡ is_key (byte_at s i) → b ≡ true → e ≡ run_end s (i + 1)
-  unfolding run_end
-  run_more p h q t = first_more (λ j. not (is_key (byte_at s j))) i (length s) p h (ap not (sym q ∙ t))
-
   pub key_out : length s ≤ i → i ≡ key_end s i
   unfolding key_end
   key_out h = rw (le-ltb _ _ h)
@@ -57,33 +40,7 @@ module _ (s : List ℕ) (i : ℕ) where
   unfolding run_end
   run_by p h = omega (arith, first_by (λ j. not (is_key (byte_at s j))) (length s - (i + 1)) (i + 1))
 
--- the walk back over the marks: those from `e` on were passed
-module _ (s : List ℕ) (a e : ℕ) {w : ℕ} (p : w ≡ without_marks s a e) (l : a ≤ e) where
-  pub marks_out : e ≤ a → e ≡ w
-  unfolding without_marks
-  marks_out h = omega (arith, last_end_out (λ j. is_first (byte_at s j)) a e a p h)
-
-  marks_none : e ≤ a → w ≡ without_marks s a (e - 1)
-  unfolding without_marks last_end
-  marks_none h = let z : e - 1 - a ≡ 0 = omega arith in rw z (sym (marks_out h) ∙ omega arith)
-
-  pub marks_stop : {b : Bool} → b ≡ is_first (byte_at s (e - 1)) → not b ≡ false → e ≡ w
-  unfolding without_marks
-  marks_stop q t =
-      ⊎_elim
-      (λ m. last_end_stop (λ j. is_first (byte_at s j)) a e a p (ltb-true a e m) (sym q ∙ not-false _ t))
-      (λ m. marks_out (ltb-false a e m))
-      (split (ltb a e))
-
-  pub marks_more : {b : Bool} → b ≡ is_first (byte_at s (e - 1)) → not b ≡ true → w ≡ without_marks s a (e - 1)
-  unfolding without_marks
-  marks_more q f =
-      ⊎_elim
-      (λ m. last_end_more (λ j. is_first (byte_at s j)) a e a p (ltb-true a e m) (sym q ∙ not-true _ f))
-      (λ m. marks_none (ltb-false a e m))
-      (split (ltb a e))
-
-pub ruleset laws = (key_or, run_out, run_stop, run_more, key_out, key_not, key_yes, run_from, run_by, marks_out, marks_stop, marks_more)
+pub ruleset laws = (key_out, key_not, key_yes, run_from, run_by)
 
 -- where a key ends ---------------------------------------------------------------------------------------------------------------
 
@@ -205,7 +162,9 @@ key_ends s i h = record {
 }
 
 pub old_keys : OldKeys
+unfolding without_marks
 old_keys s i q m =
+    let e = run_end s (i + 1) in
     let l = run_from s i refl in
-    let b = run_byte s i (run_end s (i + 1) - 1) q (omega arith) (omega arith) in
-    sym (marks_stop s i (run_end s (i + 1)) (key_is s i q) (omega arith) refl (ap not (no_mark _ b m)))
+    let b = run_byte s i (e - 1) q (omega arith) (omega arith) in
+    key_is s i q ∙ sym (last_end_stop (λ j. is_first (byte_at s j)) i e i refl l (no_mark _ b m))
