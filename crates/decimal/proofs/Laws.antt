@@ -1,5 +1,5 @@
 -- The digits of a number, unrolled, in the form of the needs.
-use Prim.Native.Nat.{ℕ, zero, suc, ◌+◌, ◌-◌, ◌/◌, ◌%◌, ◌≤◌, ◌<◌}
+use Prim.Native.Nat.{ℕ, zero, suc, ◌+◌, ◌-◌, ◌*◌, ◌/◌, ◌^◌, max, ◌%◌, ◌≤◌, ◌<◌}
 use native.Mathlib.Omega.{arith}
 use mathlib.Core.Path.{◌≡◌, refl, sym, ◌∙◌}
 use mathlib.Core.List.{List, [], ◌∷◌, ◌++◌, append_assoc}
@@ -7,25 +7,28 @@ use mathlib.Core.Bool.{Bool, true, false}
 use lib.ListN.{length, drop, set, length-append, length-set}
 use lib.Dec.{leb}
 use lib.Seq.{drop-cons, drop-set-lt, get_or-set_same}
-use borrow.Author.Tests.{le-leb, lt-leb}
+use borrow.Author.Tests.{le-leb, lt-leb, leb-true, leb-false}
 use Rattle.base.specs.Pick.{pick}
 use Rattle.base.specs.Lists.{written}
 use Rattle.decimal.specs.Decimal.{count_in, digit_count, last_digits, decimal}
 
-count_one : (f m : ℕ) → m < 10 → count_in f m ≡ 1
-unfolding count_in
-count_one zero m h = refl
-count_one (suc f) m h = rw (lt-leb _ _ h)
+pow_suc : (k : ℕ) → 10 ^ suc k ≡ 10 * 10 ^ k
+pow_suc k = omega arith
 
-count_last : (f m : ℕ) → f ≤ 0 → count_in f m ≡ 1
-unfolding count_in
-count_last zero m h = refl
-count_last (suc f) m h = absurd (omega arith)
+pow_pos : (k : ℕ) → 0 < 10 ^ k
+pow_pos zero = omega arith
+pow_pos (suc k) = let h = pow_pos k in omega (arith, pow_suc k)
 
-count_more : (f m : ℕ) → 0 < f → 10 ≤ m → count_in f m ≡ count_in (f - 1) (m / 10) + 1
+-- a number from 10 to the power `k` on and below the next power has one digit more than `k`
+count_pow : (f k m : ℕ) → k ≤ f → 10 ^ k ≤ m → m < 10 * 10 ^ k → count_in f m ≡ suc k
 unfolding count_in
-count_more zero m h g = absurd (omega arith)
-count_more (suc f) m h g = let p : suc f - 1 ≡ f = omega arith in rw (p, le-leb _ _ g) (omega arith)
+count_pow zero zero m l a b = refl
+count_pow zero (suc k) m l a b = absurd (omega arith)
+count_pow (suc f) zero m l a b = rw (lt-leb 10 m b)
+count_pow (suc f) (suc k) m l a b =
+    let e : 10 ^ suc k ≡ 10 * 10 ^ k = pow_suc k in
+    let p = pow_pos k in
+    rw (le-leb 10 m (omega arith), count_pow f k (m / 10) (omega arith) (omega arith) (omega arith)) refl
 
 count_small : (f m : ℕ) → count_in f m ≤ f + 1
 unfolding count_in
@@ -49,21 +52,25 @@ decimal_length n = digits_length (digit_count n) n
 pub decimal_short : (n : ℕ) → length (decimal n) ≤ 20
 decimal_short n = rw decimal_length (count_small 19 n)
 
--- the loop that counts: with `f` divisions left it is at `m`
-module _ (n f m : ℕ) where
-  pub digits_one : f ≤ 19 → digit_count n + f ≡ 19 + count_in f m → m < 10 → 20 - f ≡ length (decimal n)
-  digits_one l e h = rw decimal_length (omega (arith, count_one f m h))
+count_one : (f m : ℕ) → m < 10 → count_in f m ≡ 1
+unfolding count_in
+count_one zero m h = refl
+count_one (suc f) m h = rw (lt-leb _ _ h)
 
-  pub digits_last : digit_count n + f ≡ 19 + count_in f m → f ≤ 0 → 20 ≡ length (decimal n)
-  digits_last e h = rw decimal_length (omega (arith, count_last f m h))
+-- the greatest power of ten by `n` tells how many digits it has
+pub digits_pow : (n k : ℕ) → k < 20 → 10 ^ k ≤ max n 1 → max n 1 < 10 * 10 ^ k → 1 + k ≡ length (decimal n)
+digits_pow n k l a b = rw decimal_length (count (leb 1 n) refl)
+  where
+    count : (t : Bool) → leb 1 n ≡ t → 1 + k ≡ digit_count n
+    count true q =
+        let h = leb-true 1 n q in
+        let e : max n 1 ≡ n = omega arith in
+        omega (arith, count_pow 19 k n (omega arith) (omega arith) (omega arith))
+    count false q =
+        let h = leb-false 1 n q in
+        omega (arith, count_pow 19 k 1 (omega arith) (omega arith) (omega arith), count_one 19 1 (omega arith), count_one 19 n (omega arith))
 
-  pub digits_next : digit_count n + f ≡ 19 + count_in f m → 0 < f → 10 ≤ m → digit_count n + (f - 1) ≡ 19 + count_in (f - 1) (m / 10)
-  digits_next e h g = omega (arith, count_more f m h g)
-
-pub digits_start : (n : ℕ) → digit_count n + 19 ≡ 19 + count_in 19 n
-digits_start n = omega arith
-
-pub ruleset count_laws = (digits_start, digits_one, digits_next, digits_last)
+pub ruleset count_laws = (digits_pow)
 
 -- the loop that writes from the back: one digit more
 digits_step : (k m : ℕ) (out : List ℕ) → 0 < k → k ≤ length out
@@ -76,17 +83,18 @@ digits_step (suc k) m out h l =
     rw (p, drop-cons (set out k (48 + m % 10)) k 0 b, get_or-set_same out k (48 + m % 10) 0 l, drop-set-lt (suc k) out k (48 + m % 10) (omega arith))
     (sym (append_assoc (last_digits k (m / 10)) ((48 + m % 10) ∷ []) (drop (suc k) out)))
 
-module _ (k m : ℕ) (out w : List ℕ) where
-  pub fill_step : (s : List ℕ) (n : ℕ) → last_digits k m ++ drop k out ≡ w → 0 < k → k ≤ n → n ≤ length s → length out ≡ length s
-      → last_digits (k - 1) (m / 10) ++ drop (k - 1) (set out (k - 1) (48 + m % 10)) ≡ w
-  fill_step s n e h a b l = digits_step k m out h (omega arith) ∙ e
+-- with `i` places left and `m` to be written there
+module _ (n i m : ℕ) (s out : List ℕ) where
+  pub write_start : i ≡ length (decimal n) → last_digits i n ++ drop i s ≡ written (decimal n) s
+  unfolding written decimal
+  write_start e = rw (e, digits_length) refl
 
-  pub fill_done : last_digits k m ++ drop k out ≡ w → k ≤ 0 → out ≡ w
+  pub write_step : last_digits i m ++ drop i out ≡ written (decimal n) s → 0 < i → i ≤ length out
+      → last_digits (i - 1) (m / 10) ++ drop (i - 1) (set out (i - 1) (48 + m % 10)) ≡ written (decimal n) s
+  write_step e h l = digits_step i m out h l ∙ e
+
+  pub write_done : last_digits i m ++ drop i out ≡ written (decimal n) s → i ≤ 0 → out ≡ written (decimal n) s
   unfolding last_digits
-  fill_done e h = let p : k ≡ 0 = omega arith in rw p at e
+  write_done e h = let p : i ≡ 0 = omega arith in rw p at e
 
-pub ruleset fill_laws = (fill_step, fill_done)
-
-pub decimal_written : (n : ℕ) (s out : List ℕ) {k : ℕ} → k ≡ length (decimal n) → out ≡ last_digits k n ++ drop k s → out ≡ written (decimal n) s
-unfolding written decimal
-decimal_written n s out {k} e o = o ∙ rw (e, digits_length) refl
+pub ruleset write_laws = (write_start, write_step, write_done)

@@ -1,45 +1,27 @@
 // Numbers in decimal, written at the front of a lent area.
 #![tactic(auto)]
 
-ghost use Rattle.std.specs.Prelude.{◌≡◌, ◌++◌, ◌≤◌, length, drop};
+ghost use Rattle.std.specs.Prelude.{◌≡◌, ◌≤◌, length};
 ghost use Rattle.base.specs.Lists.{written};
-ghost use Rattle.decimal.specs.Decimal.{last_digits, decimal};
+ghost use Rattle.decimal.specs.Decimal.{decimal};
 
 // How many digits `n` has.
+#[tactic(auto, using(crate::proofs::Laws::count_laws))]
 pub fn digit_count(n: u64) -> usize
     ensures { result ≡ length (decimal n) }
 {
-    let mut m = n;
-    let mut left: usize = 19;
-    while 0 < left {
-        if m < 10 {
-            return 20 - left;
-        }
-        m = m / 10;
-        left -= 1;
-    }
-    20
-}
-
-// The last `k` digits of `n` into the first `k` bytes.
-fn fill(out: &mut [u8], k: usize, n: u64)
-    requires { k ≤ length out.old }
-    ensures { out.new ≡ last_digits k n ++ drop k out.old }
-{
-    let mut j = k;
-    let mut m = n;
-    while 0 < j {
-        j -= 1;
-        out[j] = b'0' + (m % 10) as u8;
-        m = m / 10;
-    }
+    1 + n.max(1).ilog10() as usize
 }
 
 // `n` in decimal at the front of `out`.
+#[tactic(auto, using(crate::proofs::Laws::write_laws))]
 pub fn write_decimal(out: &mut [u8], n: u64)
     requires { length (decimal n) ≤ length out.old }
     ensures { out.new ≡ written (decimal n) out.old }
 {
-    let k = digit_count(n);
-    fill(out, k, n);
+    let mut rest = n;
+    for i in (0..digit_count(n)).rev() {
+        out[i] = b'0' + (rest % 10) as u8;
+        rest /= 10;
+    }
 }
