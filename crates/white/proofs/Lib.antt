@@ -1,3 +1,2 @@
 pub mod Whites
-pub mod Laws
 pub mod Points
