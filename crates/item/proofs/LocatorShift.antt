@@ -15,8 +15,11 @@ use Rattle.base.specs.Spans.{span, missing, span_of}
 use Rattle.base.proofs.Searches.{first_by, first_shift}
 use Rattle.base.proofs.Lasts.{last_end_shift}
 use Rattle.locator.specs.declared.Label.{Label}
-use Rattle.locator.specs.declared.Locator.TheVariants.{Nothing, Plain}
-use Rattle.locator.specs.Matchers.{Matcher, matchers, no_code, code_page}
+use Rattle.locator.specs.declared.Locator.TheVariants.{Nothing}
+use Rattle.std.specs.Prelude.{Option, Some, None}
+use Rattle.locator.specs.declared.Term.{Term}
+use Rattle.locator.specs.declared.Term.TheVariants.{Page}
+use Rattle.locator.specs.Matchers.{Matcher, matchers}
 use Rattle.locator.specs.Locators.{is_blank, is_digit, skip_blanks, lower, fits, is_sign, may_follow, label, stands, match_in, or_page, label_of, is_letter, is_roman, letters_end, roman_end, in_value, value_run, is_loose, value_end, valued, labelled, locator_from, locator_of}
 use Rattle.item.specs.Moved.{moved_span, moved_locator}
 
@@ -110,26 +113,31 @@ module _ (s t : List ℕ) (d e : ℕ) (same : (j : ℕ) → j < e → byte_at t 
       let z : i + d + length m.word ≡ i + length m.word + d = omega arith in
       rw (z, fits_move m.word i y h, follow_move (i + length m.word) y h) refl
 
-  abbrev moved_label : Label → Label
-  moved_label l = label l.code (l.after + d)
+  abbrev moved_label : Option Label → Option Label
+  moved_label (Some l) = Some (label l.term (l.after + d))
+  moved_label None = None
 
   match_move : (ms : List Matcher) (i y : ℕ) → y ≤ e → match_in ms s (i + d) (y + d) ≡ moved_label (match_in ms t i y)
   unfolding match_in
   match_move [] i y h = refl
   match_move (m ∷ ms) i y h = rw (stands_move m i y h, match_move ms i y h) (go (stands m t i y))
     where
-      go : (b : Bool) → pick b (label m.code (i + d + length m.word)) (moved_label (match_in ms t i y))
-          ≡ moved_label (pick b (label m.code (i + length m.word)) (match_in ms t i y))
+      go : (b : Bool) → pick b (Some (label m.term (i + d + length m.word))) (moved_label (match_in ms t i y))
+          ≡ moved_label (pick b (Some (label m.term (i + length m.word))) (match_in ms t i y))
       go true = let z : i + d + length m.word ≡ i + length m.word + d = omega arith in rw z refl
       go false = refl
 
   label_move : (i y : ℕ) → y ≤ e → i < y → label_of s (i + d) (y + d) ≡ moved_label (label_of t i y)
   unfolding label_of or_page
-  label_move i y h l = rw (match_move matchers i y h, sym (same i (omega arith))) (go (eqb (match_in matchers t i y).code no_code && is_digit (byte_at t i)))
+  label_move i y h l = rw (match_move matchers i y h, sym (same i (omega arith))) (go (match_in matchers t i y))
     where
-      go : (b : Bool) → pick b (label code_page (i + d)) (moved_label (match_in matchers t i y)) ≡ moved_label (pick b (label code_page i) (match_in matchers t i y))
-      go true = refl
-      go false = refl
+      page : (b : Bool) → pick b (Some (label Page (i + d))) None ≡ moved_label (pick b (Some (label Page i)) None)
+      page true = refl
+      page false = refl
+
+      go : (m : Option Label) → or_page (moved_label m) (byte_at t i) (i + d) ≡ moved_label (or_page m (byte_at t i) i)
+      go (Some x) = refl
+      go None = page (is_digit (byte_at t i))
 
   letters_move : (k y : ℕ) → y ≤ e → letters_end s (k + d) (y + d) ≡ letters_end t k y + d
   unfolding letters_end
@@ -166,21 +174,16 @@ module _ (s t : List ℕ) (d e : ℕ) (same : (j : ℕ) → j < e → byte_at t 
           sym (last_end_shift (λ k. not (is_loose (byte_at t k))) (λ k. not (is_loose (byte_at s k))) d (run - v) v v (λ x m. ap (λ b. not (is_loose b)) (same x (omega arith))))
       go false q = let l = ltb-false v run q in let z : run - v ≡ 0 = omega arith in rw z refl
 
-  valued_move : (code v y : ℕ) → y ≤ e → valued s code (v + d) (y + d) ≡ moved_locator d (valued t code v y)
+  valued_move : (c : Term) (v y : ℕ) → y ≤ e → valued s c (v + d) (y + d) ≡ moved_locator d (valued t c v y)
   unfolding valued
-  valued_move code v y h =
+  valued_move c v y h =
       let run = value_run t v y in
       rw (run_move v y h, value_move v run (λ l. let k = run_by v y l in omega arith), skip_move run y h, span_move d v (value_end t v run), span_move d (skip_blanks t run y) y) refl
 
-  labelled_move : (i y : ℕ) (l : Label) → y ≤ e → labelled s (i + d) (y + d) (moved_label l) ≡ moved_locator d (labelled t i y l)
+  labelled_move : (i y : ℕ) (m : Option Label) → y ≤ e → labelled s (i + d) (y + d) (moved_label m) ≡ moved_locator d (labelled t i y m)
   unfolding labelled
-  labelled_move i y l h =
-      rw (skip_move l.after y h, valued_move l.code (skip_blanks t l.after y) y h, span_move d i y) (go (eqb l.code no_code))
-    where
-      go : (b : Bool) → pick b (Plain (moved_span d (span_of i y))) (moved_locator d (valued t l.code (skip_blanks t l.after y) y))
-          ≡ moved_locator d (pick b (Plain (span_of i y)) (valued t l.code (skip_blanks t l.after y) y))
-      go true = refl
-      go false = refl
+  labelled_move i y None h = rw (span_move d i y) refl
+  labelled_move i y (Some l) h = rw (skip_move l.after y h, valued_move l.term (skip_blanks t l.after y) y h) refl
 
   from_move : (i y : ℕ) → y ≤ e → locator_from s (i + d) (y + d) ≡ moved_locator d (locator_from t i y)
   unfolding locator_from

@@ -10,6 +10,7 @@ use Rattle.white.specs.White.{space_width, is_white}
 use Rattle.text.specs.Trim.{trim_start, trim_end}
 use Rattle.key.specs.Keys.{is_first, is_mark, is_key, run_end, without_marks, key_end}
 use Rattle.locator.specs.declared.Locator.TheVariants.{Nothing, Plain, Labelled}
+use Rattle.locator.specs.declared.Term.TheVariants.{Page}
 use Rattle.locator.specs.Matchers.{matchers}
 use Rattle.locator.specs.Locators.{locator_of, locator_from, labelled, valued, value_end, is_loose, value_run, in_value, roman_end, letters_end, is_digit_or_mark, is_roman, label_of, or_page, match_in, stands, may_follow, fits, lower, skip_blanks}
 use Rattle.item.specs.Items.{item_of, item_in, item_at, locator_start, prefix_end, suppresses, winner, wins, key_serves, at_sign}
@@ -27,7 +28,7 @@ opened = 0
 
 -- "`[x -@a, p. 3]` prefix `x`, suppressed, page, `3`"
 page_three : item_of (ascii "[x -@a, p. 3]") 1 12
-    ≡ Some (record { prefix = span 1 1; key = span 5 1; locator = span 8 4; parts = Labelled 9 (span 11 1) missing; suppressed = true })
+    ≡ Some (record { prefix = span 1 1; key = span 5 1; locator = span 8 4; parts = Labelled Page (span 11 1) missing; suppressed = true })
 unfolding opened
 page_three = refl
 

@@ -15,7 +15,7 @@ moved_span d p = pick (eqb p.len 0) missing (span (p.at + d) p.len)
 abbrev pub moved_locator : ℕ → Locator → Locator
 moved_locator d Nothing = Nothing
 moved_locator d (Plain suffix) = Plain (moved_span d suffix)
-moved_locator d (Labelled code value suffix) = Labelled code (moved_span d value) (moved_span d suffix)
+moved_locator d (Labelled term value suffix) = Labelled term (moved_span d value) (moved_span d suffix)
 
 -- an item
 abbrev pub moved_item : ℕ → Item → Item

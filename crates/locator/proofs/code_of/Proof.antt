@@ -1,8 +1,0 @@
--- `locator::code_of` meets its contract: case by case.
-use borrow.Author.Rules.{rules}
-use Rattle.locator.proofs.Values.{answers}
-use Rattle.locator.proofs.code_of.Statement.{statement}
-use Rattle.locator.proofs.code_of.Tie as tie
-
-pub code_of_spec : {M : Type 1} → statement M
-code_of_spec = tie.close (tie.spec (λ c. search rules) (λ c. search rules) (λ c. search rules) (λ c. search answers) (λ c. search answers) (λ c. search answers))
