@@ -1,2 +1,1 @@
-pub mod ParensLaws
-pub mod NameLaws
+pub mod PartLaws

@@ -1,3 +1,4 @@
 pub mod Names
 pub mod Parens
-pub mod Lengths
+pub mod Joined
+pub mod Parts

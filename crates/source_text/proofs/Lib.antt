@@ -1,4 +1,2 @@
-pub mod WriteLaws
-pub mod NamesLaws
 pub mod TextLaws
 pub mod CallLaws

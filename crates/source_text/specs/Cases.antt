@@ -11,7 +11,8 @@ use Rattle.pool.specs.Entries.{field_with, in_name, name_after, name_at, names_i
 use Rattle.pool.specs.Layout.{entries_good, laid_out, well_formed, entry_at}
 use Rattle.decimal.specs.Decimal.{count_in, last_digits, decimal}
 use Rattle.source.specs.Decimal.{signed_decimal}
-use Rattle.source_text.specs.Text.{beside, add_name, names_of, head_of, ended, body_of, source_text_of}
+use Rattle.source_parts.specs.Joined.{beside}
+use Rattle.source_text.specs.Text.{add_name, names_of, head_of, ended, body_of, source_text_of}
 use Rattle.source_parts.specs.Names.{given_part, family_part, name_by, name_of}
 use Rattle.source.specs.Entry.{year_by, year_of}
 use Rattle.source_parts.specs.Parens.{in_parens}

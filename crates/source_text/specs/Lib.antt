@@ -1,6 +1,4 @@
 pub mod Text
-pub mod Lengths
 pub mod Call
 pub mod Values
-pub mod Room
 pub mod Cases

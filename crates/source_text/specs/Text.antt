@@ -5,12 +5,9 @@ use Rattle.base.specs.Pick.{pick}
 use Rattle.base.specs.Fold.{fold}
 use Rattle.pool.specs.Entries.{Name, Entry}
 use Rattle.source.specs.Entry.{is_empty, year_of}
+use Rattle.source_parts.specs.Joined.{beside}
 use Rattle.source_parts.specs.Names.{name_of}
 use Rattle.source_parts.specs.Parens.{in_parens}
-
--- two parts with `sep` between them; an empty part falls out together with it
-unfoldable pub beside : List ℕ → List ℕ → List ℕ → List ℕ
-beside sep a b = pick (is_empty a) b (pick (is_empty b) a (a ++ (sep ++ b)))
 
 -- "Empty names drop out of the list", "the names joined by `; `": the names so far, and one more
 unfoldable pub add_name : List ℕ → Name → List ℕ

@@ -1,0 +1,41 @@
+use Rattle.std.proofs.Common.{◌≡◌, refl, ◌≤◌, arith, length}
+use Rattle.base.specs.Refusals.{refusal_of}
+use Rattle.pool.specs.Entries.{entry_of}
+use Rattle.pool.specs.Views.{fields_left}
+use Rattle.source_text.specs.Text.{source_text_of}
+use Rattle.source_text.specs.Values.{source_text_values, source_text_numbers, source_text_answer}
+use Rattle.source_text.proofs.CallLaws.{broken_call, past_call, small_call, fits_call}
+use Rattle.source_text.proofs.source_text.Goals as goal
+
+pub returns-in_default : goal.returns-in_default
+unfolding source_text_values source_text_numbers source_text_answer refusal_of
+returns-in_default c =
+    let q = broken_call c.args.pool.now c.args.entry c.args.area.now c.in_default.ensures in
+    record { value = rw q refl; result_value = rw q refl; area_after = rw q refl }
+
+pub returns-then-count-entry : goal.returns-then-count-entry
+unfolding source_text_values source_text_numbers source_text_answer refusal_of
+returns-then-count-entry c =
+    let q = past_call c.args.pool.now c.args.entry c.args.area.now c.in-Some.pool.bytes.now c.in-Some.pool.laid_out c.in-Some.ensures
+    c.count.result c.count.ensures c.if-count-entry.true in
+    record { value = rw q refl; result_value = rw q refl; area_after = rw q refl }
+
+pub returns-then-area-write_text : goal.returns-then-area-write_text
+unfolding source_text_values source_text_numbers source_text_answer refusal_of
+returns-then-area-write_text c =
+    let q = small_call c.args.pool.now c.args.entry c.args.area.now c.in-Some.pool.bytes.now c.in-Some.pool.laid_out c.in-Some.ensures
+    c.count.result c.count.ensures c.if-count-entry.false (fields_left c.entry-fields.result) c.entry-fields.ensures
+    c.write_text.result c.write_text.ensures.count c.if-area-write_text.true in
+    record { value = rw q refl; result_value = rw q refl; area_after = rw q refl }
+
+pub returns : goal.returns
+unfolding source_text_values source_text_numbers source_text_answer
+returns c =
+    let q = fits_call c.args.pool.now c.args.entry c.args.area.now c.in-Some.pool.bytes.now c.in-Some.pool.laid_out c.in-Some.ensures
+    c.count.result c.count.ensures c.if-count-entry.false (fields_left c.entry-fields.result) c.entry-fields.ensures
+    c.write_text.result c.write_text.ensures.count c.if-area-write_text.false (omega arith) in
+    let m : length (source_text_of (entry_of (fields_left c.entry-fields.result))) ≤ length c.args.area.now =
+    omega (arith, c.write_text.ensures.count) in
+    let n : c.write_text-2.result ≡ length (source_text_of (entry_of (fields_left c.entry-fields.result))) =
+    omega (arith, c.write_text-2.ensures.count) in
+    record { value = rw (q, n) refl; result_value = rw (q, n) refl; area_after = rw q (c.write_text-2.ensures.area m) }
