@@ -24,15 +24,18 @@ use Rattle.numbering.specs.Numbers.{Numbered, number_all}
 use Rattle.numbering.specs.Progress.{Unnumbered}
 use Rattle.numbering.proofs.LabelledLaws.{swept_unnumbered}
 use Rattle.order.specs.References.{SourcesKnown}
-use Rattle.annotation.specs.declared.answer.Annotation.{Annotation}
-use Rattle.annotation.specs.declared.answer.Annotation.TheVariants.{Accepted, Refused}
-use Rattle.annotation.specs.declared.preparation.Prepared.{Prepared}
-use Rattle.annotation.specs.declared.preparation.Prepared.TheVariants.{Refused as NotReady, Ready}
+use Rattle.std.specs.Prelude.{Result, Ok, Err}
+use Rattle.base.specs.Refusals.{number_of, refusal_of}
+use Rattle.base.proofs.Refusals.{number_some, answered_err}
+use Rattle.base.specs.declared.refusal.Refusal.{Refusal}
+use Rattle.base.specs.declared.refusal.Refusal.TheVariants.{NoRoom}
+use Rattle.annotation.specs.declared.answer.Counts.{Counts}
+use Rattle.annotation.specs.declared.preparation.Begun.{Begun}
 use Rattle.annotation.specs.Content.{Areas, areas, content_of}
 use Rattle.annotation.specs.Refusal.{annotate_refusal}
 use Rattle.annotation.specs.Call.{annotate_refused, room_for, content_written, zero_filled, annotate_gives, answer_of, AnnotateRan, annotate_ran, annotate_swept, annotate_run, zeros}
 use Rattle.annotation.specs.Halves.{Zeroed, Done, RefusedBefore, SweptBefore, PreparedBy, prepared_wants}
-use Rattle.annotation.specs.Values.{annotation_values, annotation_answer, annotation_numbers}
+use Rattle.annotation.specs.Values.{counts, annotation_values, annotation_answer, annotation_numbers}
 use Rattle.annotation.specs.Steps.{swept_items, swept_groups, numbered_from, Fits, ContentAs}
 use Rattle.annotation.specs.Ordering.{room_then, references_then, Ordered}
 use Rattle.annotation.proofs.Counts.{sources_by}
@@ -75,7 +78,7 @@ all_after false b c d e h = absurd (true≢false (sym h))
 
 -- two sweeps, and the records numbered ---------------------------------------------------------------------------------------------------
 
-module _ {text : List ℕ} {mode : ℕ} {pool : List ℕ} {note : ℕ} {index₀ : List ℕ} {m : ℕ} {items₀ groups₀ : List ℕ} {begun : SweepState}
+module _ {text : List ℕ} {mode : ℕ} {pool : List ℕ} {note : ℕ} {index₀ : List ℕ} {m : ℕ} {items₀ groups₀ : List ℕ} {begun : Begun}
     {items groups : List ℕ} (b : SweptBefore text mode pool note index₀ m items₀ groups₀ begun items groups) (records : List Bracket) where
   abbrev lent : Lent
   lent = lent_of note index₀ records
@@ -87,8 +90,8 @@ module _ {text : List ℕ} {mode : ℕ} {pool : List ℕ} {note : ℕ} {index₀
   content = content_of text mode all pool
 
   -- after the second sweep
-  module _ {k : ℕ} (e : k ≡ note_after begun.wants note) {index : List ℕ} (i : index ≡ index_after begun.wants text index₀)
-      {s : SweepState} {items' groups' : List ℕ} (t : SweptTo text k index begun items groups s items' groups') where
+  module _ {k : ℕ} (e : k ≡ note_after begun.swept.wants note) {index : List ℕ} (i : index ≡ index_after begun.swept.wants text index₀)
+      {s : SweepState} {items' groups' : List ℕ} (t : SweptTo text k index begun.swept items groups s items' groups') where
     not_refused : Unrefused text mode pool (length index₀) m
     not_refused = unrefused text mode pool (length index₀) m b.passes
 
@@ -174,18 +177,18 @@ module _ {text : List ℕ} {mode : ℕ} {pool : List ℕ} {note : ℕ} {index₀
 -- the call as run ----------------------------------------------------------------------------------------------------------------------
 
 -- a refusal
-module _ {text : List ℕ} {mode : ℕ} {pool : List ℕ} (note : ℕ) {index₀ : List ℕ} {m : ℕ} {items₀ groups₀ : List ℕ} {number : ℕ}
-    {items groups : List ℕ} (b : RefusedBefore text mode pool index₀ m items₀ groups₀ number items groups) (records : List Bracket)
+module _ {text : List ℕ} {mode : ℕ} {pool : List ℕ} (note : ℕ) {index₀ : List ℕ} {m : ℕ} {items₀ groups₀ : List ℕ} {refusal : Refusal}
+    {items groups : List ℕ} (b : RefusedBefore text mode pool index₀ m items₀ groups₀ refusal items groups) (records : List Bracket)
     (references labels : List ℕ) (l : length records ≡ m) where
   ran_refused : annotate_run text mode pool note index₀ records (areas items₀ groups₀ references labels)
-      ≡ annotate_ran (annotate_refused number (areas items₀ groups₀ references labels)) (lent_of note index₀ records)
+      ≡ annotate_ran (annotate_refused (number_of refusal) (areas items₀ groups₀ references labels)) (lent_of note index₀ records)
   unfolding annotate_run
-  ran_refused = rw (l, sym b.refuses, ne_eqb number 0 b.some)
+  ran_refused = rw (l, sym b.refuses, ne_eqb (number_of refusal) 0 (number_some refusal))
 
-  pub done_refused : Done (annotate_run text mode pool note index₀ records (areas items₀ groups₀ references labels)) (Refused number note) items groups references labels
+  pub done_refused : Done (annotate_run text mode pool note index₀ records (areas items₀ groups₀ references labels)) (record { counts = Err refusal; note = note }) items groups references labels
   unfolding annotate_ran annotation_answer annotation_values annotation_numbers
   done_refused = record {
-    answer = rw (ran_refused, ne_eqb number 0 b.some);
+    answer = rw (ran_refused, answered_err refusal (counts 0 0 0 0));
     values = rw ran_refused;
     item_area = b.item_area ∙ rw ran_refused;
     group_area = b.group_area ∙ rw ran_refused;
@@ -194,7 +197,7 @@ module _ {text : List ℕ} {mode : ℕ} {pool : List ℕ} (note : ℕ) {index₀
   }
 
 -- a sweep
-module _ {text : List ℕ} {mode : ℕ} {pool : List ℕ} {note : ℕ} {index₀ : List ℕ} {m : ℕ} {items₀ groups₀ : List ℕ} {begun : SweepState}
+module _ {text : List ℕ} {mode : ℕ} {pool : List ℕ} {note : ℕ} {index₀ : List ℕ} {m : ℕ} {items₀ groups₀ : List ℕ} {begun : Begun}
     {items groups : List ℕ} (b : SweptBefore text mode pool note index₀ m items₀ groups₀ begun items groups) (records : List Bracket)
     (references labels : List ℕ) (l : length records ≡ m) where
   abbrev held : Areas
@@ -212,39 +215,39 @@ module _ {text : List ℕ} {mode : ℕ} {pool : List ℕ} {note : ℕ} {index₀
   ran_swept : ran
       ≡ annotate_ran
       (pick (room_for wanted held) (annotate_gives found wanted held) (annotate_refused 10 (zero_filled held)))
-      (lent_after begun.wants text (lent b records))
+      (lent_after begun.swept.wants text (lent b records))
   unfolding annotate_run annotate_swept answer_of
   ran_swept = rw (l, eq-eqb (annotate_refusal text mode pool (length index₀) m) 0 b.passes, swept_lent text (lent b records) b.sweeps)
 
   -- an answer by the room that there is
-  done_by : {k : ℕ} → k ≡ note_after begun.wants note → (t : Bool) → room_for wanted held ≡ t
-      → {r : Annotation} {items' groups' references' labels' : List ℕ}
-      → r ≡ pick t (Accepted (length found) (item_count found) (length wanted.references) (length wanted.labels) k) (Refused 10 k)
+  done_by : {k : ℕ} → k ≡ note_after begun.swept.wants note → (t : Bool) → room_for wanted held ≡ t
+      → {r : Result Counts Refusal} {items' groups' references' labels' : List ℕ}
+      → r ≡ pick t (Ok (counts (length found) (item_count found) (length wanted.references) (length wanted.labels))) (Err NoRoom)
       → items' ≡ pick t (written wanted.items items₀) (zeros items₀)
       → groups' ≡ pick t (written wanted.groups groups₀) (zeros groups₀)
       → references' ≡ pick t (written wanted.references references) (zeros references)
       → labels' ≡ pick t (written wanted.labels labels) (zeros labels)
-      → Done ran r items' groups' references' labels'
-  unfolding annotate_ran annotation_answer annotation_values annotation_numbers annotate_gives content_written zero_filled lent_after
+      → Done ran (record { counts = r; note = k }) items' groups' references' labels'
+  unfolding refusal_of annotate_ran annotation_answer annotation_values annotation_numbers annotate_gives content_written zero_filled lent_after
   done_by e true q v i g f l = record {
-    answer = v ∙ rw (ran_swept, q, e);
-    values = ap annotation_values v ∙ rw (ran_swept, q, e);
+    answer = rw (v, ran_swept, q, e);
+    values = rw (v, ran_swept, q, e);
     item_area = i ∙ rw (ran_swept, q);
     group_area = g ∙ rw (ran_swept, q);
     reference_area = f ∙ rw (ran_swept, q);
     label_area = l ∙ rw (ran_swept, q);
   }
   done_by e false q v i g f l = record {
-    answer = v ∙ rw (ran_swept, q, e);
-    values = ap annotation_values v ∙ rw (ran_swept, q, e);
+    answer = rw (v, ran_swept, q, e);
+    values = rw (v, ran_swept, q, e);
     item_area = i ∙ rw (ran_swept, q);
     group_area = g ∙ rw (ran_swept, q);
     reference_area = f ∙ rw (ran_swept, q);
     label_area = l ∙ rw (ran_swept, q);
   }
 
-  module _ {k : ℕ} (e : k ≡ note_after begun.wants note) {index : List ℕ} (i : index ≡ index_after begun.wants text index₀)
-      {s : SweepState} {items' groups' : List ℕ} (t : SweptTo text k index begun items groups s items' groups') where
+  module _ {k : ℕ} (e : k ≡ note_after begun.swept.wants note) {index : List ℕ} (i : index ≡ index_after begun.swept.wants text index₀)
+      {s : SweepState} {items' groups' : List ℕ} (t : SweptTo text k index begun.swept items groups s items' groups') where
     recorded : Recorded text found start_state items₀ groups₀ s items' groups'
     recorded = whole b records e i t
 
@@ -260,9 +263,9 @@ module _ {text : List ℕ} {mode : ℕ} {pool : List ℕ} {note : ℕ} {index₀
           (leb (length wanted.labels) 65535)
           (sym tested ∙ f)
 
-      pub done_few : {r : Annotation} {items'' groups'' references'' labels'' : List ℕ}
-          → Zeroed k items' groups' references labels r items'' groups'' references'' labels''
-          → Done ran r items'' groups'' references'' labels''
+      pub done_few : {r : Result Counts Refusal} {items'' groups'' references'' labels'' : List ℕ}
+          → Zeroed items' groups' references labels r items'' groups'' references'' labels''
+          → Done ran (record { counts = r; note = k }) items'' groups'' references'' labels''
       done_few o =
           done_by e false no_room o.refused (o.item_area ∙ rw recorded.item_area) (o.group_area ∙ rw recorded.group_area)
           o.reference_area o.label_area
@@ -278,9 +281,9 @@ module _ {text : List ℕ} {mode : ℕ} {pool : List ℕ} {note : ℕ} {index₀
           (leb (length wanted.labels) 65535)
           (sym tested ∙ f))
 
-      pub done_room : {r : Annotation} {items'' groups'' references'' labels'' : List ℕ}
-          → Ordered text mode pool s.groups s.items k items' groups' references labels r items'' groups'' references'' labels''
-          → Done ran r items'' groups'' references'' labels''
+      pub done_room : {r : Result Counts Refusal} {items'' groups'' references'' labels'' : List ℕ}
+          → Ordered text mode pool s.groups s.items items' groups' references labels r items'' groups'' references'' labels''
+          → Done ran (record { counts = r; note = k }) items'' groups'' references'' labels''
       done_room o =
           done_by e (room_for wanted held) refl
           (o.answer
@@ -295,14 +298,14 @@ module _ (text : List ℕ) (mode : ℕ) (pool : List ℕ) (note : ℕ) (index₀
   abbrev left : AnnotateRan
   left = annotate_run text mode pool note index₀ records (areas items₀ groups₀ references labels)
 
-  pub ran_index : (p : Prepared) (items groups : List ℕ) → PreparedBy text mode pool note index₀ (length records) items₀ groups₀ p items groups
+  pub ran_index : (p : Result Begun Refusal) (items groups : List ℕ) → PreparedBy text mode pool note index₀ (length records) items₀ groups₀ p items groups
       → left.index ≡ index_after (prepared_wants p) text index₀
   unfolding annotate_ran lent_after index_after prepared_wants
-  ran_index (NotReady number) items groups b = rw (ran_refused note b records references labels refl)
-  ran_index (Ready s) items groups b = rw (ran_swept b records references labels refl)
+  ran_index (Err refusal) items groups b = rw (ran_refused note b records references labels refl)
+  ran_index (Ok s) items groups b = rw (ran_swept b records references labels refl)
 
-  pub ran_records : (p : Prepared) (items groups : List ℕ) → PreparedBy text mode pool note index₀ (length records) items₀ groups₀ p items groups
+  pub ran_records : (p : Result Begun Refusal) (items groups : List ℕ) → PreparedBy text mode pool note index₀ (length records) items₀ groups₀ p items groups
       → left.records ≡ records_after (prepared_wants p) text records
   unfolding annotate_ran lent_after records_after prepared_wants
-  ran_records (NotReady number) items groups b = rw (ran_refused note b records references labels refl)
-  ran_records (Ready s) items groups b = rw (ran_swept b records references labels refl)
+  ran_records (Err refusal) items groups b = rw (ran_refused note b records references labels refl)
+  ran_records (Ok s) items groups b = rw (ran_swept b records references labels refl)

@@ -1,52 +1,40 @@
 -- The numbers and the references after the sweep, in the form of the code's needs.
-use Prim.Native.Nat.{ℕ, ◌≤◌}
-use mathlib.Core.Path.{◌≡◌, refl, sym, ◌∙◌}
+use Prim.Native.Nat.{ℕ, ◌≤◌, ◌<◌}
+use mathlib.Core.Path.{◌≡◌, sym, ◌∙◌}
 use mathlib.Core.List.{List}
-use mathlib.Core.Bool.{Bool, true, false, ◌&&◌}
+use mathlib.Core.Bool.{true, false}
 use lib.ListN.{length}
-use lib.Dec.{leb}
-use borrow.Author.Tests.{leb-true}
+use borrow.Author.Tests.{le-leb, lt-leb}
 use Rattle.base.specs.Lists.{written}
-use Rattle.base.proofs.Bools.{and_left, and_right}
 use Rattle.numbering.specs.Numbers.{Numbered, number_all}
 use Rattle.order.specs.References.{references_in, SourcesKnown}
 use Rattle.numbering.specs.declared.Numbering.{Numbering}
 use Rattle.numbering.specs.Progress.{room_of, Agrees, Holds}
-use Rattle.annotation.specs.declared.answer.Annotation.{Annotation}
-use Rattle.annotation.specs.declared.answer.Annotation.TheVariants.{Accepted}
+use Rattle.std.specs.Prelude.{Result, Ok}
+use Rattle.base.specs.declared.refusal.Refusal.{Refusal}
+use Rattle.annotation.specs.declared.answer.Counts.{Counts}
+use Rattle.annotation.specs.Values.{counts}
 use Rattle.annotation.specs.Ordering.{room_then, Orderable, Ordered}
 use Rattle.annotation.specs.Halves.{Zeroed}
 
 -- `k` is what numbering the records gave
-module _ (text : List ℕ) (mode : ℕ) (pool : List ℕ) (n m note : ℕ) (items groups references labels : List ℕ) {k : Numbering}
+module _ (text : List ℕ) (mode : ℕ) (pool : List ℕ) (n m : ℕ) (items groups references labels : List ℕ) {k : Numbering}
     {items' groups' labels' : List ℕ}
     (h : Holds (number_all text mode pool n items groups) (room_of labels) labels k items' groups' labels') where
   abbrev made : Numbered
   made = number_all text mode pool n items groups
 
-  -- the code's test
-  room_is : (k.fits && leb k.sources (length references)) ≡ room_then made references labels
-  unfolding room_then
-  room_is = go k.fits refl
-    where
-      go : (t : Bool) → k.fits ≡ t
-          → (k.fits && leb k.sources (length references))
-          ≡ (leb (length made.labels) (room_of labels) && leb made.sources (length references))
-      go true q = rw (q, sym h.fits ∙ q, (h.agrees q).sources)
-      go false q = rw (q, sym h.fits ∙ q)
-
-  module _ (y : (k.fits && leb k.sources (length references)) ≡ true) where
-    has_room : room_then made references labels ≡ true
-    has_room = sym room_is ∙ y
-
-    pub references_room : k.sources ≤ length references
-    references_room = leb-true k.sources (length references) (and_right k.fits _ y)
-
+  -- the labels fit, and the references have room
+  module _ (f : k.fits ≡ true) (l : k.sources ≤ length references) where
     agreed : Agrees made labels k items' groups' labels'
-    agreed = h.agrees (and_left k.fits _ y)
+    agreed = h.agrees f
+
+    has_room : room_then made references labels ≡ true
+    unfolding room_then
+    has_room = rw (sym h.fits ∙ f, ← agreed.sources) (le-leb k.sources (length references) l)
 
     pub ordered_room : {references' : List ℕ} → references' ≡ written (references_in text pool groups' items' n m mode k.sources) references
-        → Ordered text mode pool n m note items groups references labels (Accepted n m k.sources k.label_bytes note) items' groups' references'
+        → Ordered text mode pool n m items groups references labels (Ok (counts n m k.sources k.label_bytes)) items' groups' references'
         labels'
     ordered_room o = record {
       answer = rw (has_room, agreed.sources, agreed.label_bytes);
@@ -56,28 +44,39 @@ module _ (text : List ℕ) (mode : ℕ) (pool : List ℕ) (n m note : ℕ) (item
       label_area = agreed.label_area ∙ rw has_room;
     }
 
-  module _ (y : (k.fits && leb k.sources (length references)) ≡ false) where
-    no_room : room_then made references labels ≡ false
-    no_room = sym room_is ∙ y
+  -- one of the two does not
+  no_labels : k.fits ≡ false → room_then made references labels ≡ false
+  unfolding room_then
+  no_labels f = rw (sym h.fits ∙ f)
 
-    pub ordered_few : {r : Annotation} {items'' groups'' references'' labels'' : List ℕ}
-        → Zeroed note items' groups' references labels' r items'' groups'' references'' labels''
-        → length items' ≡ length items → length groups' ≡ length groups → length labels' ≡ length labels
-        → Ordered text mode pool n m note items groups references labels r items'' groups'' references'' labels''
-    ordered_few o i g l = record {
-      answer = o.refused ∙ rw no_room;
-      item_area = o.item_area ∙ rw (no_room, i);
-      group_area = o.group_area ∙ rw (no_room, g);
-      reference_area = o.reference_area ∙ rw no_room;
-      label_area = o.label_area ∙ rw (no_room, l);
+  no_references : k.fits ≡ true → length references < k.sources → room_then made references labels ≡ false
+  unfolding room_then
+  no_references f l = rw (sym h.fits ∙ f, ← (h.agrees f).sources) (lt-leb k.sources (length references) l)
+
+  module _ {r : Result Counts Refusal} {items'' groups'' references'' labels'' : List ℕ}
+      (o : Zeroed items' groups' references labels' r items'' groups'' references'' labels'')
+      (i : length items' ≡ length items) (g : length groups' ≡ length groups) (l : length labels' ≡ length labels) where
+    few : room_then made references labels ≡ false → Ordered text mode pool n m items groups references labels r items'' groups'' references'' labels''
+    few z = record {
+      answer = o.refused ∙ rw z;
+      item_area = o.item_area ∙ rw (z, i);
+      group_area = o.group_area ∙ rw (z, g);
+      reference_area = o.reference_area ∙ rw z;
+      label_area = o.label_area ∙ rw (z, l);
     }
 
+    pub few_labels : k.fits ≡ false → Ordered text mode pool n m items groups references labels r items'' groups'' references'' labels''
+    few_labels f = few (no_labels f)
+
+    pub few_references : k.fits ≡ true → length references < k.sources → Ordered text mode pool n m items groups references labels r items'' groups'' references'' labels''
+    few_references f l = few (no_references f l)
+
 -- the sources are few, and known in the areas as they are then
-module _ (text : List ℕ) (mode : ℕ) (pool : List ℕ) (n m : ℕ) (items groups labels : List ℕ) (k : Numbering) (items' groups' labels' : List ℕ) (b : Bool)
+module _ (text : List ℕ) (mode : ℕ) (pool : List ℕ) (n m : ℕ) (items groups labels : List ℕ) (k : Numbering) (items' groups' labels' : List ℕ)
     (h : Holds (number_all text mode pool n items groups) (room_of labels) labels k items' groups' labels')
-    (o : Orderable text pool n m (number_all text mode pool n items groups)) (y : (k.fits && b) ≡ true) where
+    (o : Orderable text pool n m (number_all text mode pool n items groups)) (f : k.fits ≡ true) where
   all_agreed : Agrees (number_all text mode pool n items groups) labels k items' groups' labels'
-  all_agreed = h.agrees (and_left k.fits b y)
+  all_agreed = h.agrees f
 
   pub sources_few : k.sources ≤ 65535
   sources_few = rw all_agreed.sources o.few
@@ -85,4 +84,4 @@ module _ (text : List ℕ) (mode : ℕ) (pool : List ℕ) (n m : ℕ) (items gro
   pub sources_are : SourcesKnown text pool groups' items' n m k.sources
   sources_are = rw (all_agreed.sources, all_agreed.item_area, all_agreed.group_area) o.known
 
-pub ruleset order_laws = (references_room, sources_few, sources_are, ordered_room, ordered_few)
+pub ruleset order_laws = (sources_few, sources_are, ordered_room, few_labels, few_references)

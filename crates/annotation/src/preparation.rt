@@ -1,44 +1,51 @@
 // An annotation up to the build of the index: what refuses it before the sweep,
 // and the sweep up to a bracket that wants a build.
-ghost use Rattle.std.specs.Prelude.{◌≡◌};
+ghost use Rattle.std.specs.Prelude.{◌≡◌, MatchResult};
+ghost use Rattle.base.specs.Modes.{mode_number};
+ghost use Rattle.base.specs.Refusals.{number_of};
 ghost use Rattle.annotation.specs.Refusal.{annotate_refusal};
 ghost use Rattle.annotation.specs.Halves.{PreparedBy, prepared_wants};
 
+use base::mode::Mode;
+use base::refusal::Refusal;
 use lookup::is_too_few;
 use pool::is_well_formed;
 use sweep::group_records::SweepState;
 use sweep::{start, sweep};
-use utf8::text_refusal;
+use utf8::check_text;
 
-// An annotation before a build: a refusal, or the sweep so far.
+// An annotation that nothing refuses before the sweep: its mode, and the sweep so far.
 #[derive(Clone, Copy)]
-pub enum Prepared {
-    Refused { number: u8 },
-    Ready { sweep: SweepState },
+pub struct Begun {
+    pub mode: Mode,
+    pub swept: SweepState,
 }
 
-// What refuses an annotation before the sweep, `index` and `records` being how many of these are lent; 0 for nothing.
-fn annotate_refusal(text: &[u8], mode: u8, pool: &[u8], index: usize, records: usize) -> u8
-    ensures { result ≡ annotate_refusal text.now mode pool.now index records }
+// Refuses an annotation before the sweep, or gives its mode; `index` and `records` are how many of these are lent.
+#[tactic(auto, using(utf8::proofs::Characters::accepted_after, utf8::proofs::Characters::refused_after), unfolding(crate::specs::Refusal::annotate_refusal))]
+fn check_annotate(
+    text: &[u8],
+    mode: u8,
+    pool: &[u8],
+    index: usize,
+    records: usize,
+) -> Result<Mode, Refusal>
+    ensures { let number = annotate_refusal text.now mode pool.now index records in
+        MatchResult result (λ checked. (number ≡ 0) × (mode_number checked ≡ mode)) (λ refusal. number_of refusal ≡ number) }
 {
-    let number = text_refusal(text);
-    if number != 0 {
-        return number;
+    check_text(text)?;
+    let mode = Mode::try_from(mode)?;
+    if !is_well_formed(pool) {
+        return Err(Refusal::PoolBroken);
     }
-    if 1 < mode {
-        return 6;
+    if is_too_few(text, index, records) {
+        return Err(Refusal::IndexTooShort);
     }
-    if is_well_formed(pool) {
-        return if is_too_few(text, index, records) {
-            9
-        } else {
-            0
-        };
-    }
-    7
+    Ok(mode)
 }
 
 // An annotation up to the build: `records` bracket records are lent.
+#[tactic(auto, using(crate::proofs::BeginLaws::prepared_short, crate::proofs::BeginLaws::prepared_counted))]
 pub fn prepare(
     text: &[u8],
     mode: u8,
@@ -48,25 +55,20 @@ pub fn prepare(
     records: usize,
     items: &mut [u16],
     groups: &mut [u16],
-) -> Prepared
+) -> Result<Begun, Refusal>
     ensures { PreparedBy text.now mode pool.now note index.old records items.old groups.old result
         items.new groups.new
         × (index.new ≡ index.old) }
 {
-    let number = annotate_refusal(text, mode, pool, index.len(), records);
-    if number != 0 {
-        return Prepared::Refused { number };
-    }
-    let s = sweep(text, note, index, start(), items, groups);
-    Prepared::Ready { sweep: s }
+    let mode = check_annotate(text, mode, pool, index.len(), records)?;
+    let swept = sweep(text, note, index, start(), items, groups);
+    Ok(Begun { mode, swept })
 }
 
 // Whether the prepared annotation asks for a build.
-pub fn wants_build(p: Prepared) -> bool
-    ensures { result ≡ prepared_wants p }
+#[tactic(auto, unfolding(crate::specs::Halves::prepared_wants))]
+pub fn wants_build(prepared: Result<Begun, Refusal>) -> bool
+    ensures { result ≡ prepared_wants prepared }
 {
-    match p {
-        Prepared::Refused { number: _ } => false,
-        Prepared::Ready { sweep: s } => s.wants,
-    }
+    matches!(prepared, Ok(begun) if begun.swept.wants)
 }

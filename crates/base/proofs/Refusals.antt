@@ -21,6 +21,19 @@ refusal_back NoEntry = refl
 refusal_back IndexTooShort = refl
 refusal_back NoRoom = refl
 
+-- no refusal has the number 0
+pub number_some : (e : Refusal) → number_of e ≡ 0 → ⊥
+number_some TextTooLong z = omega (arith, z)
+number_some TextNotUtf8 z = omega (arith, z)
+number_some NoBracket z = omega (arith, z)
+number_some EscapedBracket z = omega (arith, z)
+number_some NoGroup z = omega (arith, z)
+number_some UnknownMode z = omega (arith, z)
+number_some PoolBroken z = omega (arith, z)
+number_some NoEntry z = omega (arith, z)
+number_some IndexTooShort z = omega (arith, z)
+number_some NoRoom z = omega (arith, z)
+
 -- a refused call with its number is the answer by that number
 pub answered_err : {A : Type 0} (e : Refusal) (x : A) → Err e ≡ answered (number_of e) x
 unfolding refusal_of

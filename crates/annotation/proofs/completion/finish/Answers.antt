@@ -1,19 +1,25 @@
--- `annotation::completion::finish` meets its contract. What `number_and_order` requires follows from what the first half left, from the second sweep and
-use Rattle.annotation.proofs.FinishLaws.{finish_laws}
+-- The answers of `annotation::completion::finish`: what `number_and_order` requires follows from what the first half left, from the second sweep
+-- and from what they say of the call as run.
+use Rattle.std.proofs.Common.{refl}
 use borrow.Author.Rules.{rules}
+use Rattle.annotation.proofs.FinishLaws.{finish_laws, goes_layout, groups_short, items_short, numbers_none, numbers_known, finished_room}
 use Rattle.annotation.proofs.completion.finish.Goals as goal
 
-pub sweep-s-requires : goal.sweep-s-requires
-sweep-s-requires c = search (finish_laws, rules)
+pub sweep-swept-requires : goal.sweep-swept-requires
+sweep-swept-requires c = search (finish_laws, rules)
 
-pub number_and_order-requires : goal.number_and_order-requires
-number_and_order-requires c = search (finish_laws, rules)
+pub number_and_order-counts-requires : goal.number_and_order-counts-requires
+number_and_order-counts-requires c =
+    let y = c.in-Ok.is in
+    let t = c.sweep-swept.ensures in
+    let f = c.if-swept.true in (
+      groups_short c.requires y t,
+      items_short c.requires y t,
+      goes_layout c.requires y,
+      numbers_none c.requires y t c.note_after-note.ensures f,
+      numbers_known c.requires y t c.note_after-note.ensures f,
+    )
 
-pub returns-then-s : goal.returns-then-s
-returns-then-s c = search (finish_laws, rules)
-
-pub returns-in-Refused : goal.returns-in-Refused
-returns-in-Refused c = search (finish_laws, rules)
-
-pub returns-else-s : goal.returns-else-s
-returns-else-s c = search (finish_laws, rules)
+pub returns-then-swept : goal.returns-then-swept
+returns-then-swept c =
+    (finished_room _ _ _ _ _ _ _ _ c.in-Ok.is c.note_after-note.ensures c.sweep-swept.ensures c.if-swept.true c.number_and_order-counts.ensures, refl)
