@@ -9,7 +9,8 @@ ghost use Rattle.item.specs.Items.{key_serves, wins, winner, suppresses, prefix_
 ghost use Rattle.item.specs.Pieces.{semicolon_at, plus_at, items_start};
 ghost use Rattle.item.specs.Judge.{judged_of};
 
-use base::slices::byte_at;
+use base::search::first_place;
+use base::slices::{byte_at, find_byte};
 use base::{Span, span_of};
 use key::parse_key;
 use locator::{Locator, parse_locator};
@@ -32,6 +33,7 @@ pub struct BadItem {
 }
 
 // Whether a `+` stands right after the bracket at `p`.
+#[tactic(auto, unfolding(crate::specs::Pieces::plus_at))]
 fn has_plus(text: &[u8], p: usize) -> bool
     requires { p < length text.now }
     ensures { result ≡ plus_at text.now p }
@@ -40,6 +42,7 @@ fn has_plus(text: &[u8], p: usize) -> bool
 }
 
 // Where the items of the bracket at `p` begin: after the bracket, and after a `+` that follows it.
+#[tactic(auto, unfolding(crate::specs::Pieces::items_start))]
 pub fn items_start(text: &[u8], p: usize) -> usize
     requires { p < length text.now }
     ensures { result ≡ items_start text.now p }
@@ -48,55 +51,39 @@ pub fn items_start(text: &[u8], p: usize) -> usize
 }
 
 // Where the piece that begins at `from` ends: at the first `;`, escaped or nested too, or at the later of `from` and `end`.
+#[tactic(auto, unfolding(crate::specs::Pieces::semicolon_at))]
 pub fn piece_end(text: &[u8], from: usize, end: usize) -> usize
     requires { end ≤ length text.now }
     ensures { result ≡ first (semicolon_at text.now) (end - from) from }
 {
-    base::slices::find_byte(text, b';', from, end)
+    find_byte(text, b';', from, end)
 }
 
 // Whether a key from `k` up to `m` ends the trimmed item at `e` or meets `,`.
+#[tactic(auto, unfolding(crate::specs::Items::key_serves))]
 fn key_serves(text: &[u8], e: usize, k: usize, m: usize) -> bool
     requires { e ≤ length text.now }
     ensures { result ≡ key_serves text.now e k m }
 {
-    if m <= k {
-        return false;
-    }
-    if m < e {
-        return text[m] == b',';
-    }
-    m == e
+    k < m && (m == e || m < e && text[m] == b',')
 }
 
 // Whether an unescaped `@` stands at `i`, with a key that ends the trimmed item at `e` or meets `,`.
+#[tactic(auto, unfolding(crate::specs::Items::wins, crate::specs::Items::at_sign))]
 fn wins_at(text: &[u8], e: usize, i: usize) -> bool
     requires { (i < e) × (e ≤ length text.now) }
     ensures { result ≡ wins text.now e i }
 {
-    if text[i] == b'@' {
-        if is_escaped_at(text, i) {
-            return false;
-        }
-        key_serves(text, e, i + 1, parse_key(text, i + 1))
-    } else {
-        false
-    }
+    text[i] == b'@' && !is_escaped_at(text, i) && key_serves(text, e, i + 1, parse_key(text, i + 1))
 }
 
 // The place of the first `@` with a key in the trimmed item from `a` to `e` (`wins_at`), or the later of `a` and `e`.
+#[tactic(auto, unfolding(crate::specs::Items::winner))]
 fn find_winner(text: &[u8], a: usize, e: usize) -> usize
     requires { e ≤ length text.now }
     ensures { result ≡ winner text.now a e }
 {
-    let mut i = a;
-    while i < e {
-        if wins_at(text, e, i) {
-            return i;
-        }
-        i += 1;
-    }
-    i
+    first_place(a, e, |i| wins_at(text, e, i))
 }
 
 // Whether the stretch from `start` to `end` is a good item.
@@ -104,31 +91,21 @@ fn is_good_item(text: &[u8], start: usize, end: usize) -> bool
     requires { end ≤ length text.now }
     ensures { result ≡ is_good (item_of text.now start end) }
 {
-    let t = trim(text, start, end);
-    let a = t.start;
-    let e = t.end;
-    if end <= a {
-        return false;
-    }
-    find_winner(text, a, e) < e
+    let item = trim(text, start, end);
+    item.start < end && find_winner(text, item.start, item.end) < item.end
 }
 
 // Whether an unescaped `-` just before the `@` at `i` suppresses the author, in an item that begins at `a`.
+#[tactic(auto, unfolding(crate::specs::Items::suppresses))]
 fn is_suppressed(text: &[u8], a: usize, i: usize) -> bool
     requires { i ≤ length text.now }
     ensures { result ≡ suppresses text.now a i }
 {
-    if i <= a {
-        return false;
-    }
-    if text[i - 1] == b'-' {
-        !is_escaped_at(text, i - 1)
-    } else {
-        false
-    }
+    a < i && text[i - 1] == b'-' && !is_escaped_at(text, i - 1)
 }
 
 // Where the prefix of an item that begins at `a` ends, its `@` being at `i`.
+#[tactic(auto, unfolding(crate::specs::Items::prefix_end))]
 fn prefix_end(text: &[u8], a: usize, i: usize) -> usize
     requires { i ≤ length text.now }
     ensures { result ≡ prefix_end text.now a i }
@@ -141,23 +118,19 @@ fn prefix_end(text: &[u8], a: usize, i: usize) -> usize
 }
 
 // The parts of the trimmed item from `a` to `e` whose `@` is at `i`.
+#[tactic(auto, unfolding(crate::specs::Items::item_at, crate::specs::Items::locator_start))]
 fn item_at(text: &[u8], a: usize, e: usize, i: usize) -> Item
     requires { (i < e) × (e ≤ length text.now) }
     ensures { result ≡ item_at text.now a e i (key_end text.now (i + 1)) }
 {
-    let m = parse_key(text, i + 1);
-    let start = trim_start(text, m + 1, e);
-    let prefix = span_of(a, prefix_end(text, a, i));
-    let key = span_of(i + 1, m);
-    let locator = span_of(start, e);
-    let parts = parse_locator(text, start, e);
-    let suppressed = is_suppressed(text, a, i);
+    let key = parse_key(text, i + 1);
+    let locator = trim_start(text, key + 1, e);
     Item {
-        prefix,
-        key,
-        locator,
-        parts,
-        suppressed,
+        prefix: span_of(a, prefix_end(text, a, i)),
+        key: span_of(i + 1, key),
+        locator: span_of(locator, e),
+        parts: parse_locator(text, locator, e),
+        suppressed: is_suppressed(text, a, i),
     }
 }
 
@@ -166,15 +139,13 @@ pub fn parse_item(text: &[u8], start: usize, end: usize) -> Option<Item>
     requires { end ≤ length text.now }
     ensures { result ≡ item_of text.now start end }
 {
-    let t = trim(text, start, end);
-    let a = t.start;
-    let e = t.end;
-    if end <= a {
+    let item = trim(text, start, end);
+    if end <= item.start {
         return None;
     }
-    let i = find_winner(text, a, e);
-    if i < e {
-        Some(item_at(text, a, e, i))
+    let i = find_winner(text, item.start, item.end);
+    if i < item.end {
+        Some(item_at(text, item.start, item.end, i))
     } else {
         None
     }
