@@ -1,4 +1,4 @@
-// The public calls. Each takes any arguments, and answers by an enum whose numbers and values a definition gives (specs/Values of its crate).
+// The public calls. Each takes any arguments, and answers by a Result whose numbers and values a definition gives (specs/Values of its crate).
 // The layouts of records and areas, the note, the refusals and what each leaves behind are in include/citations.h, the manual of these calls.
 #![tactic(auto)]
 
@@ -10,10 +10,14 @@ ghost use Rattle.lookup.specs.Values.{locator_values, locator_numbers, locator_a
 ghost use Rattle.source_text.specs.Call.{source_text_call};
 ghost use Rattle.source_text.specs.Values.{source_text_values, source_text_numbers, source_text_answer};
 
-pub use annotation::answer::Annotation;
+pub use annotation::answer::{Annotation, Counts};
+use annotation::completion::finish;
+use annotation::preparation::{prepare, wants_build};
+pub use base::refusal::Refusal;
 pub use index::Bracket;
-pub use lookup::{LocatorAnswer, LookUp, Size};
-pub use source_text::SourceText;
+pub use locator::Locator;
+pub use lookup::LookUp;
+pub use resolve::Group;
 
 // The group at the bracket at `at`: the place of its close, the count of its items and the note, and the item records at the front of `items`.
 // Refusals: 1, 2, 3, 4, 9, 5, 10.
@@ -29,10 +33,9 @@ pub fn look_up(
         result index.new records.new items.new }
 {
     let n = index::brackets::count(records);
-    let p = lookup::prepare(text, at, note, index, n);
-    let w = lookup::wants_build(p);
-    index::brackets::build_when(w, text, index, records);
-    lookup::finish(text, at, note, p, index, items)
+    let prepared = lookup::prepare(text, at, note, index, n);
+    index::brackets::build_when(lookup::wants_build(prepared), text, index, records);
+    lookup::finish(text, at, note, prepared, index, items)
 }
 
 // The groups of the text: the counts of groups, items, sources and label bytes and the note, and at the front of each area its records:
@@ -56,30 +59,29 @@ pub fn annotate<'a>(
         result index.new records.new left }
 {
     let n = index::brackets::count(records);
-    let p = annotation::preparation::prepare(text, mode, pool, note, index, n, items, groups);
-    let w = annotation::preparation::wants_build(p);
-    index::brackets::build_when(w, text, index, records);
-    annotation::completion::finish(
-        text, mode, pool, note, p, index, items, groups, references, labels,
+    let prepared = prepare(text, mode, pool, note, index, n, items, groups);
+    index::brackets::build_when(wants_build(prepared), text, index, records);
+    finish(
+        text, pool, note, prepared, index, items, groups, references, labels,
     )
 }
 
 // How many item records any annotation of the text needs at most. Refusals: 1, 2.
-pub fn size(text: &[u8]) -> Size
+pub fn size(text: &[u8]) -> Result<usize, Refusal>
     ensures { (result ≡ size_answer (size_call text.now)) × (size_values result ≡ size_numbers (size_call text.now)) }
 {
     lookup::size_call(text)
 }
 
 // The locator that the whole text is: label code, value pair and suffix pair. Refusals: 1, 2.
-pub fn locator(text: &[u8]) -> LocatorAnswer
+pub fn locator(text: &[u8]) -> Result<Locator, Refusal>
     ensures { (result ≡ locator_answer (locator_call text.now)) × (locator_values result ≡ locator_numbers (locator_call text.now)) }
 {
     lookup::locator_call(text)
 }
 
 // The text of the pool's entry number `entry`, at the front of `area`: the bytes written. Refusals: 7, 8, 10.
-pub fn source_text(pool: &[u8], entry: usize, area: &mut [u8]) -> SourceText
+pub fn source_text(pool: &[u8], entry: usize, area: &mut [u8]) -> Result<usize, Refusal>
     ensures { let ran = source_text_call pool.now entry area.old in
         (result ≡ source_text_answer ran) × (source_text_values result ≡ source_text_numbers ran) × (area.new ≡ ran.area) }
 {

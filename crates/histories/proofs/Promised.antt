@@ -3,17 +3,19 @@ use Prim.Native.Nat.{ℕ}
 use mathlib.Core.Path.{◌≡◌, refl, ◌∙◌, ap}
 use mathlib.Core.List.{List, [], ◌∷◌, map, map-map}
 use lib.ListN.{length, get_or, take}
+use Rattle.std.specs.Prelude.{Result, Ok, Err}
+use Rattle.base.specs.declared.refusal.Refusal.{Refusal}
 use Rattle.lookup.specs.declared.LookUp.{LookUp}
-use Rattle.lookup.specs.declared.LookUp.TheVariants.{Accepted as FoundOne, Refused as FoundNone}
+use Rattle.resolve.specs.declared.Group.{Group}
 use Rattle.lookup.specs.LookUps.{LookedUp, LookUpRan, look_up_run}
-use Rattle.lookup.specs.Values.{look_up_values, look_up_numbers}
+use Rattle.lookup.specs.Values.{group_values, look_up_values, look_up_numbers}
 use Rattle.annotation.specs.declared.answer.Annotation.{Annotation}
-use Rattle.annotation.specs.declared.answer.Annotation.TheVariants.{Accepted, Refused}
+use Rattle.annotation.specs.declared.answer.Counts.{Counts}
 use Rattle.annotation.specs.Content.{Areas}
 use Rattle.annotation.specs.Call.{Annotated, AnnotateRan, annotate_run}
-use Rattle.annotation.specs.Values.{annotation_values, annotation_numbers}
+use Rattle.annotation.specs.Values.{count_values, annotation_values, annotation_numbers}
 use Rattle.histories.specs.Histories.{OfLookUp, OfAnnotation, State, state, run_call, look_up_left, annotate_left, put_back, answers_of, plain}
-use Rattle.histories.specs.Promises.{RanCall, LookedUpOnce, AnnotatedOnce, call_of, Met, look_up_shows, annotation_shows, shown, look_up_note, annotation_note, state_after, AllMet, PromisedHistories}
+use Rattle.histories.specs.Promises.{RanCall, LookedUpOnce, AnnotatedOnce, call_of, Met, group_shown, counts_shown, look_up_shows, annotation_shows, shown, state_after, AllMet, PromisedHistories}
 use Rattle.histories.proofs.FromCalls.{both}
 use Rattle.histories.proofs.Demand3.{demand_3}
 
@@ -25,15 +27,19 @@ looked a n c k i = rw (n, c, k, i) refl
 look_up_shows_lem : (ran : LookUpRan) (r : LookUp) (items : List ℕ) → look_up_values r ≡ look_up_numbers ran → items ≡ ran.answer.items
     → look_up_shows r items ≡ ran.answer
 unfolding look_up_values look_up_numbers
-look_up_shows_lem ran (FoundOne close count note) items e i =
-    looked ran.answer (ap (λ (l : List ℕ). get_or l 0 0) e) (ap (λ (l : List ℕ). get_or l 1 0) e) (ap (λ (l : List ℕ). get_or l 2 0) e) i
-look_up_shows_lem ran (FoundNone number note) items e i =
-    looked ran.answer (ap (λ (l : List ℕ). get_or l 0 0) e) (ap (λ (l : List ℕ). get_or l 1 0) e) (ap (λ (l : List ℕ). get_or l 2 0) e) i
+look_up_shows_lem ran r items = go r.group
+  where
+    go : (g : Result Group Refusal) → group_values g r.note ≡ look_up_numbers ran → items ≡ ran.answer.items → group_shown g items ≡ ran.answer
+    go (Ok g) e i = looked ran.answer (ap (λ (l : List ℕ). get_or l 0 0) e) (ap (λ (l : List ℕ). get_or l 1 0) e) (ap (λ (l : List ℕ). get_or l 2 0) e) i
+    go (Err x) e i = looked ran.answer (ap (λ (l : List ℕ). get_or l 0 0) e) (ap (λ (l : List ℕ). get_or l 1 0) e) (ap (λ (l : List ℕ). get_or l 2 0) e) i
 
-look_up_note_lem : (ran : LookUpRan) (r : LookUp) → look_up_values r ≡ look_up_numbers ran → look_up_note r ≡ ran.note
+look_up_note_lem : (ran : LookUpRan) (r : LookUp) → look_up_values r ≡ look_up_numbers ran → r.note ≡ ran.note
 unfolding look_up_values look_up_numbers
-look_up_note_lem ran (FoundOne close count note) e = ap (λ (l : List ℕ). get_or l 3 0) e
-look_up_note_lem ran (FoundNone number note) e = ap (λ (l : List ℕ). get_or l 3 0) e
+look_up_note_lem ran r = go r.group
+  where
+    go : (g : Result Group Refusal) → group_values g r.note ≡ look_up_numbers ran → r.note ≡ ran.note
+    go (Ok g) e = ap (λ (l : List ℕ). get_or l 3 0) e
+    go (Err x) e = ap (λ (l : List ℕ). get_or l 3 0) e
 
 -- the same of an annotation
 annotated : (a : Annotated) {number groups items sources label_bytes : ℕ} {areas : Areas} → number ≡ a.number → groups ≡ a.groups
@@ -48,17 +54,23 @@ four y i g r l = rw (i, g, r, l) refl
 annotation_shows_lem : (ran : AnnotateRan) (r : Annotation) (areas : Areas) → annotation_values r ≡ annotation_numbers ran → areas ≡ ran.answer.areas
     → annotation_shows r areas ≡ ran.answer
 unfolding annotation_values annotation_numbers
-annotation_shows_lem ran (Accepted groups items sources label_bytes note) areas e h =
-    annotated ran.answer (ap (λ (l : List ℕ). get_or l 0 0) e) (ap (λ (l : List ℕ). get_or l 1 0) e) (ap (λ (l : List ℕ). get_or l 2 0) e)
-    (ap (λ (l : List ℕ). get_or l 3 0) e) (ap (λ (l : List ℕ). get_or l 4 0) e) h
-annotation_shows_lem ran (Refused number note) areas e h =
-    annotated ran.answer (ap (λ (l : List ℕ). get_or l 0 0) e) (ap (λ (l : List ℕ). get_or l 1 0) e) (ap (λ (l : List ℕ). get_or l 2 0) e)
-    (ap (λ (l : List ℕ). get_or l 3 0) e) (ap (λ (l : List ℕ). get_or l 4 0) e) h
+annotation_shows_lem ran r areas = go r.counts
+  where
+    go : (c : Result Counts Refusal) → count_values c r.note ≡ annotation_numbers ran → areas ≡ ran.answer.areas → counts_shown c areas ≡ ran.answer
+    go (Ok c) e h =
+        annotated ran.answer (ap (λ (l : List ℕ). get_or l 0 0) e) (ap (λ (l : List ℕ). get_or l 1 0) e) (ap (λ (l : List ℕ). get_or l 2 0) e)
+        (ap (λ (l : List ℕ). get_or l 3 0) e) (ap (λ (l : List ℕ). get_or l 4 0) e) h
+    go (Err x) e h =
+        annotated ran.answer (ap (λ (l : List ℕ). get_or l 0 0) e) (ap (λ (l : List ℕ). get_or l 1 0) e) (ap (λ (l : List ℕ). get_or l 2 0) e)
+        (ap (λ (l : List ℕ). get_or l 3 0) e) (ap (λ (l : List ℕ). get_or l 4 0) e) h
 
-annotation_note_lem : (ran : AnnotateRan) (r : Annotation) → annotation_values r ≡ annotation_numbers ran → annotation_note r ≡ ran.note
+annotation_note_lem : (ran : AnnotateRan) (r : Annotation) → annotation_values r ≡ annotation_numbers ran → r.note ≡ ran.note
 unfolding annotation_values annotation_numbers
-annotation_note_lem ran (Accepted groups items sources label_bytes note) e = ap (λ (l : List ℕ). get_or l 5 0) e
-annotation_note_lem ran (Refused number note) e = ap (λ (l : List ℕ). get_or l 5 0) e
+annotation_note_lem ran r = go r.counts
+  where
+    go : (c : Result Counts Refusal) → count_values c r.note ≡ annotation_numbers ran → r.note ≡ ran.note
+    go (Ok c) e = ap (λ (l : List ℕ). get_or l 5 0) e
+    go (Err x) e = ap (λ (l : List ℕ). get_or l 5 0) e
 
 -- a call that met its promise showed what `run_call` answers, and left the state that it leaves
 same_state : (k : ℕ) (area x y : List ℕ) (m n : ℕ) → x ≡ y → m ≡ n → state (put_back k x area) m ≡ state (put_back k y area) n

@@ -1,13 +1,15 @@
 -- Document 01, Agreement: the promises of look-up and annotation, and demand 3 of whatever meets them,
 -- so that nothing stands between `Histories` and the code.
-use Rattle.std.specs.Prelude.{ℕ, ◌≡◌, List, [], ◌∷◌, map, length, take}
+use Rattle.std.specs.Prelude.{ℕ, ◌≡◌, List, [], ◌∷◌, map, length, take, Result, Ok, Err}
+use Rattle.base.specs.Refusals.{number_of}
+use Rattle.base.specs.declared.refusal.Refusal.{Refusal}
 use Rattle.index.specs.declared.Bracket.{Bracket}
 use Rattle.lookup.specs.declared.LookUp.{LookUp}
-use Rattle.lookup.specs.declared.LookUp.TheVariants.{Accepted as FoundOne, Refused as FoundNone}
+use Rattle.resolve.specs.declared.Group.{Group}
 use Rattle.lookup.specs.LookUps.{LookedUp, look_up_run}
 use Rattle.lookup.specs.Values.{look_up_values, look_up_numbers, look_up_answer}
 use Rattle.annotation.specs.declared.answer.Annotation.{Annotation}
-use Rattle.annotation.specs.declared.answer.Annotation.TheVariants.{Accepted, Refused}
+use Rattle.annotation.specs.declared.answer.Counts.{Counts}
 use Rattle.annotation.specs.Content.{Areas}
 use Rattle.annotation.specs.Call.{Annotated, annotate_refused, annotate_run}
 use Rattle.annotation.specs.Values.{annotation_values, annotation_numbers, annotation_answer}
@@ -51,36 +53,34 @@ Met text st (LookedUpOnce k at records items r index' records' items') =
 Met text st (AnnotatedOnce k mode pool records areas r index' records' areas') =
     AnnotatePromise text mode pool st.note (take k st.index) records areas r index' records' areas'
 
+-- what is shown of a group that was found, or of a refusal
+abbrev pub group_shown : Result Group Refusal → List ℕ → LookedUp
+group_shown (Ok g) items = record { number = 0; close = g.close; count = g.count; items = items }
+group_shown (Err e) items = record { number = number_of e; close = 0; count = 0; items = items }
+
 -- what it returned except the note, and the final bytes of its answer areas
 abbrev pub look_up_shows : LookUp → List ℕ → LookedUp
-look_up_shows (FoundOne close count note) items = record { number = 0; close = close; count = count; items = items }
-look_up_shows (FoundNone number note) items = record { number = number; close = 0; count = 0; items = items }
+look_up_shows r items = group_shown r.group items
+
+-- what is shown of counts, or of a refusal
+abbrev pub counts_shown : Result Counts Refusal → Areas → Annotated
+counts_shown (Ok c) areas =
+    record { number = 0; groups = c.groups; items = c.items; sources = c.sources; label_bytes = c.label_bytes; areas = areas }
+counts_shown (Err e) areas = annotate_refused (number_of e) areas
 
 -- what an annotation's answer and areas show, the note left off
 abbrev pub annotation_shows : Annotation → Areas → Annotated
-annotation_shows (Accepted groups items sources label_bytes note) areas =
-    record { number = 0; groups = groups; items = items; sources = sources; label_bytes = label_bytes; areas = areas }
-annotation_shows (Refused number note) areas = annotate_refused number areas
+annotation_shows r areas = counts_shown r.counts areas
 
 -- what either showed
 abbrev pub shown : RanCall → Answer
 shown (LookedUpOnce k at records items r index' records' items') = OfLookUp (look_up_shows r items')
 shown (AnnotatedOnce k mode pool records areas r index' records' areas') = OfAnnotation (annotation_shows r areas')
 
--- the note that a look-up returned
-abbrev pub look_up_note : LookUp → ℕ
-look_up_note (FoundOne close count note) = note
-look_up_note (FoundNone number note) = note
-
--- the note that an annotation returned
-abbrev pub annotation_note : Annotation → ℕ
-annotation_note (Accepted groups items sources label_bytes note) = note
-annotation_note (Refused number note) = note
-
 -- the index area and the note for the next call
 abbrev pub state_after : State → RanCall → State
-state_after st (LookedUpOnce k at records items r index' records' items') = state (put_back k index' st.index) (look_up_note r)
-state_after st (AnnotatedOnce k mode pool records areas r index' records' areas') = state (put_back k index' st.index) (annotation_note r)
+state_after st (LookedUpOnce k at records items r index' records' items') = state (put_back k index' st.index) r.note
+state_after st (AnnotatedOnce k mode pool records areas r index' records' areas') = state (put_back k index' st.index) r.note
 
 -- all calls of a list did, each with what the call before left
 abbrev pub AllMet : List ℕ → State → List RanCall → Type 0

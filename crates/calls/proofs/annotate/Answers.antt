@@ -4,7 +4,9 @@ use Rattle.index.specs.declared.Bracket.{Bracket}
 use Rattle.index.specs.Built.{index_after, records_after}
 use Rattle.index.specs.Building.{Both, built_when, Enough}
 use Rattle.annotation.specs.declared.answer.Annotation.{Annotation}
-use Rattle.annotation.specs.declared.preparation.Prepared.{Prepared}
+use Rattle.std.specs.Prelude.{Result}
+use Rattle.base.specs.declared.refusal.Refusal.{Refusal}
+use Rattle.annotation.specs.declared.preparation.Begun.{Begun}
 use Rattle.annotation.specs.Content.{areas}
 use Rattle.annotation.specs.Halves.{PreparedBy, prepared_wants, CanFinish, Finished, Done}
 use Rattle.annotation.specs.Call.{annotate_run}
@@ -13,7 +15,7 @@ use Rattle.annotation.proofs.Answers.{ran_index, ran_records}
 use Rattle.histories.specs.Promises.{AnnotatePromise}
 use Rattle.calls.proofs.annotate.Goals as goal
 
-module _ (s : List ℕ) (mode : ℕ) (pool : List ℕ) (note : ℕ) (index items groups : List ℕ) (records : List Bracket) {n : ℕ} {w : Bool} (p : Prepared)
+module _ (s : List ℕ) (mode : ℕ) (pool : List ℕ) (note : ℕ) (index items groups : List ℕ) (records : List Bracket) {n : ℕ} {w : Bool} (p : Result Begun Refusal)
     (items₁ groups₁ : List ℕ) (count : n ≡ length records) (first : PreparedBy s mode pool note index n items groups p items₁ groups₁) (wants : w ≡ prepared_wants p) where
   prepared : PreparedBy s mode pool note index (length records) items groups p items₁ groups₁
   prepared = rw count at first
@@ -30,13 +32,13 @@ module _ (s : List ℕ) (mode : ℕ) (pool : List ℕ) (note : ℕ) (index items
     stored : records₂ ≡ records_after (prepared_wants p) s records
     stored = ap (λ (b : Both). b.1) build ∙ rw (rs, wants) refl
 
-    finishes : CanFinish s mode pool note p index₂ items₁ groups₁
-    finishes = record { index₀ = index; lent = length records; items₀ = items; groups₀ = groups; prepared = prepared; built = after }
+    finishes : CanFinish s pool note p index₂ items₁ groups₁
+    finishes = record { mode = mode; index₀ = index; lent = length records; items₀ = items; groups₀ = groups; prepared = prepared; built = after }
 
     module _ (references labels : List ℕ) {index₃ items₃ groups₃ references₃ labels₃ : List ℕ} {r : Annotation}
-        (last : Finished s mode pool note p index₂ items₁ groups₁ references labels r items₃ groups₃ references₃ labels₃) (kept : index₃ ≡ index₂) where
+        (last : Finished s pool note p index₂ items₁ groups₁ references labels r items₃ groups₃ references₃ labels₃) (kept : index₃ ≡ index₂) where
       done : Done (annotate_run s mode pool note index records (areas items groups references labels)) r items₃ groups₃ references₃ labels₃
-      done = last.gives index records (length records) items groups prepared refl after
+      done = last.gives mode index records (length records) items groups prepared refl after
 
       promised : AnnotatePromise s mode pool note index records (areas items groups references labels) r index₃ records₂ (areas items₃ groups₃ references₃ labels₃)
       promised = (
@@ -51,13 +53,13 @@ module _ (s : List ℕ) (mode : ℕ) (pool : List ℕ) (note : ℕ) (index items
       )
 
 pub build_when-requires : goal.build_when-requires
-build_when-requires c = enough _ _ _ _ _ _ _ _ _ _ _ c.count-n.ensures.0 c.prepare-p.ensures.0 c.wants_build-w.ensures c.prepare-p.ensures.1 c.count-n.ensures.1
+build_when-requires c = enough _ _ _ _ _ _ _ _ _ _ _ c.count-n.ensures.0 c.prepare-prepared.ensures.0 c.wants_build.ensures c.prepare-prepared.ensures.1 c.count-n.ensures.1
 
 pub finish-requires : goal.finish-requires
 finish-requires c =
-    finishes _ _ _ _ _ _ _ _ _ _ _ c.count-n.ensures.0 c.prepare-p.ensures.0 c.wants_build-w.ensures c.prepare-p.ensures.1 c.count-n.ensures.1 c.build_when.ensures
+    finishes _ _ _ _ _ _ _ _ _ _ _ c.count-n.ensures.0 c.prepare-prepared.ensures.0 c.wants_build.ensures c.prepare-prepared.ensures.1 c.count-n.ensures.1 c.build_when.ensures
 
 pub returns : goal.returns
 returns c =
-    promised _ _ _ _ _ _ _ _ _ _ _ c.count-n.ensures.0 c.prepare-p.ensures.0 c.wants_build-w.ensures c.prepare-p.ensures.1 c.count-n.ensures.1
+    promised _ _ _ _ _ _ _ _ _ _ _ c.count-n.ensures.0 c.prepare-prepared.ensures.0 c.wants_build.ensures c.prepare-prepared.ensures.1 c.count-n.ensures.1
     c.build_when.ensures _ _ c.finish.ensures.0 c.finish.ensures.1
