@@ -2,200 +2,183 @@
 // docs/DIFFERENCES.md says how the list was made and how it is laid out.
 #![tactic(auto)]
 
-ghost use Rattle.std.specs.Prelude.{◌≡◌, ◌<◌, ◌≤◌, length};
+ghost use Rattle.std.specs.Prelude.{length};
+ghost use Rattle.std.specs.Iterator.{at_most};
 
+use replay_body::body::Body;
 use std::fs::File;
-use std::io;
 use std::io::{Read, Write};
 use std::num::wrapping_add_u64;
 use std::rt::Files;
+use std::{fmt, io};
 
-// The records of one kind: how many there are, how many agree, and the number of the first that does not, from 1; 0 for none.
-#[derive(Drop)]
+// What is answered by a record, with the number of its kind.
+#[derive(Clone, Copy)]
+enum Kind {
+    Utf8 = 1,
+    Escaped = 2,
+    Key = 3,
+    White = 4,
+    Trim = 5,
+    Close = 6,
+    Locator = 7,
+    Item = 8,
+    Pool = 9,
+    Source = 10,
+    LookUp = 11,
+    Annotate = 12,
+}
+
+const KINDS: [Kind; 12] = [
+    Kind::Utf8,
+    Kind::Escaped,
+    Kind::Key,
+    Kind::White,
+    Kind::Trim,
+    Kind::Close,
+    Kind::Locator,
+    Kind::Item,
+    Kind::Pool,
+    Kind::Source,
+    Kind::LookUp,
+    Kind::Annotate,
+];
+
+impl fmt::Display for Kind {
+    fn fmt<W: fmt::Write>(&self, f: &mut fmt::Formatter<W>) -> fmt::Result {
+        f.write_str(match self {
+            Kind::Utf8 => "utf8",
+            Kind::Escaped => "escaped",
+            Kind::Key => "key",
+            Kind::White => "white",
+            Kind::Trim => "trim",
+            Kind::Close => "close",
+            Kind::Locator => "locator",
+            Kind::Item => "item",
+            Kind::Pool => "pool",
+            Kind::Source => "source",
+            Kind::LookUp => "lookup",
+            Kind::Annotate => "annotate",
+        })
+    }
+}
+
+impl Kind {
+    // Whether the proved function of this kind gives the answer that the record's body holds.
+    fn agrees(self, body: Body<'_>) -> bool {
+        match self {
+            Kind::Utf8 => replay_calls::leaves::utf8_agrees(body),
+            Kind::Escaped => replay_calls::leaves::escaped_agrees(body),
+            Kind::Key => replay_calls::leaves::key_agrees(body),
+            Kind::White => replay_calls::leaves::white_agrees(body),
+            Kind::Trim => replay_calls::leaves::trim_agrees(body),
+            Kind::Close => replay_calls::parts::close_agrees(body),
+            Kind::Locator => replay_calls::parts::locator_agrees(body),
+            Kind::Item => replay_calls::parts::item_agrees(body),
+            Kind::Pool => replay_calls::pools::pool_agrees(body),
+            Kind::Source => replay_calls::pools::source_agrees(body),
+            Kind::LookUp => replay_calls::look_ups::look_ups_agree(body),
+            Kind::Annotate => replay_calls::annotations::annotations_agree(body),
+        }
+    }
+}
+
+// The records of one kind: how many there are, how many agree, and the number of the first that does not, from 1.
+#[derive(Default, Drop)]
 struct Tally {
     all: u64,
     same: u64,
-    first: u64,
+    first: Option<u64>,
 }
 
-// A tally so far, and whether there may be more to read.
-#[derive(Drop)]
-struct Step {
-    tally: Tally,
-    more: bool,
-}
-
-// The tally with one record more.
-fn counted(t: Tally, is_same: bool) -> Tally {
-    let all = wrapping_add_u64(t.all, 1);
-    if is_same {
-        return Tally {
-            all: all,
-            same: wrapping_add_u64(t.same, 1),
-            first: t.first,
-        };
-    }
-    if t.first == 0 {
-        return Tally {
-            all: all,
-            same: t.same,
-            first: all,
-        };
-    }
-    Tally {
-        all: all,
-        same: t.same,
-        first: t.first,
-    }
-}
-
-// Whether the proved function of this kind gives the answer that the record's body holds.
-fn agrees(kind: u8, body: &[u8]) -> bool {
-    if kind == 1 {
-        return replay_calls::leaves::utf8_agrees(body);
-    }
-    if kind == 2 {
-        return replay_calls::leaves::escaped_agrees(body);
-    }
-    if kind == 3 {
-        return replay_calls::leaves::key_agrees(body);
-    }
-    if kind == 4 {
-        return replay_calls::leaves::white_agrees(body);
-    }
-    if kind == 5 {
-        return replay_calls::leaves::trim_agrees(body);
-    }
-    if kind == 6 {
-        return replay_calls::parts::close_agrees(body);
-    }
-    if kind == 7 {
-        return replay_calls::locator_agrees(body);
-    }
-    if kind == 8 {
-        return replay_calls::parts::item_agrees(body);
-    }
-    if kind == 9 {
-        return replay_calls::pools::pool_agrees(body);
-    }
-    if kind == 10 {
-        return replay_calls::source_agrees(body);
-    }
-    if kind == 11 {
-        return replay_calls::look_ups::look_ups_agree(body);
-    }
-    if kind == 12 {
-        return replay_calls::annotations::annotations_agree(body);
-    }
-    false
-}
-
-// The tally with a record, where it is of this kind: the kind, the body's length in three bytes, the body. One cut off does not agree.
-fn judged(t: Tally, kind: u8, record: &[u8]) -> Tally {
-    if record.len() < 4 {
-        return t;
-    }
-    if record[0] != kind {
-        return t;
-    }
-    if replay_body::body::length(record, 1) + 4 != record.len() {
-        return counted(t, false);
-    }
-    counted(t, agrees(kind, &record[4..]))
-}
-
-// Where the record that starts at `at` ends; the block's end where it is cut off.
-fn record_end(block: &[u8], at: usize) -> usize
-    requires { at < length block.now }
-    ensures { (at < result) × (result ≤ length block.now) }
-{
-    let n = replay_body::body::length(block, at + 1);
-    if n + 4 <= block.len() - at {
-        at + (n + 4)
-    } else {
-        block.len()
-    }
-}
-
-// The tally with the records of a block. Its unused rest is zeros, which read as empty records of no kind.
-fn replay_block(t: Tally, kind: u8, block: &[u8]) -> Tally {
-    let mut tally = t;
-    let mut at = 0;
-    while at < block.len() {
-        let end = record_end(block, at);
-        tally = judged(tally, kind, &block[at..end]);
-        at = end;
-    }
-    tally
-}
-
-// Zeros for a block of the list.
-fn block() -> [u8; 1048576]
-    ensures { 1048576 ≡ length result }
-{
-    [0; 1048576]
-}
-
-// The tally with the next block of the list.
-fn replay_some<R: Read>(t: Tally, kind: u8, list: &mut R) -> io::Result<Step> {
-    let mut buf = block();
-    let n = reading::read_full(list, &mut buf)?;
-    let tally = replay_block(t, kind, &buf[..n]);
-    Ok(Step {
-        tally: tally,
-        more: n > 0,
-    })
-}
-
-// The tally of a kind over the whole list.
-fn replay_all<R: Read>(kind: u8, list: &mut R) -> io::Result<Tally> {
-    let mut tally = Tally {
-        all: 0,
-        same: 0,
-        first: 0,
-    };
-    let mut turns: u32 = 1000000;
-    while turns > 0 {
-        let step = replay_some(tally, kind, list)?;
-        tally = step.tally;
-        if !step.more {
-            return Ok(tally);
+impl Tally {
+    // One record more.
+    fn count(&mut self, agrees: bool) {
+        self.all = wrapping_add_u64(self.all, 1);
+        if agrees {
+            self.same = wrapping_add_u64(self.same, 1);
+        } else {
+            self.first = self.first.or(Some(self.all));
         }
-        turns -= 1;
+    }
+}
+
+// The records of a block: the kind, the body's length in three bytes, the body; the last one may be cut off.
+#[derive(Drop)]
+struct Records<'a>(&'a [u8]);
+
+impl<'a> Iterator for Records<'a> {
+    type Item = &'a [u8];
+
+    ghost remaining = { λ s. at_most (length s.0.now) };
+
+    fn next(&mut self) -> Option<&'a [u8]> {
+        if self.0.is_empty() {
+            return None;
+        }
+        let end = 4 + Body(self.0).length(1);
+        let (record, rest) = self.0.split_at_checked(end).unwrap_or((self.0, &[]));
+        self.0 = rest;
+        Some(record)
+    }
+}
+
+// Counts the records of this kind in a block. One cut off does not agree. The block's unused rest is zeros, which read as empty records of no
+// kind.
+fn count_block(tally: &mut Tally, kind: Kind, block: &[u8]) {
+    for record in Records(block) {
+        if record.len() >= 4 && record[0] == kind as u8 {
+            let body = Body(&record[4..]);
+            let is_whole = Body(record).length(1) == body.0.len();
+            tally.count(is_whole && kind.agrees(body));
+        }
+    }
+}
+
+// The length of a block of the list, and the most blocks of it that are read.
+const BLOCK: usize = 1048576;
+
+const BLOCKS: u32 = 1000000;
+
+// The tally of a kind over the whole list, read by blocks.
+fn count_all<R: Read>(kind: Kind, list: &mut R, block: &mut [u8]) -> io::Result<Tally> {
+    let mut tally = Tally::default();
+    for _ in 0..BLOCKS {
+        let n = reading::read_full(list, block)?;
+        if n == 0 {
+            break;
+        }
+        count_block(&mut tally, kind, &block[..n]);
     }
     Ok(tally)
 }
 
 // Writes what became of a kind.
-fn say<W: Write>(out: &mut W, name: &[u8], t: Tally) -> io::Result<()> {
-    out.write_all(name)?;
-    write!(out, " {} of {} agree", t.same, t.all)?;
-    if t.first > 0 {
-        write!(out, ", not number {}", t.first)?;
+fn say<W: Write>(out: &mut W, kind: Kind, tally: Tally) -> io::Result<()> {
+    write!(out, "{kind} {} of {} agree", tally.same, tally.all)?;
+    if let Some(number) = tally.first {
+        write!(out, ", not number {number}")?;
     }
     out.write_all(b"\n")
 }
 
 // Replays a kind, and writes what became of it; where the list cannot be opened, why, to standard error.
-fn replay<R: Files + Print + Eprint>(rt: &R, name: &[u8], kind: u8) -> io::Result<()> {
+fn replay<R: Files + Print + Eprint>(rt: &R, kind: Kind, block: &mut [u8]) -> io::Result<()> {
     let path = "answers";
     match File::open(rt, path) {
-        Ok(mut list) => say(&mut io::writer(rt), name, replay_all(kind, &mut list)?),
+        Ok(mut list) => say(
+            &mut io::writer(rt),
+            kind,
+            count_all(kind, &mut list, block)?,
+        ),
         Err(error) => eprintln!(rt; "{path}: {error}"),
     }
 }
 
 fn main(rt: HostRuntime) -> io::Result<()> {
-    replay(&rt, b"utf8", 1)?;
-    replay(&rt, b"escaped", 2)?;
-    replay(&rt, b"key", 3)?;
-    replay(&rt, b"white", 4)?;
-    replay(&rt, b"trim", 5)?;
-    replay(&rt, b"close", 6)?;
-    replay(&rt, b"locator", 7)?;
-    replay(&rt, b"item", 8)?;
-    replay(&rt, b"pool", 9)?;
-    replay(&rt, b"source", 10)?;
-    replay(&rt, b"lookup", 11)?;
-    replay(&rt, b"annotate", 12)
+    let mut block = vec![in rt.alloc(); 0u8; BLOCK]?;
+    for kind in KINDS {
+        replay(&rt, kind, &mut block)?;
+    }
+    Ok(())
 }

@@ -1,11 +1,12 @@
 // An annotation in a body: mode, length of the pool, number, counts, note; the numbers of its records; the label bytes; the pool.
-ghost use Rattle.std.specs.Prelude.{◌≤◌};
+use crate::areas::{BLANK, UNUSED, has_bytes, has_numbers, rest_is};
+use crate::body::Body;
 
-use crate::areas::{BLANK, UNUSED, fill, fill_bytes, has_bytes, has_numbers, has_only, is_filled};
-use crate::body::{after, before, byte, number};
-
-// The numbers of an answer: refusal, and the counts of groups, items, sources and label bytes.
 #[derive(Clone, Copy)]
+pub struct StoredAnnotation<'a>(pub Body<'a>);
+
+// The numbers of an answer: 0 or a refusal's number, and the counts of groups, items, sources and label bytes.
+#[derive(Clone, Copy, Default, PartialEq, Eq)]
 pub struct Numbers {
     pub number: usize,
     pub groups: usize,
@@ -15,135 +16,106 @@ pub struct Numbers {
     pub note: u8,
 }
 
-// The stored numbers of the annotation at `part`.
-pub fn stored(part: &[u8]) -> Numbers {
-    Numbers {
-        number: number(part, 4),
-        groups: number(part, 6),
-        items: number(part, 8),
-        sources: number(part, 10),
-        labels: number(part, 12),
-        note: byte(part, 14),
+// The areas that an annotation is lent for its answer.
+#[derive(Drop)]
+pub struct Areas<'a> {
+    pub items: &'a mut [u16],
+    pub groups: &'a mut [u16],
+    pub references: &'a mut [u16],
+    pub labels: &'a mut [u8],
+}
+
+// Whether an area holds the `n` numbers that `rows` begins with, and `rest` behind them.
+fn holds(area: &[u16], n: usize, rows: Body<'_>, rest: u16) -> bool {
+    has_numbers(area, n, rows) && rest_is(area, n, rest)
+}
+
+impl<'a> StoredAnnotation<'a> {
+    // The mode that is asked for.
+    pub fn mode(self) -> u8 {
+        self.0.byte(0)
+    }
+
+    // The numbers of the answer.
+    pub fn numbers(self) -> Numbers {
+        Numbers {
+            number: self.0.number(4),
+            groups: self.0.number(6),
+            items: self.0.number(8),
+            sources: self.0.number(10),
+            labels: self.0.number(12),
+            note: self.0.byte(14),
+        }
+    }
+
+    // The numbers of the group records, and what follows them.
+    fn groups(self) -> Body<'a> {
+        self.0.after(16)
+    }
+
+    // The numbers of the item records, and what follows them.
+    fn items(self) -> Body<'a> {
+        self.groups()
+            .after(2 * records::GROUP_WIDTH * self.0.number(6))
+    }
+
+    // The numbers of the reference records, and what follows them.
+    fn references(self) -> Body<'a> {
+        self.items()
+            .after(2 * records::ITEM_WIDTH * self.0.number(8))
+    }
+
+    // The label bytes, and what follows them.
+    fn labels(self) -> Body<'a> {
+        self.references().after(2 * self.0.number(10))
+    }
+
+    // The pool, and what follows it.
+    fn pool_on(self) -> Body<'a> {
+        self.labels().after(self.0.number(12))
+    }
+
+    // The pool that is given.
+    pub fn pool(self) -> &'a [u8] {
+        self.pool_on().before(self.0.number(2))
+    }
+
+    // The annotation after this one.
+    pub fn next(self) -> StoredAnnotation<'a> {
+        StoredAnnotation(self.pool_on().after(self.0.number(2)))
+    }
+
+    // What an area holds behind the answer: zeros after refusal 10, else what it held.
+    fn behind<T: Copy + Default>(self, unused: T) -> T {
+        if self.0.number(4) == 10 { T::default() } else { unused }
     }
 }
 
-// Whether the numbers are the same.
-pub fn is_same(a: Numbers, b: Numbers) -> bool {
-    (a.number == b.number)
-        & (a.groups == b.groups)
-        & (a.items == b.items)
-        & (a.sources == b.sources)
-        & (a.labels == b.labels)
-        & (a.note == b.note)
-}
-
-// Where the item records of the annotation at `part` stand, from its start on.
-fn items_place(part: &[u8]) -> usize
-    ensures { result ≤ 700000 }
-{
-    16 + 10 * number(part, 6)
-}
-
-// Where its reference records stand.
-fn references_place(part: &[u8]) -> usize
-    ensures { result ≤ 3000000 }
-{
-    items_place(part) + 32 * number(part, 8)
-}
-
-// Where its labels stand.
-fn labels_place(part: &[u8]) -> usize
-    ensures { result ≤ 4000000 }
-{
-    references_place(part) + 2 * number(part, 10)
-}
-
-// Where its pool stands.
-fn pool_place(part: &[u8]) -> usize
-    ensures { result ≤ 5000000 }
-{
-    labels_place(part) + number(part, 12)
-}
-
-// The pool of the annotation at `part`.
-pub fn pool_of(part: &[u8]) -> &[u8] {
-    before(after(part, pool_place(part)), number(part, 2))
-}
-
-// Where the annotation after the one at `at` stands, which is `part`.
-pub fn next_place(part: &[u8], at: usize) -> usize {
-    if 100000000 < at {
-        return at;
+impl Areas<'_> {
+    // Whether the areas of numbers hold the stored records.
+    fn hold_records(&self, stored: StoredAnnotation<'_>) -> bool {
+        let groups = records::GROUP_WIDTH * stored.0.number(6);
+        let items = records::ITEM_WIDTH * stored.0.number(8);
+        let references = stored.0.number(10);
+        let rest = stored.behind(UNUSED);
+        holds(&*self.groups, groups, stored.groups(), rest)
+            && holds(&*self.items, items, stored.items(), rest)
+            && holds(&*self.references, references, stored.references(), rest)
     }
-    at + pool_place(part) + number(part, 2)
-}
 
-// What an area of numbers holds behind its records: zeros after refusal 10, else what it held.
-fn behind(number: usize) -> u16 {
-    if number == 10 { 0 } else { UNUSED }
-}
+    // Whether the areas hold the stored answer.
+    pub fn hold(&self, stored: StoredAnnotation<'_>) -> bool {
+        let n = stored.0.number(12);
+        self.hold_records(stored)
+            && has_bytes(&*self.labels, n, stored.labels())
+            && rest_is(&*self.labels, n, stored.behind(BLANK))
+    }
 
-// What the area of labels holds behind its bytes: zeros after refusal 10, else what it held.
-fn behind_labels(number: usize) -> u8 {
-    if number == 10 { 0 } else { BLANK }
-}
-
-// Whether an area holds the `n` numbers that `rows` begins with, and `value` behind them.
-fn holds(area: &[u16], n: usize, rows: &[u8], value: u16) -> bool {
-    has_numbers(area, 0, n, rows) & is_filled(area, n, value)
-}
-
-// Whether the areas of groups, items and references are the stored ones.
-pub fn has_records(part: &[u8], items: &[u16], groups: &[u16], references: &[u16]) -> bool {
-    let rest = behind(number(part, 4));
-    holds(
-        groups,
-        records::GROUP_WIDTH * number(part, 6),
-        after(part, 16),
-        rest,
-    ) & holds(
-        items,
-        records::ITEM_WIDTH * number(part, 8),
-        after(part, items_place(part)),
-        rest,
-    ) & holds(
-        references,
-        number(part, 10),
-        after(part, references_place(part)),
-        rest,
-    )
-}
-
-// Whether the label bytes are the stored ones.
-pub fn has_labels(part: &[u8], labels: &[u8]) -> bool {
-    let n = number(part, 12);
-    has_bytes(labels, n, after(part, labels_place(part)))
-        & has_only(labels, n, behind_labels(number(part, 4)))
-}
-
-// Makes an area of numbers what it was before the call; `all` of it after refusal 10.
-fn refill(area: &mut [u16], n: usize, all: bool) {
-    let m = area.len();
-    fill(area, if all { m } else { n }, UNUSED);
-}
-
-// Makes the area of labels what it was before the call; `all` of it after refusal 10.
-fn refill_labels(labels: &mut [u8], n: usize, all: bool) {
-    let m = labels.len();
-    fill_bytes(labels, if all { m } else { n }, BLANK);
-}
-
-// Makes the areas what they were before the annotation at `part`.
-pub fn refill_all(
-    part: &[u8],
-    items: &mut [u16],
-    groups: &mut [u16],
-    references: &mut [u16],
-    labels: &mut [u8],
-) {
-    let all = number(part, 4) == 10;
-    refill(items, records::ITEM_WIDTH * number(part, 8), all);
-    refill(groups, records::GROUP_WIDTH * number(part, 6), all);
-    refill(references, number(part, 10), all);
-    refill_labels(labels, number(part, 12), all);
+    // Makes the areas what they were before the first call.
+    pub fn clear(&mut self) {
+        self.items.fill(UNUSED);
+        self.groups.fill(UNUSED);
+        self.references.fill(UNUSED);
+        self.labels.fill(BLANK);
+    }
 }

@@ -1,64 +1,47 @@
 // A record's body: the request's numbers, the answer's numbers, two bytes each, then bytes.
 ghost use Rattle.std.specs.Prelude.{◌≤◌};
 
-// A byte as a number.
-fn wide(b: u8) -> usize
-    ensures { result ≤ 255 }
-{
-    b as usize
-}
+#[derive(Clone, Copy)]
+pub struct Body<'a>(pub &'a [u8]);
 
-// The number in the two bytes at `at`, the lower one first; 0 past the end.
-pub fn number(body: &[u8], at: usize) -> usize
-    ensures { result ≤ 65535 }
-{
-    if body.len() < 2 {
-        return 0;
+impl<'a> Body<'a> {
+    // What follows the first `n` bytes.
+    pub fn after(self, n: usize) -> Body<'a> {
+        Body(self.0.get(n..).unwrap_or(&[]))
     }
-    if body.len() - 2 < at {
-        return 0;
-    }
-    wide(body[at]) + 256 * wide(body[at + 1])
-}
 
-// The number in the three bytes at `at`; 0 past the end.
-pub fn length(body: &[u8], at: usize) -> usize
-    ensures { result ≤ 16777215 }
-{
-    if body.len() < 3 {
-        return 0;
+    // The first `n` bytes, or all where there are fewer.
+    pub fn before(self, n: usize) -> &'a [u8] {
+        self.0.get(..n).unwrap_or(self.0)
     }
-    if body.len() - 3 < at {
-        return 0;
+
+    // The byte at `at`; 0 past the end.
+    pub fn byte(self, at: usize) -> u8 {
+        self.0.get(at).copied().unwrap_or(0)
     }
-    number(body, at) + 65536 * wide(body[at + 2])
-}
 
-// What follows the first `n` bytes.
-pub fn after(body: &[u8], n: usize) -> &[u8] {
-    if n <= body.len() {
-        &body[n..]
-    } else {
-        &body[..0]
+    // The two bytes at `at`, the lower one first; 0 past the end.
+    pub fn word(self, at: usize) -> u16 {
+        match self.after(at).0 {
+            [low, high, ..] => u16::from_le_bytes([*low, *high]),
+            _ => 0,
+        }
     }
-}
 
-// The first `n` bytes, or all where there are fewer.
-pub fn before(body: &[u8], n: usize) -> &[u8] {
-    let start: usize = 0;
-    if n <= body.len() {
-        &body[start..n]
-    } else {
-        body
+    // The number in the two bytes at `at`.
+    pub fn number(self, at: usize) -> usize
+        ensures { result ≤ 65535 }
+    {
+        usize::from(self.word(at))
     }
-}
 
-// The byte at `at`; 0 past the end.
-pub fn byte(body: &[u8], at: usize) -> u8 {
-    if at < body.len() { body[at] } else { 0 }
-}
-
-// 1 for true, 0 for false.
-pub fn flag(b: bool) -> usize {
-    if b { 1 } else { 0 }
+    // The number in the three bytes at `at`, the lowest first; 0 past the end.
+    pub fn length(self, at: usize) -> usize
+        ensures { result ≤ 16777215 }
+    {
+        match self.after(at).0 {
+            [low, middle, high, ..] => usize::from(u16::from_le_bytes([*low, *middle])) + 65536 * usize::from(*high),
+            _ => 0,
+        }
+    }
 }

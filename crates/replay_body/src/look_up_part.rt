@@ -1,63 +1,58 @@
 // A look-up in a body: place, number, close, item count, note and twelve numbers an item.
-use crate::areas::{UNUSED, has_numbers, is_filled};
-use crate::body::{after, number};
+use crate::areas::{UNUSED, has_numbers, rest_is};
+use crate::body::Body;
 
-// The numbers of an answer.
 #[derive(Clone, Copy)]
+pub struct StoredLookUp<'a>(pub Body<'a>);
+
+// The numbers of an answer: 0 or a refusal's number, and what is said of the group.
+#[derive(Clone, Copy, Default, PartialEq, Eq)]
 pub struct Numbers {
     pub number: usize,
     pub close: usize,
     pub count: usize,
-    pub note: u8,
+    pub note: usize,
 }
 
-// Whether these are the numbers that `part` begins with, after the place.
-pub fn is_told(t: Numbers, part: &[u8]) -> bool {
-    (t.number == number(part, 2))
-        & (t.close == number(part, 4))
-        & (t.count == number(part, 6))
-        & (t.note as usize == number(part, 8))
+// Whether an item record begins with the twelve numbers of `row`, and ends with zeros.
+fn is_row(record: &[u16], row: Body<'_>) -> bool {
+    has_numbers(record, 12, row) && rest_is(record, 12, 0)
 }
 
-// Whether a number is 0; past the end none is.
-fn is_zero(area: &[u16], i: usize) -> bool {
-    if i < area.len() { area[i] == 0 } else { false }
-}
-
-// Whether the item record at `at` begins with the twelve numbers of `row`, and ends with zeros.
-fn is_row(row: &[u8], items: &[u16], at: usize) -> bool {
-    if 2000000 < at {
-        return false;
+impl<'a> StoredLookUp<'a> {
+    // The place that is asked about.
+    pub fn place(self) -> usize {
+        self.0.number(0)
     }
-    has_numbers(items, at, 12, row)
-        & is_zero(items, at + 12)
-        & is_zero(items, at + 13)
-        & is_zero(items, at + 14)
-        & is_zero(items, at + 15)
-}
 
-// Whether the item area holds the records of `rows`, and nothing after them.
-pub fn has_rows(rows: &[u8], count: usize, items: &[u16]) -> bool {
-    if 65535 < count {
-        return false;
-    }
-    let mut k: usize = 0;
-    while k < count {
-        if !is_row(after(rows, 24 * k), items, records::ITEM_WIDTH * k) {
-            return false;
+    // The numbers of the answer.
+    pub fn numbers(self) -> Numbers {
+        Numbers {
+            number: self.0.number(2),
+            close: self.0.number(4),
+            count: self.0.number(6),
+            note: self.0.number(8),
         }
-        k += 1;
     }
-    is_filled(items, records::ITEM_WIDTH * count, UNUSED)
-}
 
-// Where the look-up after the one at `at` stands, which has `count` records.
-pub fn next_place(at: usize, count: usize) -> usize {
-    if 1000000 < at {
-        return at;
+    // Whether the item area holds the records, and nothing after them.
+    pub fn has_items(self, items: &[u16]) -> bool {
+        let count = self.0.number(6);
+        let rows = self.0.after(10);
+        for k in 0..count {
+            let at = records::ITEM_WIDTH * k;
+            if !items
+                .get(at..at + records::ITEM_WIDTH)
+                .is_some_and(|record| is_row(record, rows.after(24 * k)))
+            {
+                return false;
+            }
+        }
+        rest_is(items, records::ITEM_WIDTH * count, UNUSED)
     }
-    if 65535 < count {
-        return at;
+
+    // The look-up after this one.
+    pub fn next(self) -> StoredLookUp<'a> {
+        StoredLookUp(self.0.after(10 + 24 * self.0.number(6)))
     }
-    at + 10 + 24 * count
 }

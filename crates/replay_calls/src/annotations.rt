@@ -1,149 +1,95 @@
 // The annotations' kind: a text, and annotations of it one after the other, with index and note kept between them.
 // Whether the proved call gives the stored answers; docs/DIFFERENCES.md has the body.
+ghost use Rattle.std.specs.Prelude.{◌≤◌};
+
 use annotation::answer::Annotation;
-use replay_body::annotation_part::{
-    Numbers, has_labels, has_records, is_same, next_place, pool_of, refill_all, stored,
-};
+use replay_body::annotation_part::{Areas, Numbers, StoredAnnotation};
 use replay_body::areas::{BLANK, UNUSED};
-use replay_body::body::{after, byte, number};
-use replay_body::session::{Session, is_index, set_index, start, text_of};
+use replay_body::body::Body;
+use replay_body::session::Session;
 
-// The numbers of an answer.
-fn told(answer: Annotation) -> Numbers {
-    match answer {
-        Annotation::Accepted {
-            groups,
-            items,
-            sources,
-            label_bytes,
-            note,
-        } => Numbers {
+// The numbers of an answer. (No `From`: both types are of other crates.)
+fn numbers_of(answer: Annotation) -> Numbers {
+    let note = answer.note;
+    match answer.counts {
+        Ok(counts) => Numbers {
             number: 0,
-            groups,
-            items,
-            sources,
-            labels: label_bytes,
+            groups: counts.groups,
+            items: counts.items,
+            sources: counts.sources,
+            labels: counts.label_bytes,
             note,
         },
-        Annotation::Refused { number, note } => Numbers {
-            number: number as usize,
-            groups: 0,
-            items: 0,
-            sources: 0,
-            labels: 0,
+        Err(refusal) => Numbers {
+            number: usize::from(u8::from(refusal)),
             note,
+            ..Numbers::default()
         },
     }
 }
 
-// The annotation at `s.at`: the replay with it, its records and labels left in the areas.
+// The numbers of the answer to the annotation that is stored, its records and labels left in the areas.
 fn annotate(
-    body: &[u8],
-    s: Session,
+    session: Session<'_>,
+    stored: StoredAnnotation<'_>,
+    note: u8,
     index: &mut [u16],
-    items: &mut [u16],
-    groups: &mut [u16],
-    references: &mut [u16],
-    labels: &mut [u8],
-) -> Session {
-    let at = s.at;
-    let part = after(body, at);
-    let text = text_of(body);
-    let pool = pool_of(part);
-    let t = told(local_records::annotate(
-        text,
-        byte(part, 0),
-        pool,
-        s.note,
+    areas: &mut Areas<'_>,
+) -> Numbers {
+    numbers_of(local_records::annotate(
+        session.text(),
+        stored.mode(),
+        stored.pool(),
+        note,
         index,
-        items,
-        groups,
-        references,
-        labels,
-    ));
-    let same = is_same(t, stored(part))
-        & has_records(part, items, groups, references)
-        & has_labels(part, labels);
-    Session {
-        at: next_place(part, at),
-        note: t.note,
-        same: s.same & same,
+        areas.items,
+        areas.groups,
+        areas.references,
+        areas.labels,
+    ))
+}
+
+// Whether every annotation of a session has the stored answer, and the index after them.
+fn agrees_in(session: Session<'_>, index: &mut [u16], areas: &mut Areas<'_>) -> bool {
+    session.set_index(index);
+    let mut note = session.first_note();
+    let mut stored = StoredAnnotation(session.calls());
+    for _ in 0..session.count() {
+        let numbers = annotate(session, stored, note, index, areas);
+        if numbers != stored.numbers() || !areas.hold(stored) {
+            return false;
+        }
+        areas.clear();
+        note = numbers.note;
+        stored = stored.next();
     }
+    session.has_index(note, index)
 }
 
-// The replay of all annotations.
-fn annotate_all(
-    body: &[u8],
-    index: &mut [u16],
-    items: &mut [u16],
-    groups: &mut [u16],
-    references: &mut [u16],
-    labels: &mut [u8],
-) -> Session {
-    let mut s = start(body);
-    let mut left = number(body, 6);
-    while left > 0 {
-        let at = s.at;
-        s = annotate(body, s, index, items, groups, references, labels);
-        refill_all(after(body, at), items, groups, references, labels);
-        left -= 1;
-    }
-    s
-}
-
-// Whether every annotation of a body has the stored answer, and the index after them.
-fn session_agrees(
-    body: &[u8],
-    index: &mut [u16],
-    items: &mut [u16],
-    groups: &mut [u16],
-    references: &mut [u16],
-    labels: &mut [u8],
-) -> bool {
-    set_index(body, index);
-    let s = annotate_all(body, index, items, groups, references, labels);
-    s.same & is_index(body, s.note, index)
-}
-
-// Whether every annotation of a body has the stored answer, with areas for a short text.
-fn short_agrees(body: &[u8]) -> bool {
-    let mut index = [0u16; 1024];
-    let mut items = [UNUSED; 5504];
-    let mut groups = [UNUSED; 1280];
-    let mut references = [UNUSED; 256];
-    let mut labels = [BLANK; 66000];
-    session_agrees(
-        body,
-        &mut index,
-        &mut items,
-        &mut groups,
-        &mut references,
-        &mut labels,
-    )
-}
-
-// Whether every annotation of a body has the stored answer, with areas for any text.
-fn long_agrees(body: &[u8]) -> bool {
-    let mut index = [0u16; 65536];
-    let mut items = [UNUSED; 349536];
-    let mut groups = [UNUSED; 82000];
-    let mut references = [UNUSED; 16400];
-    let mut labels = [BLANK; 66000];
-    session_agrees(
-        body,
-        &mut index,
-        &mut items,
-        &mut groups,
-        &mut references,
-        &mut labels,
-    )
+// The same, with areas of these lengths.
+fn agrees_with<
+    const INDEX: usize,
+    const ITEMS: usize,
+    const GROUPS: usize,
+    const REFERENCES: usize,
+>(session: Session<'_>) -> bool
+    requires { (INDEX ≤ 65536) × (ITEMS ≤ 349536) × (GROUPS ≤ 82000) × (REFERENCES ≤ 16400) }
+{
+    let mut areas = Areas {
+        items: &mut [UNUSED; ITEMS],
+        groups: &mut [UNUSED; GROUPS],
+        references: &mut [UNUSED; REFERENCES],
+        labels: &mut [BLANK; 66000],
+    };
+    agrees_in(session, &mut [0u16; INDEX], &mut areas)
 }
 
 // Whether annotations of a text have the stored answers.
-pub fn annotations_agree(body: &[u8]) -> bool {
-    if text_of(body).len() <= 1000 {
-        short_agrees(body)
+pub fn annotations_agree(body: Body<'_>) -> bool {
+    let session = Session(body);
+    if session.text().len() <= 1000 {
+        agrees_with::<1024, 5504, 1280, 256>(session)
     } else {
-        long_agrees(body)
+        agrees_with::<65536, 349536, 82000, 16400>(session)
     }
 }

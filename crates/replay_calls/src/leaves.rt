@@ -1,46 +1,37 @@
-// The leaves' kinds: whether the proved function gives the stored answer. A body is the request's numbers, the answer's numbers, the text.
-use replay_body::body::{after, flag, number};
+// The leaves' kinds. A body is the request's numbers, the answer's numbers, the text.
+use replay_body::body::Body;
 
 // Whether the text is UTF-8.
-pub fn utf8_agrees(body: &[u8]) -> bool {
-    flag(utf8::is_utf8(after(body, 2))) == number(body, 0)
+pub fn utf8_agrees(body: Body<'_>) -> bool {
+    usize::from(utf8::is_utf8(body.after(2).0)) == body.number(0)
 }
 
 // Whether a place is escaped.
-pub fn escaped_agrees(body: &[u8]) -> bool {
-    let at = number(body, 0);
-    let s = after(body, 4);
-    if s.len() < at {
-        return false;
-    }
-    flag(text::is_escaped_at(s, at)) == number(body, 2)
+pub fn escaped_agrees(body: Body<'_>) -> bool {
+    let at = body.number(0);
+    let s = body.after(4).0;
+    at <= s.len() && usize::from(text::is_escaped_at(s, at)) == body.number(2)
 }
 
 // Where the key at a place ends.
-pub fn key_agrees(body: &[u8]) -> bool {
-    key::parse_key(after(body, 4), number(body, 0)) == number(body, 2)
+pub fn key_agrees(body: Body<'_>) -> bool {
+    key::parse_key(body.after(4).0, body.number(0)) == body.number(2)
 }
 
 // Whether a byte is part of white space; past the end it is not.
-pub fn white_agrees(body: &[u8]) -> bool {
-    let at = number(body, 0);
-    let s = after(body, 4);
-    if s.len() <= at {
-        return number(body, 2) == 0;
-    }
-    flag(text::is_white_at(s, at)) == number(body, 2)
+pub fn white_agrees(body: Body<'_>) -> bool {
+    let at = body.number(0);
+    let s = body.after(4).0;
+    let is_white = at < s.len() && text::is_white_at(s, at);
+    usize::from(is_white) == body.number(2)
 }
 
 // Where a stretch begins and ends, trimmed.
-pub fn trim_agrees(body: &[u8]) -> bool {
-    let from = number(body, 0);
-    let to = number(body, 2);
-    let s = after(body, 8);
-    if s.len() < to {
-        return false;
-    }
-    if text::trim_start(s, from, to) != number(body, 4) {
-        return false;
-    }
-    text::trim_end(s, from, to) == number(body, 6)
+pub fn trim_agrees(body: Body<'_>) -> bool {
+    let from = body.number(0);
+    let to = body.number(2);
+    let s = body.after(8).0;
+    to <= s.len()
+        && text::trim_start(s, from, to) == body.number(4)
+        && text::trim_end(s, from, to) == body.number(6)
 }

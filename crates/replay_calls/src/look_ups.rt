@@ -1,81 +1,64 @@
 // The look-ups' kind: a text, and look-ups on it one after the other, with index and note kept between them.
 // Whether the proved call gives the stored answers; docs/DIFFERENCES.md has the body.
+ghost use Rattle.std.specs.Prelude.{◌≤◌};
+
 use lookup::LookUp;
-use replay_body::areas::{UNUSED, fill};
-use replay_body::body::{after, number};
-use replay_body::look_up_part::{Numbers, has_rows, is_told, next_place};
-use replay_body::session::{Session, is_index, set_index, start, text_of};
+use replay_body::areas::UNUSED;
+use replay_body::body::Body;
+use replay_body::look_up_part::{Numbers, StoredLookUp};
+use replay_body::session::Session;
 
-// The numbers of an answer.
-fn told(answer: LookUp) -> Numbers {
-    match answer {
-        LookUp::Accepted { close, count, note } => Numbers {
+// The numbers of an answer. (No `From`: both types are of other crates.)
+fn numbers_of(answer: LookUp) -> Numbers {
+    let note = usize::from(answer.note);
+    match answer.group {
+        Ok(group) => Numbers {
             number: 0,
-            close,
-            count,
+            close: group.close,
+            count: group.count,
             note,
         },
-        LookUp::Refused { number, note } => Numbers {
-            number: number as usize,
-            close: 0,
-            count: 0,
+        Err(refusal) => Numbers {
+            number: usize::from(u8::from(refusal)),
             note,
+            ..Numbers::default()
         },
     }
 }
 
-// The replay with one look-up more.
-fn look_up(body: &[u8], s: Session, index: &mut [u16], items: &mut [u16]) -> Session {
-    let at = s.at;
-    let part = after(body, at);
-    let count = number(part, 6);
-    let t = told(local_records::look_up(text_of(body), number(part, 0), s.note, index, items));
-    let same = is_told(t, part) & has_rows(after(part, 10), count, items);
-    fill(items, records::ITEM_WIDTH * count, UNUSED);
-    Session {
-        at: next_place(at, count),
-        note: t.note,
-        same: s.same & same,
+// Whether every look-up of a session has the stored answer, and the index after them, with areas of these lengths.
+fn agrees_in<const INDEX: usize, const ITEMS: usize>(session: Session<'_>) -> bool
+    requires { (INDEX ≤ 65536) × (ITEMS ≤ 349536) }
+{
+    let mut index = [0u16; INDEX];
+    let mut items = [UNUSED; ITEMS];
+    session.set_index(&mut index);
+    let mut note = session.first_note();
+    let mut stored = StoredLookUp(session.calls());
+    for _ in 0..session.count() {
+        let answer = local_records::look_up(
+            session.text(),
+            stored.place(),
+            note,
+            &mut index,
+            &mut items,
+        );
+        if numbers_of(answer) != stored.numbers() || !stored.has_items(&items) {
+            return false;
+        }
+        items.fill(UNUSED);
+        note = answer.note;
+        stored = stored.next();
     }
-}
-
-// The replay of all look-ups.
-fn look_up_all(body: &[u8], index: &mut [u16], items: &mut [u16]) -> Session {
-    let mut s = start(body);
-    let mut left = number(body, 6);
-    while left > 0 {
-        s = look_up(body, s, index, items);
-        left -= 1;
-    }
-    s
-}
-
-// Whether every look-up of a body has the stored answer, and the index after them.
-fn session_agrees(body: &[u8], index: &mut [u16], items: &mut [u16]) -> bool {
-    set_index(body, index);
-    let s = look_up_all(body, index, items);
-    s.same & is_index(body, s.note, index)
-}
-
-// Whether every look-up of a body has the stored answer, with areas for a short text.
-fn short_agrees(body: &[u8]) -> bool {
-    let mut index = [0u16; 1024];
-    let mut items = [UNUSED; 5504];
-    session_agrees(body, &mut index, &mut items)
-}
-
-// Whether every look-up of a body has the stored answer, with areas for any text.
-fn long_agrees(body: &[u8]) -> bool {
-    let mut index = [0u16; 65536];
-    let mut items = [UNUSED; 349536];
-    session_agrees(body, &mut index, &mut items)
+    session.has_index(note, &index)
 }
 
 // Whether look-ups on a text have the stored answers.
-pub fn look_ups_agree(body: &[u8]) -> bool {
-    if text_of(body).len() <= 1000 {
-        short_agrees(body)
+pub fn look_ups_agree(body: Body<'_>) -> bool {
+    let session = Session(body);
+    if session.text().len() <= 1000 {
+        agrees_in::<1024, 5504>(session)
     } else {
-        long_agrees(body)
+        agrees_in::<65536, 349536>(session)
     }
 }
