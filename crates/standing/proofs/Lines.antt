@@ -5,7 +5,7 @@ use mathlib.Core.Path.{◌≡◌, refl, sym, ◌∙◌, ap}
 use mathlib.Core.List.{List, [], ◌∷◌}
 use mathlib.Core.Bool.{Bool, true, false, ◌&&◌, not, and-false, and-true, true≢false}
 use lib.ListN.{length}
-use lib.Dec.{eqb, leb, ltb}
+use lib.Dec.{leb, ltb}
 use borrow.Author.Tests.{lt-ltb, le-ltb, leb-true, leb-false, ltb-true, ltb-false}
 use Rattle.std.specs.Prelude.{Option, Some, None}
 use Rattle.base.specs.First.{first}
@@ -84,13 +84,12 @@ module _ (s : List ℕ) (p c n : ℕ) (h : GroupFrom s p c n) where
   unfolding items_of pieces_of
   only_one e = one_item s (items_start s p) c all_good_lem (sym h.counts ∙ e)
 
-  module _ {a : ℕ} {r : Option Item} (e : n ≡ 1) (i : a ≡ items_start s p) (q : r ≡ item_of s a c) where
-    pub only_good : {it : Item} → r ≡ Some it
-        → (eqb it.prefix.len 0 && eqb it.locator.len 0 && not it.suppressed) ≡ only_key (items_of s p c)
-    unfolding only_key bare_item
-    only_good {it} g = let z : item_of s (items_start s p) c ≡ Some it = cc in rw (only_one e, z)
+  module _ {a : ℕ} (e : n ≡ 1) (i : a ≡ items_start s p) where
+    pub only_good : {it : Item} {b : Bool} → Some it ≡ item_of s a c → b ≡ bare_item it → b ≡ only_key (items_of s p c)
+    unfolding only_key
+    only_good {it} g b = let z : item_of s (items_start s p) c ≡ Some it = cc in b ∙ rw (only_one e, z)
 
-    pub only_bad : r ≡ None → false ≡ only_key (items_of s p c)
+    pub only_bad : None ≡ item_of s a c → false ≡ only_key (items_of s p c)
     unfolding only_key
     only_bad g = let z : item_of s (items_start s p) c ≡ None = cc in rw (only_one e, z)
 
@@ -102,8 +101,6 @@ module _ (s : List ℕ) (p c n : ℕ) (h : GroupFrom s p c n) where
       go [] k = refl
       go (x ∷ []) k = absurd (e k)
       go (x ∷ y ∷ l) k = refl
-
-pub ruleset only_laws = (only_good, only_bad, only_more)
 
 module _ (s : List ℕ) (p c : ℕ) {b : Bool} (q : b ≡ (starts_line s p && colon_after s c)) where
   other : (x y z : Bool) → (x && z) ≡ false → false ≡ (x && y && z)
@@ -121,8 +118,6 @@ module _ (s : List ℕ) (p c : ℕ) {b : Bool} (q : b ≡ (starts_line s p && co
   pub by_key : {r : Bool} → b ≡ true → r ≡ only_key (items_of s p c) → r ≡ defines s (group_of s p c)
   unfolding defines group_of
   by_key t k = k ∙ same (starts_line s p) (only_key (items_of s p c)) (colon_after s c) (sym q ∙ t)
-
-pub ruleset definition_laws = (no_place, by_key)
 
 at_most : (k a : ℕ) → leb a k ≡ not (ltb k a)
 at_most k a = go (leb a k) refl
@@ -143,5 +138,3 @@ module _ (s : List ℕ) (before : Bool) (from p c : ℕ) {b : Bool} (q : b ≡ d
   pub line_none : b ≡ false → before ≡ false → false ≡ in_line s before from (group_of s p c)
   unfolding in_line
   line_none f g = rw (sym q ∙ f, g)
-
-pub ruleset line_laws = (line_starts, line_goes_on, line_none)

@@ -6,25 +6,31 @@ ghost use Rattle.std.specs.Prelude.{◌≡◌};
 ghost use Rattle.base.specs.Pick.{pick};
 ghost use Rattle.item.specs.Pieces.{items_of};
 ghost use Rattle.item.specs.Group.{group_of};
-ghost use Rattle.definition_line.specs.Lines.{only_key, defines, in_line};
+ghost use Rattle.definition_line.specs.Lines.{bare_item, only_key, defines, in_line};
 ghost use Rattle.standing.specs.Stands.{GroupFrom};
 
 use definition_line::{break_at, in_definition_place};
-use item::{items_start, parse_item};
+use item::{Item, items_start, parse_item};
+
+// Whether an item is a key alone: "no prefix, no locator, not suppressed".
+#[tactic(auto, unfolding(definition_line::specs::Lines::bare_item))]
+fn is_bare(item: Item) -> bool
+    ensures { result ≡ bare_item item }
+{
+    item.prefix.len == 0 && item.locator.len == 0 && !item.suppressed
+}
 
 // Whether the group from `at` to `close`, of `count` items, is a key alone: "one item, no prefix, no locator, not suppressed".
 fn is_only_key(text: &[u8], at: usize, close: usize, count: usize) -> bool
     requires { GroupFrom text.now at close count }
     ensures { result ≡ only_key (items_of text.now at close) }
 {
-    if count == 1 {
-        let parsed = parse_item(text, items_start(text, at), close);
-        match parsed {
-            Some(it) => (it.prefix.len == 0) & (it.locator.len == 0) & !it.suppressed,
-            None => false,
-        }
-    } else {
-        false
+    if count != 1 {
+        return false;
+    }
+    match parse_item(text, items_start(text, at), close) {
+        Some(item) => is_bare(item),
+        None => false,
     }
 }
 
@@ -33,11 +39,7 @@ fn is_definition(text: &[u8], at: usize, close: usize, count: usize) -> bool
     requires { GroupFrom text.now at close count }
     ensures { result ≡ defines text.now (group_of text.now at close) }
 {
-    if in_definition_place(text, at, close) {
-        is_only_key(text, at, close, count)
-    } else {
-        false
-    }
+    in_definition_place(text, at, close) && is_only_key(text, at, close, count)
 }
 
 // Whether that group stands in a definition line; the group before it ended at `from`, and `before` says whether that one does.
@@ -52,19 +54,13 @@ pub fn is_in_line(
     requires { GroupFrom text.now at close count }
     ensures { result ≡ in_line text.now before from (group_of text.now at close) }
 {
-    if is_definition(text, at, close, count) {
-        return true;
-    }
-    if before {
-        at <= break_at(text, from, at)
-    } else {
-        false
-    }
+    is_definition(text, at, close, count) || before && at <= break_at(text, from, at)
 }
 
-// The standing that a sweep gives a group: 0 in a definition line, 1 elsewhere.
+// The standing that a sweep gives a group: 0 in a definition line, 1 elsewhere. It stays a number: that of the group record, which the C
+// interface has and numbering reads as a number; an enum would only be turned into it here, at its one use.
 pub fn standing_of(inside: bool) -> u16
     ensures { result ≡ pick inside 0 1 }
 {
-    if inside { 0 } else { 1 }
+    u16::from(!inside)
 }
