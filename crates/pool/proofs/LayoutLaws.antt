@@ -3,96 +3,46 @@ use Prim.Native.Nat.{ℕ, suc, ◌+◌, ◌-◌, ◌*◌, ◌≤◌, ◌<◌}
 use native.Mathlib.Omega.{arith}
 use mathlib.Core.Path.{◌≡◌, refl, sym, ◌∙◌}
 use mathlib.Core.List.{List}
-use mathlib.Core.Bool.{Bool, true, false, ◌&&◌, true≢false}
+use mathlib.Core.Bool.{Bool, true, false, ◌&&◌}
 use lib.ListN.{length, take, drop}
 use lib.Dec.{eqb, leb}
-use borrow.Author.Tests.{lt-ltb, le-ltb, leb-true, le-leb, lt-leb, eq-eqb, ne_eqb}
-use Rattle.base.specs.Lists.{byte_at, part}
-use Rattle.base.proofs.Parts.{part_is}
-use Rattle.pool.specs.Fields.{field_end, field_at, fields_of, fill, follows, content_good, fields_good, good_from, entry_good}
+use borrow.Author.Tests.{lt-ltb, le-ltb, le-leb, lt-leb, eq-eqb, ne_eqb}
+use Rattle.pool.specs.Fields.{Field, follows, content_good, fields_good, good_from, entry_good}
 use Rattle.pool.specs.Layout.{count_of, offset_of, end_of, entries_good, laid_out, well_formed}
-use Rattle.pool.specs.Steps.{field_good, pair_good}
-use Rattle.pool.proofs.FieldLaws.{field_after, field_shrinks, fields_next, fill_next, fields_end, fill_end}
+use Rattle.pool.specs.Steps.{has_field, Split, good_rest, pair_good}
+use Rattle.pool.proofs.FieldLaws.{fields_end, fill_next, fill_end}
+use Rattle.pool.proofs.PartLaws.{split_shorter, good_next, good_of_part}
 
--- one field
-module _ (s : List ℕ) (last at e : ℕ) where
-  pub field_no_head : at < e → e - at < 3 → false ≡ field_good last s at e
-  unfolding field_good
-  field_no_head h l = rw (lt-leb (at + 3) e (omega arith)) refl
+-- an entry, a field at a time
+module _ (s : List ℕ) (last : ℕ) where
+  pub entry_next : (f : Field) (r : List ℕ) {t w : Bool} → w ≡ good_rest last s → Split s f r → t ≡ (follows last f.tag && content_good f.tag f.bytes)
+      → t ≡ true → w ≡ good_rest f.tag r
+  entry_next f r g x e q = g ∙ good_next s f r x last ∙ rw (← e, q) refl
 
-  pub field_past : {k : ℕ} → at < e → 3 ≤ e - at → k ≡ field_end s at → e < k → false ≡ field_good last s at e
-  unfolding field_good
-  field_past h l p q = rw (le-leb (at + 3) e (omega arith), ← p, lt-leb _ e q) refl
+  pub entry_stop : (f : Field) (r : List ℕ) {t w : Bool} → w ≡ good_rest last s → Split s f r → t ≡ (follows last f.tag && content_good f.tag f.bytes)
+      → t ≡ false → false ≡ w
+  entry_stop f r g x e q = sym (g ∙ good_next s f r x last ∙ rw (← e, q) refl)
 
-  pub field_order : {k : ℕ} {t : Bool} → at < e → 3 ≤ e - at → k ≡ field_end s at → k ≤ e → t ≡ follows last (byte_at s at) → t ≡ false
-      → false ≡ field_good last s at e
-  unfolding field_good
-  field_order h l p q f n = rw (le-leb (at + 3) e (omega arith), ← p, le-leb _ e q, ← f, n) refl
+  pub entry_broken : {w : Bool} → w ≡ good_rest last s → 0 < length s → has_field s ≡ false → false ≡ w
+  unfolding good_from has_field
+  entry_broken g h e = sym (g ∙ rw (fill_next s 0 (length s) h, e) refl)
 
-  pub field_content : {k : ℕ} {t r : Bool} → at < e → e ≤ length s → 3 ≤ e - at → k ≡ field_end s at → k ≤ e → t ≡ follows last (byte_at s at) → t ≡ true
-      → r ≡ content_good (byte_at s at) (take (k - (at + 3)) (drop (at + 3) s)) → r ≡ field_good last s at e
-  unfolding field_good
-  field_content {k} h b l p q f n g =
-      let m : at + 3 ≤ k = field_after s at p in
-      let u = part_is s (at + 3) k m (omega arith) in
-      rw (le-leb (at + 3) e (omega arith), ← p, le-leb _ e q, ← f, n, u) g
-
-  -- from this field on
-  good_next : at < e → good_from last s at e ≡ (field_good last s at e && good_from (byte_at s at) s (field_end s at) e)
-  unfolding good_from field_good fields_good field_at
-  good_next h =
-      rw (fields_next s at e h, fill_next s at e h)
-      (go (leb (at + 3) e) (leb (field_end s at) e) (fill s (field_end s at) e) (follows last (byte_at s at))
-      (content_good (byte_at s at) (part s (at + 3) (field_end s at))) (fields_good (byte_at s at) (fields_of s (field_end s at) e)))
-    where
-      go : (a b f c d g : Bool) → ((a && b && f) && (c && d && g)) ≡ ((a && (b && (c && d))) && (f && g))
-      go true true true true true g = refl
-      go true true true true false g = refl
-      go true true true false d g = refl
-      go true true false true true g = refl
-      go true true false true false g = refl
-      go true true false false d g = refl
-      go true false f c d g = refl
-      go false b f c d g = refl
-
-  -- a field that is good ends in the entry
-  pub field_ends : {k : ℕ} {r : Bool} → r ≡ field_good last s at e → r ≡ true → k ≡ field_end s at → k ≤ e
-  unfolding field_good
-  field_ends {k} {r} f t p = rw p (go (leb (at + 3) e) (leb (field_end s at) e) (follows last (byte_at s at) && content_good (byte_at s at) (part s (at + 3) (field_end s at))) refl (sym f ∙ t))
-    where
-      go : (a b c : Bool) → leb (field_end s at) e ≡ b → (a && (b && c)) ≡ true → field_end s at ≤ e
-      go true true c q h = leb-true _ _ q
-      go true false c q h = absurd (true≢false (sym h))
-      go false b c q h = absurd (true≢false (sym h))
-
-  pub field_room : {r : Bool} → r ≡ field_good last s at e → r ≡ true → e ≤ length s → at + 3 ≤ length s
-  unfolding field_good
-  field_room {r} f t l = go (leb (at + 3) e) (leb (field_end s at) e && (follows last (byte_at s at) && content_good (byte_at s at) (part s (at + 3) (field_end s at)))) refl (sym f ∙ t)
-    where
-      go : (a c : Bool) → leb (at + 3) e ≡ a → (a && c) ≡ true → at + 3 ≤ length s
-      go true c q h = omega (arith, leb-true (at + 3) e q, l)
-      go false c q h = absurd (true≢false (sym h))
-
-  pub entry_next : {k t : ℕ} {r w : Bool} → w ≡ good_from last s at e → at < e → r ≡ field_good last s at e → r ≡ true
-      → t ≡ byte_at s at → k ≡ field_end s at → w ≡ good_from t s k e
-  entry_next g h f t u p = g ∙ good_next h ∙ rw (← f, t, u, p) refl
-
-  pub entry_stop : {r w : Bool} → w ≡ good_from last s at e → at < e → r ≡ field_good last s at e → r ≡ false → false ≡ w
-  entry_stop g h f t = sym (g ∙ good_next h ∙ rw (← f, t) refl)
-
-  pub entry_end : {w : Bool} → w ≡ good_from last s at e → at ≤ e → e ≤ at → leb 1 last ≡ w
+  pub entry_end : {w : Bool} → w ≡ good_rest last s → length s ≡ 0 → leb 1 last ≡ w
   unfolding good_from fields_good
-  entry_end g h l = sym (g ∙ rw (fields_end s at e l, fill_end s at e l, eq-eqb at e (omega arith)) refl)
+  entry_end g h = sym (g ∙ rw (fields_end s 0 (length s) (omega arith), fill_end s 0 (length s) (omega arith), eq-eqb 0 (length s) (sym h)) refl)
 
-pub ruleset field_laws = (field_after, field_no_head, field_past, field_order, field_content)
-
-pub ruleset entry_laws = (field_shrinks, field_ends, entry_next, entry_stop, entry_end)
+pub ruleset entry_laws = (split_shorter, entry_next, entry_stop, entry_broken, entry_end)
 
 -- the pairs
 module _ (s : List ℕ) (i at : ℕ) where
-  pub pair_good_lem : {a k : ℕ} {r : Bool} → a ≡ offset_of s i → a ≡ at → k ≡ end_of s i → k ≤ length s → r ≡ entry_good s at k → r ≡ pair_good s i at
+  pub pair_from : {a k : ℕ} → a ≡ offset_of s i → a ≡ at → k ≡ end_of s i → at ≤ k
+  pair_from p q e = omega arith
+
+  pub pair_good_lem : {a k : ℕ} {r : Bool} → a ≡ offset_of s i → a ≡ at → k ≡ end_of s i → k ≤ length s → r ≡ good_rest 0 (take (k - at) (drop at s)) → r ≡ pair_good s i at
   unfolding pair_good
-  pair_good_lem p q e h g = rw (eq-eqb (offset_of s i) at (sym p ∙ q), ← e, le-leb _ _ h) g
+  pair_good_lem p q e h g =
+      let m = pair_from p q e in
+      rw (eq-eqb (offset_of s i) at (sym p ∙ q), ← e, le-leb _ _ h) (g ∙ good_of_part s 0 at _ m h)
 
   pub pair_past : {k : ℕ} → k ≡ end_of s i → length s < k → false ≡ pair_good s i at
   unfolding pair_good
@@ -105,9 +55,6 @@ module _ (s : List ℕ) (i at : ℕ) where
   pub pair_gap : {a : ℕ} → a ≡ offset_of s i → (a ≡ at → ⊥) → false ≡ pair_good s i at
   unfolding pair_good
   pair_gap p n = rw (ne_eqb (offset_of s i) at (λ q. n (p ∙ q))) refl
-
-  pub pair_from : {a k : ℕ} → a ≡ offset_of s i → a ≡ at → k ≡ end_of s i → at ≤ k
-  pair_from p q e = omega arith
 
   pub entries_next : (n : ℕ) {k : ℕ} {r w : Bool} → w ≡ entries_good (n - i) s i at → i < n → r ≡ pair_good s i at → r ≡ true → k ≡ end_of s i
       → w ≡ entries_good (n - (i + 1)) s (i + 1) k

@@ -1,21 +1,22 @@
 -- The fields of a part of some bytes are those that the bytes have there, and fields are read off the front.
-use Prim.Native.Nat.{ℕ, zero, suc, ◌+◌, ◌-◌, ◌≤◌, ◌<◌}
+use Prim.Native.Nat.{ℕ, zero, suc, ◌+◌, ◌-◌, ◌*◌, ◌≤◌, ◌<◌}
 use native.Mathlib.Omega.{arith}
 use mathlib.Core.Path.{◌≡◌, refl, sym, ◌∙◌, ap}
 use mathlib.Core.List.{List, [], ◌∷◌}
-use mathlib.Core.Bool.{Bool, true, false, ◌&&◌}
-use lib.ListN.{length, take, drop, length-drop}
-use native.Mathlib.Nat.{sub-zero, zero-add}
+use mathlib.Core.Bool.{Bool, true, false, ◌&&◌, true≢false}
+use lib.ListN.{length, take, drop, length-take, length-drop}
+use native.Mathlib.Nat.{sub-zero}
 use lib.Seq.{take_all}
 use lib.Dec.{eqb, leb, ltb}
-use borrow.Author.Tests.{lt-ltb, leb-true, le-leb, ltb-true, eq-eqb, eqb-true}
+use borrow.Author.Tests.{lt-ltb, leb-true, le-leb, lt-leb, ltb-true, ltb-false, eq-eqb, eqb-true}
 use Rattle.base.specs.Pick.{pick}
 use Rattle.base.specs.Lists.{byte_at, part}
 use Rattle.base.proofs.Bools.{and_left, and_right, and_three, both}
-use Rattle.base.proofs.Parts.{part_is, part_length, part_byte, part_part}
-use Rattle.pool.specs.Numbers.{u16_at}
+use Rattle.base.proofs.Parts.{part_is, part_length, part_byte, part_part, take_part, drop_part}
+use Rattle.pool.specs.Numbers.{le_at, u16_at}
 use Rattle.pool.specs.Fields.{Field, field_end, field_at, fields_in, fill_in, fields_of, fill, fields_good, good_from, entry_good, content_good, follows}
 use Rattle.pool.specs.Readers.{all_fields, contents_good, are_fields}
+use Rattle.pool.specs.Steps.{has_field, Split, good_rest}
 use Rattle.pool.proofs.NumberLaws.{le_part}
 use Rattle.pool.proofs.FieldLaws.{field_long, fields_next, fill_next, fields_end}
 
@@ -117,52 +118,125 @@ pub entry_same : (s : List ℕ) (a e : ℕ) → a ≤ e → e ≤ length s → e
 unfolding good_from
 entry_same s a e l h g = rw (← part_is s a e l h) (fields_of_part s a e l h (and_left (fill s a e) (fields_good 0 (fields_of s a e)) g))
 
--- the field at the front of some fields
-pub record Front (s : List ℕ) : Type 0 where
-  pub head : 3 ≤ length s
-  pub room : 3 + u16_at s 1 ≤ length s
-  pub fields : all_fields s ≡ record { tag = byte_at s 0; bytes = part s 3 (3 + u16_at s 1) } ∷ all_fields (drop (3 + u16_at s 1) s)
-  pub others : are_fields (drop (3 + u16_at s 1) s) ≡ true
-
 rest_is : (s : List ℕ) (k : ℕ) → k ≤ length s → part s k (length s) ≡ drop k s
 rest_is s k h = part_is s k (length s) h (omega arith) ∙ take_all (length s - k) (drop k s) (rw length-drop (omega arith))
 
-pub front : (s : List ℕ) → are_fields s ≡ true → 0 < length s → Front s
-unfolding are_fields contents_good field_at field_end
-front s g h =
-    let f = and_left (fill s 0 (length s)) (contents_good (all_fields s)) g in
-    let c = and_right (fill s 0 (length s)) (contents_good (all_fields s)) g in
-    let t = and_three (leb 3 (length s)) (leb (field_end s 0) (length s)) (fill s (field_end s 0) (length s)) (sym (fill_next s 0 (length s) h) ∙ f) in
-    go t c
+-- a field at the front of some bytes: where it ends, and what there is of it
+module _ (s : List ℕ) (n : ℕ) (v : n ≡ byte_at s 1 + byte_at s 2 * 256) where
+  end_is : field_end s 0 ≡ 3 + n
+  unfolding field_end le_at
+  end_is = omega arith
+
+  pub split_past : 3 ≤ length s → length (take (length s - 3) (drop 3 s)) < n → has_field s ≡ false
+  unfolding has_field
+  split_past l h =
+      let m : length s - 3 < n = omega (arith, simp (length-take, length-drop) at h) in
+      rw (le-leb 3 (length s) l, end_is, lt-leb (3 + n) (length s) (omega arith)) refl
+
+  pub split_is : {b r : List ℕ} → 3 ≤ length s → n ≤ length (take (length s - 3) (drop 3 s)) → b ≡ take n (take (length s - 3) (drop 3 s))
+      → r ≡ drop n (take (length s - 3) (drop 3 s)) → Split s (record { tag = byte_at s 0; bytes = b }) r
+  unfolding has_field field_at
+  split_is {b} {r} l h p q =
+      let m : n ≤ length s - 3 = omega (arith, simp (length-take, length-drop) at h) in
+      let z : 3 + n ≤ length s = omega arith in
+      let u = part_is s 3 (length s) l (omega arith) in
+      let x : b ≡ part s 3 (3 + n) = p ∙ ap (take n) (sym u) ∙ take_part s 3 (length s) l (omega arith) n z in
+      let y : r ≡ drop (3 + n) s = q ∙ ap (drop n) (sym u) ∙ drop_part s 3 (length s) l (omega arith) n z ∙ rest_is s (3 + n) z in
+      record {
+        room = rw (le-leb 3 (length s) l, end_is, le-leb (3 + n) (length s) z) refl;
+        field = rw (end_is, x) refl;
+        rest = rw end_is y;
+      }
+
+pub split_short : (s : List ℕ) → length s < 3 → has_field s ≡ false
+unfolding has_field
+split_short s h = rw (lt-leb 3 (length s) h) refl
+
+pub ruleset split_laws = (split_past, split_is, split_short)
+
+-- no bytes are no fields, and others begin with one
+pub fields_none : (s : List ℕ) → are_fields s ≡ true → has_field s ≡ false → all_fields s ≡ []
+unfolding are_fields has_field
+fields_none s g h = fields_end s 0 (length s) (go (ltb 0 (length s)) refl)
   where
-    go : (leb 3 (length s) ≡ true) × (leb (field_end s 0) (length s) ≡ true) × (fill s (field_end s 0) (length s) ≡ true)
-        → contents_good (all_fields s) ≡ true → Front s
-    go t c =
-        let m : 3 + u16_at s 1 ≤ length s = leb-true _ _ t.1 in
-        let n = leb-true _ _ t.0 in
-        let v : all_fields (drop (3 + u16_at s 1) s) ≡ fields_of s (3 + u16_at s 1) (length s) = rw (← rest_is s _ m) (fields_of_part s _ _ m (omega arith) t.2) in
-        let w : fill (drop (3 + u16_at s 1) s) 0 (length (drop (3 + u16_at s 1) s)) ≡ true = rw (← rest_is s _ m) (fill_of_part s _ _ m (omega arith) ∙ t.2) in
-        let d : contents_good (fields_of s (3 + u16_at s 1) (length s)) ≡ true = and_right _ _ (rw (fields_next s 0 (length s) h) at c) in
-        record {
-          head = n;
-          room = m;
-          fields = fields_next s 0 (length s) h ∙ rw v refl;
-          others = rw (w, v, d) refl;
-        }
+    filled : fill s 0 (length s) ≡ true
+    filled = and_left (fill s 0 (length s)) (contents_good (all_fields s)) g
 
--- no bytes are no fields
-pub fields_none : (s : List ℕ) → length s ≡ 0 → all_fields s ≡ []
-fields_none s h = fields_end s 0 (length s) (omega arith)
+    go : (t : Bool) → ltb 0 (length s) ≡ t → length s ≤ 0
+    go true q =
+        absurd
+        (true≢false
+        (sym (and_left (leb 3 (length s) && leb (field_end s 0) (length s)) (fill s (field_end s 0) (length s)) (sym (fill_next s 0 (length s) (ltb-true _ _ q)) ∙ filled)) ∙ h))
+    go false q = ltb-false _ _ q
 
--- the first field and the others, as a split of the bytes gives them
-pub fields_split : (s f r : List ℕ) (k : ℕ) → are_fields s ≡ true → 0 < length s → k ≡ 3 + u16_at s 1 → f ≡ take k s → r ≡ drop k s
-    → all_fields s ≡ record { tag = byte_at f 0; bytes = take (length f - 3) (drop 3 f) } ∷ all_fields r
-fields_split s f r k g h e p q =
-    let x = front s g h in
-    let m : k ≤ length s = omega (arith, x.room) in
-    let u : f ≡ part s 0 k = p ∙ sym (part_is s 0 k (omega arith) m ∙ ap (λ (n : ℕ). take n s) (sub-zero k)) in
-    let n : length f ≡ k = rw u (part_length s 0 k (omega arith) m ∙ sub-zero k) in
-    let b : byte_at f 0 ≡ byte_at s 0 = rw u (part_byte s 0 k (omega arith) m 0 (omega arith)) in
-    let c : take (length f - 3) (drop 3 f) ≡ part s 3 k =
-    sym (part_is f 3 (length f) (omega arith) (omega arith)) ∙ rw (n, u) (part_part s 0 k (omega arith) m 3 k (omega arith) (omega arith) ∙ ap (part s 3) (zero-add k)) in
-    rw (q, b, c, e) x.fields
+and_none : (a : Bool) → false ≡ (a && false)
+and_none true = refl
+and_none false = refl
+
+module _ (s : List ℕ) (f : Field) (r : List ℕ) (x : Split s f r) where
+  pub split_room : (3 ≤ length s) × (field_end s 0 ≤ length s)
+  unfolding has_field
+  split_room = (
+    leb-true _ _ (and_left (leb 3 (length s)) (leb (field_end s 0) (length s)) x.room),
+    leb-true _ _ (and_right (leb 3 (length s)) (leb (field_end s 0) (length s)) x.room),
+  )
+
+  some : 0 < length s
+  some = let l = split_room.0 in omega arith
+
+  pub split_shorter : length r < length s
+  split_shorter = let l = split_room.1 in let m = field_long s 0 in rw (x.rest, length-drop) (omega arith)
+
+  left : r ≡ part s (field_end s 0) (length s)
+  left = x.rest ∙ sym (rest_is s (field_end s 0) split_room.1)
+
+  pub split_fill : fill s 0 (length s) ≡ fill r 0 (length r)
+  split_fill =
+      let l = split_room.1 in
+      let m : (leb 3 (length s) && leb (field_end s 0) (length s) && fill s (field_end s 0) (length s)) ≡ fill s (field_end s 0) (length s) =
+      rw (le-leb 3 (length s) split_room.0, le-leb (field_end s 0) (length s) l) refl in
+      fill_next s 0 (length s) some ∙ m ∙ rw left (sym (fill_of_part s (field_end s 0) (length s) l (omega arith)))
+
+  pub split_fields : fill s 0 (length s) ≡ true → all_fields s ≡ f ∷ all_fields r
+  split_fields g =
+      let l = split_room.1 in
+      let w : fill s (field_end s 0) (length s) ≡ true =
+      sym (fill_of_part s (field_end s 0) (length s) l (omega arith)) ∙ rw (← left) (sym split_fill ∙ g) in
+      fields_next s 0 (length s) some ∙ rw (x.field, left, fields_of_part s (field_end s 0) (length s) l (omega arith) w) refl
+
+  -- what is left are fields again
+  pub split_others : are_fields s ≡ true → are_fields r ≡ true
+  unfolding are_fields contents_good
+  split_others g =
+      let p = and_left (fill s 0 (length s)) (contents_good (all_fields s)) g in
+      let c = and_right (fill s 0 (length s)) (contents_good (all_fields s)) g in
+      let q = split_fields p in
+      let d : contents_good (all_fields r) ≡ true = and_right (content_good f.tag f.bytes) (contents_good (all_fields r)) (rw q at c) in
+      rw (sym split_fill ∙ p, d) refl
+
+  pub split_reads : are_fields s ≡ true → all_fields s ≡ f ∷ all_fields r
+  unfolding are_fields
+  split_reads g = split_fields (and_left (fill s 0 (length s)) (contents_good (all_fields s)) g)
+
+  -- the check of an entry goes on behind it
+  pub good_next : (last : ℕ) → good_rest last s ≡ (follows last f.tag && content_good f.tag f.bytes && good_rest f.tag r)
+  unfolding good_from fields_good
+  good_next last = go (fill s 0 (length s)) refl
+    where
+      go : (t : Bool) → fill s 0 (length s) ≡ t
+          → (fill s 0 (length s) && fields_good last (all_fields s))
+          ≡ (follows last f.tag && content_good f.tag f.bytes && (fill r 0 (length r) && fields_good f.tag (all_fields r)))
+      go true p = rw (p, sym split_fill ∙ p, split_fields p) refl
+      go false p = rw (p, sym split_fill ∙ p) (and_none (follows last f.tag && content_good f.tag f.bytes))
+
+pub ruleset next_laws = (fields_none, split_reads, split_others)
+
+-- the check of a part
+pub good_of_part : (s : List ℕ) (last a e : ℕ) → a ≤ e → e ≤ length s → good_rest last (take (e - a) (drop a s)) ≡ good_from last s a e
+unfolding good_from
+good_of_part s last a e l h = rw (← part_is s a e l h) (go (fill s a e) refl)
+  where
+    go : (t : Bool) → fill s a e ≡ t
+        → (fill (part s a e) 0 (length (part s a e)) && fields_good last (all_fields (part s a e))) ≡ (fill s a e && fields_good last (fields_of s a e))
+    go true p = rw (fill_of_part s a e l h, fields_of_part s a e l h p) refl
+    go false p = rw (fill_of_part s a e l h, p) refl

@@ -1,6 +1,6 @@
 -- Follows the code; nothing to believe: the readers' types, as the layout's values.
 use Rattle.std.specs.Prelude.{List}
-use Rattle.pool.specs.declared.fields.Field.{Field as FieldPart}
+use Rattle.pool.specs.declared.field.Field.{Field as FieldPart}
 use Rattle.pool.specs.declared.fields.Fields.{Fields}
 use Rattle.pool.specs.declared.names.NameParts.{NameParts}
 use Rattle.pool.specs.declared.names.Names.{Names}

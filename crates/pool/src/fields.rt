@@ -2,7 +2,7 @@
 ghost use Rattle.std.specs.Prelude.{◌≡◌, true};
 ghost use Rattle.pool.specs.Readers.{are_fields};
 
-use crate::numbers::u16_at;
+use crate::field::{Field, split_field};
 
 // The tags of the fields.
 pub mod tag {
@@ -23,13 +23,6 @@ pub mod tag {
     pub const TITLE: u8 = 8;
 }
 
-// A field: its tag, and its bytes.
-#[derive(Clone, Copy)]
-pub struct Field<'a> {
-    pub tag: u8,
-    pub bytes: &'a [u8],
-}
-
 // The fields of an entry, or those that are left of it.
 #[derive(Clone, Copy)]
 pub struct Fields<'a> {
@@ -37,7 +30,7 @@ pub struct Fields<'a> {
     pub ghost filled: { are_fields bytes.now ≡ true },
 }
 
-#[tactic(auto, using(crate::proofs::PartLaws::front))]
+#[tactic(auto, using(crate::proofs::PartLaws::next_laws))]
 impl<'a> Iterator for Fields<'a> {
     ghost use Rattle.std.specs.Iterator.{YieldsFirstBy, item_count};
     ghost use Rattle.pool.specs.Views.{field_lent, fields_left};
@@ -49,15 +42,9 @@ impl<'a> Iterator for Fields<'a> {
     ghost remaining = { item_count fields_left };
 
     fn next(&mut self) -> Option<Field<'a>> {
-        if self.bytes.is_empty() {
-            return None;
-        }
-        let (field, rest) = self.bytes.split_at(3 + u16_at(self.bytes, 1));
+        let (field, rest) = split_field(self.bytes)?;
         self.bytes = rest;
-        Some(Field {
-            tag: field[0],
-            bytes: &field[3..],
-        })
+        Some(field)
     }
 }
 

@@ -1,10 +1,10 @@
 // The check of the pool's layout.
-ghost use Rattle.std.specs.Prelude.{◌≡◌, ◌+◌, ◌*◌, ◌≤◌, ◌<◌, length};
-ghost use Rattle.pool.specs.Fields.{follows, field_end, content_good, entry_good};
-ghost use Rattle.pool.specs.Steps.{field_good, pair_good};
+ghost use Rattle.std.specs.Prelude.{◌≡◌, ◌&&◌, ◌+◌, ◌*◌, ◌≤◌, ◌<◌, length};
+ghost use Rattle.pool.specs.Fields.{follows, content_good, entry_good};
+ghost use Rattle.pool.specs.Steps.{pair_good};
 ghost use Rattle.pool.specs.Layout.{offset_of, end_of, entries_good, well_formed};
-ghost use Rattle.base.specs.Lists.{part};
 
+use crate::field::{Field, split_field};
 use crate::fields::tag;
 use crate::numbers::u16_at;
 
@@ -22,15 +22,6 @@ fn may_follow(last: u8, next: u8) -> bool
     }
 }
 
-// Where the field at `at` ends.
-#[tactic(auto, unfolding(crate::specs::Fields::field_end))]
-fn field_end(pool: &[u8], at: usize) -> usize
-    requires { at + 3 ≤ length pool.now }
-    ensures { result ≡ field_end pool.now at }
-{
-    at + 3 + u16_at(pool, at + 1)
-}
-
 // Whether the bytes may be those of a field with the tag `tag`.
 #[tactic(auto, unfolding(crate::specs::Fields::content_good))]
 fn has_good_content(tag: u8, bytes: &[u8]) -> bool
@@ -43,33 +34,29 @@ fn has_good_content(tag: u8, bytes: &[u8]) -> bool
     }
 }
 
-// Whether the field at `at` is one of an entry that ends at `e`, after a field with the tag `last`.
-#[tactic(auto, using(crate::proofs::LayoutLaws::field_laws))]
-fn is_field(pool: &[u8], last: u8, at: usize, e: usize) -> bool
-    requires { (at < e) × (e ≤ length pool.now) }
-    ensures { result ≡ field_good last pool.now at e }
+// Whether a field may come after one with the tag `last`.
+fn is_good(last: u8, field: Field) -> bool
+    ensures { result ≡ (follows last field.entry.tag && content_good field.entry.tag field.entry.bytes.now) }
 {
-    if e - at < 3 {
-        return false;
-    }
-    let end = field_end(pool, at);
-    end <= e && may_follow(last, pool[at]) && has_good_content(pool[at], &pool[at + 3..end])
+    may_follow(last, field.tag) && has_good_content(field.tag, field.bytes)
 }
 
-// Whether the bytes from `at` up to `e` are an entry.
-#[tactic(auto, using(crate::proofs::LayoutLaws::entry_laws, crate::proofs::LayoutLaws::field_room))]
-fn is_entry(pool: &[u8], at: usize, e: usize) -> bool
-    requires { (at ≤ e) × (e ≤ length pool.now) }
-    ensures { result ≡ entry_good pool.now at e }
+// Whether the bytes are an entry.
+#[tactic(auto, using(crate::proofs::LayoutLaws::entry_laws))]
+fn is_entry(bytes: &[u8]) -> bool
+    ensures { result ≡ entry_good bytes.now 0 (length bytes.now) }
 {
-    let mut last: u8 = 0;
-    let mut i = at;
-    while i < e {
-        if !is_field(pool, last, i, e) {
+    let mut last = 0;
+    let mut rest = bytes;
+    while !rest.is_empty() {
+        let Some((field, others)) = split_field(rest) else {
+            return false;
+        };
+        if !is_good(last, field) {
             return false;
         }
-        last = pool[i];
-        i = field_end(pool, i);
+        last = field.tag;
+        rest = others;
     }
     tag::ID <= last
 }
@@ -90,7 +77,7 @@ fn is_pair(pool: &[u8], i: usize, at: usize) -> bool
     ensures { result ≡ pair_good pool.now i at }
 {
     let (start, end) = entry_bounds(pool, i);
-    start == at && end <= pool.len() && is_entry(pool, at, end)
+    start == at && end <= pool.len() && is_entry(&pool[at..end])
 }
 
 // Whether `count` entries stand end to end, from after their pairs to the pool's end.

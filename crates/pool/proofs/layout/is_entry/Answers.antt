@@ -1,6 +1,14 @@
-use Rattle.std.proofs.Common.{rules}
-use Rattle.pool.proofs.LayoutLaws.{entry_laws}
+use Rattle.std.proofs.Common.{arith}
+use Rattle.pool.specs.Views.{field_lent}
+use Rattle.pool.proofs.LayoutLaws.{entry_next, entry_stop}
 use Rattle.pool.proofs.layout.is_entry.Goals as goal
 
-pub loop-i-preserved : goal.loop-i-preserved
-loop-i-preserved c = record { inside = search (entry_laws, rules); good = search (entry_laws, rules) }
+pub returns-then-not-is_good : goal.returns-then-not-is_good
+returns-then-not-is_good c =
+    entry_stop c.loop-rest.rest.now c.loop-rest.last (field_lent c.in-Some.field) c.in-Some.others.now c.loop-rest.invariant c.in-Some.ensures
+    c.is_good.ensures (grind arith)
+
+pub loop-rest-preserved : goal.loop-rest-preserved
+loop-rest-preserved c =
+    entry_next c.loop-rest.rest.now c.loop-rest.last (field_lent c.in-Some.field) c.in-Some.others.now c.loop-rest.invariant c.in-Some.ensures
+    c.is_good.ensures (grind arith)
