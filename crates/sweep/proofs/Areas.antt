@@ -1,10 +1,10 @@
 -- Areas that are written from some place on.
-use Prim.Native.Nat.{ℕ, suc, ◌+◌, ◌-◌, ◌≤◌}
+use Prim.Native.Nat.{ℕ, ◌+◌, ◌-◌, ◌≤◌}
 use native.Mathlib.Omega.{arith}
 use mathlib.Core.Path.{◌≡◌, refl, sym, ◌∙◌, ap}
-use mathlib.Core.List.{List, [], ◌∷◌, ◌++◌, append_assoc}
-use lib.ListN.{length, take, drop, set, take-append-drop, length-append, length-drop}
-use lib.Seq.{sets-eq, take_at, drop_at, drop-drop, length-take-le}
+use mathlib.Core.List.{List, [], ◌++◌, append_assoc}
+use lib.ListN.{length, take, drop, take-append-drop, length-append, length-drop}
+use lib.Seq.{take_at, drop_at, drop-drop, length-take-le}
 use Rattle.base.specs.Lists.{written}
 use Rattle.base.proofs.Areas.{came_back}
 use Rattle.sweep.specs.Areas.{written_at}
@@ -50,13 +50,7 @@ pub written_part : (n : ℕ) (area out back : List ℕ) → n ≤ length area �
 unfolding written written_at
 written_part n area out back h e = came_back n area out e ∙ rw drop-drop refl
 
--- five numbers, one after the other
-pub five_written : (area : List ℕ) (k a b c d e : ℕ) → k + 5 ≤ length area
-    → set (set (set (set (set area k a) (k + 1) b) (k + 2) c) (k + 3) d) (k + 4) e ≡ written_at k (a ∷ b ∷ c ∷ d ∷ e ∷ []) area
+-- the part of `n` numbers from `k` on was lent, and came back as `out`
+pub part_written : (area out : List ℕ) (k n : ℕ) → n ≡ length out → take k area ++ (out ++ drop n (drop k area)) ≡ written_at k out area
 unfolding written_at
-five_written area k a b c d e h =
-    let one : k + 1 ≡ suc k = omega arith in
-    let two : k + 2 ≡ suc (suc k) = omega arith in
-    let three : k + 3 ≡ suc (suc (suc k)) = omega arith in
-    let four : k + 4 ≡ suc (suc (suc (suc k))) = omega arith in
-    rw (one, two, three, four) (sets-eq (a ∷ b ∷ c ∷ d ∷ e ∷ []) area k h ∙ append_assoc (take k area) (a ∷ b ∷ c ∷ d ∷ e ∷ []) (drop (k + 5) area))
+part_written area out k n e = rw (drop-drop, e) refl

@@ -8,10 +8,12 @@ ghost use Rattle.sweep.specs.Recording.{records_fit, ItemsRoom, Recordable, Reco
 ghost use Rattle.records.specs.Widths.{item_width, group_width};
 
 use records::item_records::write_records;
+use records::{GROUP_WIDTH, ITEM_WIDTH};
 use standing::{is_in_line, standing_of};
 
 // Where a sweep stands: its place, the counts of the groups and items so far, whether the last group stands in a definition line and
-// where it ended, whether all records so far fitted, and whether the bracket at its place wants a build.
+// where it ended, whether all records so far fitted, and whether the bracket at its place wants a build. `fits` and `wants` stay flags: each
+// pair of values occurs, and a sweep that no longer fits goes on, to count and to ask for its build.
 #[derive(Clone, Copy)]
 pub struct SweepState {
     pub at: usize,
@@ -28,7 +30,7 @@ fn has_room(n: usize, g: usize, items: usize, groups: usize) -> bool
     requires { (n ≤ 65535) × (g ≤ 65535) }
     ensures { result ≡ records_fit n g items groups }
 {
-    (records::ITEM_WIDTH * n <= items) & (records::GROUP_WIDTH * g <= groups)
+    ITEM_WIDTH * n <= items && GROUP_WIDTH * g <= groups
 }
 
 // Writes the item records of the group from `at` to `close`, from item record `n` on.
@@ -36,8 +38,7 @@ fn write_items(text: &[u8], at: usize, close: usize, n: usize, items: &mut [u16]
     requires { ItemsRoom text.now at close n items.old }
     ensures { items.new ≡ written_at (item_width * n) (records_of (group_of text.now at close)) items.old }
 {
-    let k = records::ITEM_WIDTH * n;
-    write_records(text, at, close, &mut items[k..]);
+    write_records(text, at, close, &mut items[ITEM_WIDTH * n..]);
 }
 
 // Writes group record `g`: the group's place and length, its first item, the count of its items, its standing.
@@ -53,12 +54,14 @@ fn write_group(
     requires { (group_width * g + group_width ≤ length groups.old) × (at ≤ 65535) × (len ≤ 65535) × (first ≤ 65535) × (count ≤ 65535) }
     ensures { groups.new ≡ written_at (group_width * g) (at ∷ len ∷ first ∷ count ∷ standing ∷ []) groups.old }
 {
-    let k = records::GROUP_WIDTH * g;
-    groups[k] = at as u16;
-    groups[k + records::GROUP_LENGTH] = len as u16;
-    groups[k + records::GROUP_FIRST] = first as u16;
-    groups[k + records::GROUP_COUNT] = count as u16;
-    groups[k + records::GROUP_STANDING] = standing;
+    let k = GROUP_WIDTH * g;
+    groups[k..k + GROUP_WIDTH].copy_from_slice(&[
+        at as u16,
+        len as u16,
+        first as u16,
+        count as u16,
+        standing,
+    ]);
 }
 
 // The state after a group that ends with `close`.
