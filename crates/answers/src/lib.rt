@@ -5,14 +5,16 @@
 ghost use Rattle.std.specs.Prelude.{[], ◌∷◌, ◌≡◌, ◌≤◌, leb, length};
 ghost use Rattle.annotation.specs.Values.{annotation_values};
 ghost use Rattle.base.specs.Lists.{written};
+ghost use Rattle.base.specs.Refusals.{number_of};
 ghost use Rattle.lookup.specs.Values.{look_up_values, locator_values, size_values};
 ghost use Rattle.source_text.specs.Values.{source_text_values};
 ghost use Rattle.answers.specs.Words.{Words};
-ghost use Rattle.answers.specs.Lengths.{look_up_answer_length, annotation_answer_length, size_answer_length, locator_answer_length, source_text_answer_length};
+ghost use Rattle.answers.specs.Lengths.{look_up_answer_length, annotation_answer_length, size_answer_length, locator_answer_length};
 
 use annotation::answer::Annotation;
-use lookup::{LocatorAnswer, LookUp, Size};
-use source_text::SourceText;
+use base::refusal::Refusal;
+use locator::{Locator, code_of, suffix_of, value_of};
+use lookup::LookUp;
 
 // How many numbers the answer of each call has, its number first.
 pub const LOOK_UP_ANSWER: usize = 4;
@@ -26,137 +28,100 @@ pub const LOCATOR_ANSWER: usize = 6;
 pub const SOURCE_TEXT_ANSWER: usize = 2;
 
 // Whether `answer` has room for `n` numbers.
-pub fn has_room(answer: &mut [u32], n: usize) -> bool
-    ensures { (result ≡ leb n (length answer.old)) × (answer.new ≡ answer.old) }
+pub fn has_room(answer: &[u32], n: usize) -> bool
+    ensures { result ≡ leb n (length answer.now) }
 {
     n <= answer.len()
 }
 
-// Two numbers, at the front of `answer`.
-fn put_two(answer: &mut [u32], a: u32, b: u32)
-    requires { 2 ≤ length answer.old }
-    ensures { answer.new ≡ written (a ∷ b ∷ []) answer.old }
+// Numbers, at the front of `answer`.
+#[tactic(auto, using(base::proofs::Areas::copied))]
+fn put<const N: usize>(answer: &mut [u32], numbers: [u32; N])
+    requires { N ≤ length answer.old }
+    ensures { answer.new ≡ written numbers.entry answer.old }
 {
-    answer[0] = a;
-    answer[1] = b;
+    answer[..N].copy_from_slice(&numbers);
 }
 
-// Four numbers, at the front of `answer`.
-fn put_four(answer: &mut [u32], a: u32, b: u32, c: u32, d: u32)
-    requires { 4 ≤ length answer.old }
-    ensures { answer.new ≡ written (a ∷ b ∷ c ∷ d ∷ []) answer.old }
+// The number of a refusal.
+fn number(refusal: Refusal) -> u32
+    ensures { result ≡ number_of refusal }
 {
-    answer[0] = a;
-    answer[1] = b;
-    answer[2] = c;
-    answer[3] = d;
-}
-
-// Six numbers, at the front of `answer`.
-fn put_six(answer: &mut [u32], a: u32, b: u32, c: u32, d: u32, e: u32, f: u32)
-    requires { 6 ≤ length answer.old }
-    ensures { answer.new ≡ written (a ∷ b ∷ c ∷ d ∷ e ∷ f ∷ []) answer.old }
-{
-    answer[0] = a;
-    answer[1] = b;
-    answer[2] = c;
-    answer[3] = d;
-    answer[4] = e;
-    answer[5] = f;
+    u32::from(u8::from(refusal))
 }
 
 // Number, close, item count, note.
+#[tactic(auto, unfolding(lookup::specs::Values::look_up_values, crate::specs::Words::Words))]
 pub fn write_look_up(a: LookUp, answer: &mut [u32])
     requires { (look_up_answer_length ≤ length answer.old) × Words (look_up_values a) }
     ensures { answer.new ≡ written (look_up_values a) answer.old }
 {
-    match a {
-        LookUp::Accepted { close, count, note } => put_four(
-            answer,
-            0,
-            close as u32,
-            count as u32,
-            note as u32,
-        ),
-        LookUp::Refused { number, note } => put_four(answer, number as u32, 0, 0, note as u32),
+    let note = u32::from(a.note);
+    match a.group {
+        Ok(group) => put(answer, [0, group.close as u32, group.count as u32, note]),
+        Err(refusal) => put(answer, [number(refusal), 0, 0, note]),
     }
 }
 
 // Number, groups, items, sources, label bytes, note.
+#[tactic(auto, unfolding(annotation::specs::Values::annotation_values, crate::specs::Words::Words))]
 pub fn write_annotation(a: Annotation, answer: &mut [u32])
     requires { (annotation_answer_length ≤ length answer.old) × Words (annotation_values a) }
     ensures { answer.new ≡ written (annotation_values a) answer.old }
 {
-    match a {
-        Annotation::Accepted {
-            groups,
-            items,
-            sources,
-            label_bytes,
-            note,
-        } => put_six(
+    let note = u32::from(a.note);
+    match a.counts {
+        Ok(counts) => put(
             answer,
-            0,
-            groups as u32,
-            items as u32,
-            sources as u32,
-            label_bytes as u32,
-            note as u32,
+            [
+                0,
+                counts.groups as u32,
+                counts.items as u32,
+                counts.sources as u32,
+                counts.label_bytes as u32,
+                note,
+            ],
         ),
-        Annotation::Refused { number, note } => put_six(
-            answer,
-            number as u32,
-            0,
-            0,
-            0,
-            0,
-            note as u32,
-        ),
+        Err(refusal) => put(answer, [number(refusal), 0, 0, 0, 0, note]),
     }
 }
 
-// Number, records.
-pub fn write_size(a: Size, answer: &mut [u32])
+// Number, and what the size call or the source text call counts.
+#[tactic(auto, unfolding(lookup::specs::Values::size_values, source_text::specs::Values::source_text_values, crate::specs::Words::Words))]
+pub fn write_count(a: Result<usize, Refusal>, answer: &mut [u32])
     requires { (size_answer_length ≤ length answer.old) × Words (size_values a) }
-    ensures { answer.new ≡ written (size_values a) answer.old }
+    ensures size { answer.new ≡ written (size_values a) answer.old }
+    ensures source_text { answer.new ≡ written (source_text_values a) answer.old }
 {
     match a {
-        Size::Accepted { records } => put_two(answer, 0, records as u32),
-        Size::Refused { number } => put_two(answer, number as u32, 0),
+        Ok(count) => put(answer, [0, count as u32]),
+        Err(refusal) => put(answer, [number(refusal), 0]),
     }
 }
 
 // Number, label code, value pair, suffix pair.
-pub fn write_locator(a: LocatorAnswer, answer: &mut [u32])
+#[tactic(auto, unfolding(lookup::specs::Values::locator_values, crate::specs::Words::Words))]
+pub fn write_locator(a: Result<Locator, Refusal>, answer: &mut [u32])
     requires { (locator_answer_length ≤ length answer.old) × Words (locator_values a) }
     ensures { answer.new ≡ written (locator_values a) answer.old }
 {
     match a {
-        LocatorAnswer::Accepted { locator } => {
-            let code = locator::code_of(locator);
-            let value = locator::value_of(locator);
-            let suffix = locator::suffix_of(locator);
-            put_six(
+        Ok(locator) => {
+            let code = code_of(locator);
+            let value = value_of(locator);
+            let suffix = suffix_of(locator);
+            put(
                 answer,
-                0,
-                code as u32,
-                value.at as u32,
-                value.len as u32,
-                suffix.at as u32,
-                suffix.len as u32,
+                [
+                    0,
+                    code as u32,
+                    value.at as u32,
+                    value.len as u32,
+                    suffix.at as u32,
+                    suffix.len as u32,
+                ],
             )
         }
-        LocatorAnswer::Refused { number } => put_six(answer, number as u32, 0, 0, 0, 0, 0),
-    }
-}
-
-// Number, bytes.
-pub fn write_source_text(a: SourceText, answer: &mut [u32])
-    requires { (source_text_answer_length ≤ length answer.old) × Words (source_text_values a) }
-    ensures { answer.new ≡ written (source_text_values a) answer.old }
-{
-    match a {
-        SourceText::Accepted { bytes } => put_two(answer, 0, bytes as u32),
-        SourceText::Refused { number } => put_two(answer, number as u32, 0),
+        Err(refusal) => put(answer, [number(refusal), 0, 0, 0, 0, 0]),
     }
 }
