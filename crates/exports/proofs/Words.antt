@@ -10,9 +10,7 @@ use borrow.Author.Tests.{eqb-true, ltb-false, leb-true}
 use Rattle.std.specs.Prelude.{Option, Some}
 use Rattle.base.specs.Pick.{pick}
 use Rattle.utf8.specs.Utf8.{too_long, utf8}
-use Rattle.text.specs.Escape.{escaped_at}
 use Rattle.utf8.specs.Refusal.{after_text, text_refusal}
-use Rattle.base.specs.Lists.{is_at}
 use Rattle.base.proofs.Bools.{and_right}
 use Rattle.index.specs.declared.Bracket.{Bracket}
 use Rattle.locator.specs.declared.Locator.TheVariants.{Nothing as NoLocator}
@@ -27,7 +25,7 @@ use Rattle.lookup.specs.Refusals.{too_few, look_up_refusal}
 use Rattle.lookup.specs.LookUps.{LookedUp, look_up_refused, look_up_gives, look_up_answers, looked_up, look_up_builds, ran_with, look_up_run}
 use Rattle.lookup.specs.Others.{sized, located, locator_call, size_call}
 use Rattle.lookup.specs.Values.{look_up_numbers, locator_numbers, size_numbers}
-use Rattle.lookup.proofs.RefusalLaws.{unrefused}
+use Rattle.lookup.proofs.RefusalLaws.{unrefused, look_up_refusal_low}
 use Rattle.pool.specs.Layout.{well_formed}
 use Rattle.sweep.specs.Sweep.{Lent, Swept, lent_of, lent_after, swept, found_groups, next_at, found_run, builds_at, sweep_run_in, sweep_run}
 use Rattle.sweep.specs.Stops.{stop_from}
@@ -114,18 +112,6 @@ module _ (s : List ℕ) (at : ℕ) (items : List ℕ) where
           let z = items_size s at c k.0 in
           record { number = omega arith; close = omega (arith, k.1); count = omega (arith, k.1) }
 
-  look_up_refusal_low : (n m : ℕ) → look_up_refusal s at n m ≤ 9
-  unfolding look_up_refusal after_text
-  look_up_refusal_low n m = go (too_long s) (utf8 s) (is_at s at 91) (escaped_at s at) (too_few s n m)
-    where
-      go : (a b c d e : Bool) → pick a 1 (pick b (pick (not c) 3 (pick d 4 (pick e 9 0))) 2) ≤ 9
-      go true b c d e = omega arith
-      go false false c d e = omega arith
-      go false true false d e = omega arith
-      go false true true true e = omega arith
-      go false true true false true = omega arith
-      go false true true false false = omega arith
-
   looked_low : (n m note : ℕ) (index : List ℕ) → Low (looked_up (look_up_refusal s at n m) (group_as_run s at note index) items)
   unfolding looked_up group_as_run
   looked_low n m note index = go (eqb (look_up_refusal s at n m) 0) refl
@@ -133,7 +119,7 @@ module _ (s : List ℕ) (at : ℕ) (items : List ℕ) where
       go : (t : Bool) → eqb (look_up_refusal s at n m) 0 ≡ t
           → Low (pick t (look_up_answers (judge s at (close_as_run s at note index)) items) (look_up_refused (look_up_refusal s at n m) items))
       go true q = judged_low (unrefused s at n m (eqb-true _ 0 q)).enough.short (close_as_run s at note index) (run_inside s at note index)
-      go false q = let h = look_up_refusal_low n m in refused_low (look_up_refusal s at n m) items (omega arith)
+      go false q = let h = look_up_refusal_low s at n m in refused_low (look_up_refusal s at n m) items (omega arith)
 
 note_low : (b : Bool) (note : ℕ) → note < 256 → note_after b note < 256
 unfolding note_after

@@ -6,9 +6,17 @@ ghost use Rattle.std.specs.Prelude.{◌≡◌};
 ghost use Rattle.annotation.specs.Content.{areas};
 ghost use Rattle.exports.specs.Areas.{look_up_areas, after_look_up, annotate_areas, after_annotate, after_size, after_locator, source_areas, after_source_text};
 
+use answers::{
+    ANNOTATION_ANSWER, LOCATOR_ANSWER, LOOK_UP_ANSWER, SIZE_ANSWER, SOURCE_TEXT_ANSWER, has_room,
+    write_annotation, write_count, write_locator, write_look_up,
+};
 use index::Bracket;
 
+// The test for room, which all five calls begin with, stays in each of them: a function that takes the call as a closure would be no plainer,
+// since its contract would have to say of every closure what it leaves in up to seven areas.
+
 // calls::look_up; answer: number, close, item count, note.
+#[tactic(auto, using(crate::proofs::Laws::room, crate::proofs::Laws::look_up_fit), unfolding(crate::specs::Areas::after_look_up, crate::specs::Areas::look_up_done))]
 pub fn citations_look_up(
     text: &[u8],
     at: usize,
@@ -25,13 +33,14 @@ pub fn citations_look_up(
         × (items.new ≡ after.items)
         × (answer.new ≡ after.answer) }
 {
-    if answers::has_room(answer, answers::LOOK_UP_ANSWER) {
+    if has_room(answer, LOOK_UP_ANSWER) {
         let a = calls::look_up(text, at, note, index, records, items);
-        answers::write_look_up(a, answer);
+        write_look_up(a, answer);
     }
 }
 
 // calls::annotate; answer: number, groups, items, sources, label bytes, note.
+#[tactic(auto, using(crate::proofs::Laws::room, crate::proofs::Laws::annotate_fit), unfolding(crate::specs::Areas::after_annotate, crate::specs::Areas::annotate_done))]
 pub fn citations_annotate<'a>(
     text: &'a [u8],
     mode: u8,
@@ -56,39 +65,42 @@ pub fn citations_annotate<'a>(
         × (labels.new ≡ after.areas.labels)
         × (answer.new ≡ after.answer) }
 {
-    if answers::has_room(answer, answers::ANNOTATION_ANSWER) {
+    if has_room(answer, ANNOTATION_ANSWER) {
         let a = calls::annotate(
             text, mode, pool, note, index, records, items, groups, references, labels,
         );
-        answers::write_annotation(a, answer);
+        write_annotation(a, answer);
     }
 }
 
 // calls::size; answer: number, records.
+#[tactic(auto, using(crate::proofs::Laws::room, crate::proofs::Laws::size_fit), unfolding(crate::specs::Areas::after_size))]
 pub fn citations_size(text: &[u8], answer: &mut [u32])
     ensures { answer.new ≡ after_size text.now answer.old }
 {
-    if answers::has_room(answer, answers::SIZE_ANSWER) {
-        answers::write_size(calls::size(text), answer);
+    if has_room(answer, SIZE_ANSWER) {
+        write_count(calls::size(text), answer);
     }
 }
 
 // calls::locator; answer: number, label code, value pair, suffix pair.
+#[tactic(auto, using(crate::proofs::Laws::room, crate::proofs::Laws::locator_fit), unfolding(crate::specs::Areas::after_locator))]
 pub fn citations_locator(text: &[u8], answer: &mut [u32])
     ensures { answer.new ≡ after_locator text.now answer.old }
 {
-    if answers::has_room(answer, answers::LOCATOR_ANSWER) {
-        answers::write_locator(calls::locator(text), answer);
+    if has_room(answer, LOCATOR_ANSWER) {
+        write_locator(calls::locator(text), answer);
     }
 }
 
 // calls::source_text; answer: number, bytes.
+#[tactic(auto, using(crate::proofs::Laws::room, crate::proofs::Laws::source_fit), unfolding(crate::specs::Areas::after_source_text, crate::specs::Areas::source_done))]
 pub fn citations_source_text(pool: &[u8], entry: usize, area: &mut [u8], answer: &mut [u32])
     ensures { let after = after_source_text pool.now entry (source_areas area.old answer.old) in
         (area.new ≡ after.area) × (answer.new ≡ after.answer) }
 {
-    if answers::has_room(answer, answers::SOURCE_TEXT_ANSWER) {
-        answers::write_source_text(calls::source_text(pool, entry, area), answer);
+    if has_room(answer, SOURCE_TEXT_ANSWER) {
+        write_count(calls::source_text(pool, entry, area), answer);
     }
 }
 

@@ -1,6 +1,6 @@
-// The archive that C and Rust link, under the names of include/citations.h: each call of exports once more, with its clauses. A slice is a
-// pointer and a length in elements. `answer` gets the number (0 accepted), then the values in the paper's order; a call with a shorter one
-// does nothing.
+// The archive that C and Rust link, under the names of include/citations.h: each call of exports once more, with its clauses, since a crate is
+// a library or a static library and never both (the C interface). A slice is a pointer and a length in elements. `answer` gets the number
+// (0 accepted), then the values in the paper's order; a call with a shorter one does nothing.
 #![tactic(auto)]
 
 ghost use Rattle.std.specs.Prelude.{◌≡◌};
