@@ -3,16 +3,23 @@ use Prim.Native.Nat.{ℕ, zero, suc, ◌+◌, ◌-◌, ◌*◌, ◌≤◌, ◌<�
 use native.Mathlib.Omega.{arith}
 use mathlib.Core.Path.{◌≡◌, refl, sym, ◌∙◌, ap, subst}
 use mathlib.Core.List.{List, [], ◌∷◌, ◌++◌, append_assoc}
-use lib.ListN.{get_or, drop}
+use lib.ListN.{length, get_or, drop}
 use lib.Seq.{get_or-drop, drop-drop}
-use borrow.Author.Tests.{eq-eqb, ne_eqb}
+use borrow.Author.Tests.{ne_eqb}
 use Rattle.base.specs.Ascii.{ascii}
 use Rattle.decimal.specs.Decimal.{decimal}
 use Rattle.records.specs.Records.{key_in}
 use Rattle.records.specs.Fields.{field_at, item_field, group_field}
-use Rattle.line_writers.specs.declared.Told.{Told}
+use Rattle.std.specs.Prelude.{Ok, Err}
+use Rattle.base.specs.declared.refusal.Refusal.{Refusal}
+use Rattle.base.specs.Refusals.{number_of}
+use Rattle.base.proofs.Refusals.{number_some}
+use Rattle.annotation.specs.declared.answer.Counts.{Counts}
 use Rattle.line_writers.specs.Lines.{group_part, item_part, item_line, item_lines, lines_of, group_lines, count_line, refused_line, answer_lines}
+use Rattle.line_writers.specs.declared.Writer.{Writer}
 use Rattle.line_writers.specs.Writes.{Put, Room, answer_by}
+use Rattle.base.specs.Areas.{Wrote}
+use Rattle.sweep.proofs.Areas.{written_front}
 use Rattle.line_writers.proofs.Puts.{two_first, two_second, two_put, Along, along_start, along_end, along_room, along_next}
 use Rattle.records.specs.Widths.{item_code, item_number, group_place, group_length, group_standing, group_first, group_count, item_width, group_width}
 
@@ -31,7 +38,7 @@ item_at items i c = get_or-drop (item_width * i) items c 0
 -- what a line says of its group ------------------------------------------------------------------------------------------------------
 
 -- Each number is asked for only where it is put.
-module _ (k : ℕ) (groups out : List ℕ) (g : ℕ) (h : Room k (group_part (drop (group_width * g) groups)) out) where
+module _ (groups : List ℕ) (w : Writer) (g : ℕ) (h : Room (group_part (drop (group_width * g) groups)) w) where
   abbrev offset : List ℕ
   offset = field (group_field groups g group_place) 32
 
@@ -49,34 +56,34 @@ module _ (k : ℕ) (groups out : List ℕ) (g : ℕ) (h : Room k (group_part (dr
     first_is : group_part (drop (group_width * g) groups) ≡ field o 32 ++ (size ++ standing)
     first_is = rw eo group_is
 
-    pub group_part_first : Room k (field o 32) out
-    group_part_first = two_first k _ out (field o 32) (size ++ standing) first_is h
+    pub group_part_first : Room (field o 32) w
+    group_part_first = two_first _ w (field o 32) (size ++ standing) first_is h
 
-    module _ {a : ℕ} {out₁ : List ℕ} (p : Put k (field o 32) out out₁ a) where
-      group_rest : Room a (size ++ standing) out₁
-      group_rest = two_second k _ out (field o 32) (size ++ standing) first_is h p
+    module _ {w₁ : Writer} (p : Put (field o 32) w w₁) where
+      group_rest : Room (size ++ standing) w₁
+      group_rest = two_second _ w (field o 32) (size ++ standing) first_is h p
 
       module _ {l : ℕ} (el : l ≡ group_field groups g group_length) where
         second_is : size ++ standing ≡ field l 32 ++ standing
         second_is = rw el refl
 
-        pub group_part_second : Room a (field l 32) out₁
-        group_part_second = two_first a _ out₁ (field l 32) standing second_is group_rest
+        pub group_part_second : Room (field l 32) w₁
+        group_part_second = two_first _ w₁ (field l 32) standing second_is group_rest
 
-        module _ {b : ℕ} {out₂ : List ℕ} (q : Put a (field l 32) out₁ out₂ b) {s : ℕ} (es : s ≡ group_field groups g group_standing) where
-          pub group_part_third : Room b (field s 32) out₂
-          group_part_third = rw es (two_second a _ out₁ (field l 32) standing second_is group_rest q)
+        module _ {w₂ : Writer} (q : Put (field l 32) w₁ w₂) {s : ℕ} (es : s ≡ group_field groups g group_standing) where
+          pub group_part_third : Room (field s 32) w₂
+          group_part_third = rw es (two_second _ w₁ (field l 32) standing second_is group_rest q)
 
-          pub group_part_put : {r : ℕ} {out₃ : List ℕ} → Put b (field s 32) out₂ out₃ r → Put k (group_part (drop (group_width * g) groups)) out out₃ r
+          pub group_part_put : {w₃ : Writer} → Put (field s 32) w₂ w₃ → Put (group_part (drop (group_width * g) groups)) w w₃
           group_part_put t =
-              two_put k _ out (field o 32) (size ++ standing) first_is h p
-              (two_put a _ out₁ (field l 32) standing second_is group_rest q (rw es at t))
+              two_put _ w (field o 32) (size ++ standing) first_is h p
+              (two_put _ w₁ (field l 32) standing second_is group_rest q (rw es at t))
 
 pub ruleset group_laws = (group_part_first, group_part_second, group_part_third, group_part_put)
 
 -- what it says of its item -----------------------------------------------------------------------------------------------------------
 
-module _ (k : ℕ) (text items out : List ℕ) (i : ℕ) (h : Room k (item_part text (drop (item_width * i) items)) out) where
+module _ (text items : List ℕ) (w : Writer) (i : ℕ) (h : Room (item_part text (drop (item_width * i) items)) w) where
   abbrev code : List ℕ
   code = field (item_field items i item_code) 32
 
@@ -91,35 +98,35 @@ module _ (k : ℕ) (text items out : List ℕ) (i : ℕ) (h : Room k (item_part 
     with_key : item_part text (drop (item_width * i) items) ≡ key ++ ((32 ∷ []) ++ (code ++ number))
     with_key = rw ek item_is
 
-    pub item_first : Room k key out
-    item_first = two_first k _ out key ((32 ∷ []) ++ (code ++ number)) with_key h
+    pub item_first : Room key w
+    item_first = two_first _ w key ((32 ∷ []) ++ (code ++ number)) with_key h
 
-    module _ {a : ℕ} {out₁ : List ℕ} (p : Put k key out out₁ a) where
-      item_rest : Room a ((32 ∷ []) ++ (code ++ number)) out₁
-      item_rest = two_second k _ out key ((32 ∷ []) ++ (code ++ number)) with_key h p
+    module _ {w₁ : Writer} (p : Put key w w₁) where
+      item_rest : Room ((32 ∷ []) ++ (code ++ number)) w₁
+      item_rest = two_second _ w key ((32 ∷ []) ++ (code ++ number)) with_key h p
 
-      pub item_second : Room a (32 ∷ []) out₁
-      item_second = two_first a _ out₁ (32 ∷ []) (code ++ number) refl item_rest
+      pub item_second : Room (32 ∷ []) w₁
+      item_second = two_first _ w₁ (32 ∷ []) (code ++ number) refl item_rest
 
-      module _ {b : ℕ} {out₂ : List ℕ} (q : Put a (32 ∷ []) out₁ out₂ b) {c : ℕ} (ec : c ≡ item_field items i item_code) where
-        item_numbers_lem : Room b (code ++ number) out₂
-        item_numbers_lem = two_second a _ out₁ (32 ∷ []) (code ++ number) refl item_rest q
+      module _ {w₂ : Writer} (q : Put (32 ∷ []) w₁ w₂) {c : ℕ} (ec : c ≡ item_field items i item_code) where
+        item_numbers_lem : Room (code ++ number) w₂
+        item_numbers_lem = two_second _ w₁ (32 ∷ []) (code ++ number) refl item_rest q
 
         with_code : code ++ number ≡ field c 32 ++ number
         with_code = rw ec refl
 
-        pub item_third : Room b (field c 32) out₂
-        item_third = two_first b _ out₂ (field c 32) number with_code item_numbers_lem
+        pub item_third : Room (field c 32) w₂
+        item_third = two_first _ w₂ (field c 32) number with_code item_numbers_lem
 
-        module _ {d : ℕ} {out₃ : List ℕ} (t : Put b (field c 32) out₂ out₃ d) {n : ℕ} (en : n ≡ item_field items i item_number) where
-          pub item_fourth : Room d (field n 10) out₃
-          item_fourth = rw en (two_second b _ out₂ (field c 32) number with_code item_numbers_lem t)
+        module _ {w₃ : Writer} (t : Put (field c 32) w₂ w₃) {n : ℕ} (en : n ≡ item_field items i item_number) where
+          pub item_fourth : Room (field n 10) w₃
+          item_fourth = rw en (two_second _ w₂ (field c 32) number with_code item_numbers_lem t)
 
-          pub item_put : {r : ℕ} {out₄ : List ℕ} → Put d (field n 10) out₃ out₄ r → Put k (item_part text (drop (item_width * i) items)) out out₄ r
-          item_put w =
-              two_put k _ out key ((32 ∷ []) ++ (code ++ number)) with_key h p
-              (two_put a _ out₁ (32 ∷ []) (code ++ number) refl item_rest q
-              (two_put b _ out₂ (field c 32) number with_code item_numbers_lem t (rw en at w)))
+          pub item_put : {w₄ : Writer} → Put (field n 10) w₃ w₄ → Put (item_part text (drop (item_width * i) items)) w w₄
+          item_put u =
+              two_put _ w key ((32 ∷ []) ++ (code ++ number)) with_key h p
+              (two_put _ w₁ (32 ∷ []) (code ++ number) refl item_rest q
+              (two_put _ w₂ (field c 32) number with_code item_numbers_lem t (rw en at u)))
 
 pub ruleset item_laws = (item_first, item_second, item_third, item_fourth, item_put)
 
@@ -129,16 +136,16 @@ line_is : (text group item : List ℕ) → item_line text group item ≡ group_p
 unfolding item_line
 line_is text group item = refl
 
-module _ (k : ℕ) (text group item out : List ℕ) (h : Room k (item_line text group item) out) where
-  pub line_first : Room k (group_part group) out
-  line_first = two_first k _ out (group_part group) (item_part text item) (line_is text group item) h
+module _ (text group item : List ℕ) (w : Writer) (h : Room (item_line text group item) w) where
+  pub line_first : Room (group_part group) w
+  line_first = two_first _ w (group_part group) (item_part text item) (line_is text group item) h
 
-  module _ {a : ℕ} {out₁ : List ℕ} (p : Put k (group_part group) out out₁ a) where
-    pub line_second : Room a (item_part text item) out₁
-    line_second = two_second k _ out (group_part group) (item_part text item) (line_is text group item) h p
+  module _ {w₁ : Writer} (p : Put (group_part group) w w₁) where
+    pub line_second : Room (item_part text item) w₁
+    line_second = two_second _ w (group_part group) (item_part text item) (line_is text group item) h p
 
-    pub line_put : {r : ℕ} {out₂ : List ℕ} → Put a (item_part text item) out₁ out₂ r → Put k (item_line text group item) out out₂ r
-    line_put q = two_put k _ out (group_part group) (item_part text item) (line_is text group item) h p q
+    pub line_put : {w₂ : Writer} → Put (item_part text item) w₁ w₂ → Put (item_line text group item) w w₂
+    line_put q = two_put _ w (group_part group) (item_part text item) (line_is text group item) h p q
 
 pub ruleset line_laws = (line_first, line_second, line_put)
 
@@ -164,12 +171,12 @@ module _ (text groups items : List ℕ) (g first count : ℕ) where
   abbrev line : ℕ → List ℕ
   line j = item_line text (drop (group_width * g) groups) (drop (item_width * (first + j)) items)
 
-  pub lines_start : (k : ℕ) (out : List ℕ) → first ≡ group_field groups g group_first → count ≡ group_field groups g group_count → Room k whole out → Along whole (left 0) k out out k
+  pub lines_start : (w : Writer) → first ≡ group_field groups g group_first → count ≡ group_field groups g group_count → Room whole w → Along whole (left 0) w w
   unfolding lines_of
-  lines_start k out e₁ e₂ h =
+  lines_start w e₁ e₂ h =
       let p : count - 0 ≡ count = omega arith in
       let q : first + 0 ≡ first = omega arith in
-      along_start k whole (left 0) out h (rw (group_at groups g 2, group_at groups g 3, ← e₁, ← e₂, p, q) refl)
+      along_start whole (left 0) w h (rw (group_at groups g 2, group_at groups g 3, ← e₁, ← e₂, p, q) refl)
 
   left_is : (j : ℕ) → j < count → left j ≡ line j ++ left (j + 1)
   left_is j h =
@@ -177,14 +184,14 @@ module _ (text groups items : List ℕ) (g first count : ℕ) where
       lines_more (count - j) text (drop (group_width * g) groups) items (first + j) (first + (j + 1)) (omega arith) (omega arith)
       ∙ ap (λ (n : ℕ). line j ++ item_lines n text (drop (group_width * g) groups) (drop (item_width * (first + (j + 1))) items)) p
 
-  module _ {k at : ℕ} {out₀ out : List ℕ} (j : ℕ) (a : Along whole (left j) k out₀ out at) where
-    pub lines_room : j < count → Room at (line j) out
+  module _ {w v : Writer} (j : ℕ) (a : Along whole (left j) w v) where
+    pub lines_room : j < count → Room (line j) v
     lines_room h = along_room a (line j) (left (j + 1)) (left_is j h)
 
-    pub lines_next : {out' : List ℕ} {at' : ℕ} → j < count → Put at (line j) out out' at' → Along whole (left (j + 1)) k out₀ out' at'
+    pub lines_next : {u : Writer} → j < count → Put (line j) v u → Along whole (left (j + 1)) w u
     lines_next h q = along_next a (line j) (left (j + 1)) (left_is j h) q
 
-    pub lines_end : count ≤ j → Put k whole out₀ out at
+    pub lines_end : count ≤ j → Put whole w v
     unfolding item_lines
     lines_end h = along_end a (let p : count - j ≡ 0 = omega arith in rw p refl)
 
@@ -212,8 +219,8 @@ module _ (text groups items : List ℕ) (n : ℕ) where
   abbrev here : ℕ → List ℕ
   here g = lines_of text (drop (group_width * g) groups) items
 
-  pub groups_start : (k : ℕ) (out : List ℕ) → Room k all out → Along all (after 0) k out out k
-  groups_start k out h = let p : n - 0 ≡ n = omega arith in along_start k all (after 0) out h (rw p refl)
+  pub groups_start : (w : Writer) → Room all w → Along all (after 0) w w
+  groups_start w h = let p : n - 0 ≡ n = omega arith in along_start all (after 0) w h (rw p refl)
 
   after_is : (g : ℕ) → g < n → after g ≡ here g ++ after (g + 1)
   after_is g h =
@@ -221,14 +228,14 @@ module _ (text groups items : List ℕ) (n : ℕ) where
       groups_more (n - g) text groups items g (omega arith)
       ∙ ap (λ (m : ℕ). here g ++ group_lines m text (drop (group_width * (g + 1)) groups) items) p
 
-  module _ {k at : ℕ} {out₀ out : List ℕ} (g : ℕ) (a : Along all (after g) k out₀ out at) where
-    pub groups_room : g < n → Room at (here g) out
+  module _ {w v : Writer} (g : ℕ) (a : Along all (after g) w v) where
+    pub groups_room : g < n → Room (here g) v
     groups_room h = along_room a (here g) (after (g + 1)) (after_is g h)
 
-    pub groups_next : {out' : List ℕ} {at' : ℕ} → g < n → Put at (here g) out out' at' → Along all (after (g + 1)) k out₀ out' at'
+    pub groups_next : {u : Writer} → g < n → Put (here g) v u → Along all (after (g + 1)) w u
     groups_next h q = along_next a (here g) (after (g + 1)) (after_is g h) q
 
-    pub groups_end : n ≤ g → Put k all out₀ out at
+    pub groups_end : n ≤ g → Put all w v
     unfolding group_lines
     groups_end h = along_end a (let p : n - g ≡ 0 = omega arith in rw p refl)
 
@@ -236,16 +243,16 @@ pub ruleset groups_laws = (groups_start, groups_room, groups_next, groups_end)
 
 -- a word and a number ----------------------------------------------------------------------------------------------------------------
 
-module _ (k : ℕ) (word out : List ℕ) (n end : ℕ) (h : Room k (word ++ field n end) out) where
-  pub count_first : Room k word out
-  count_first = two_first k _ out word (field n end) refl h
+module _ (word : List ℕ) (w : Writer) (n end : ℕ) (h : Room (word ++ field n end) w) where
+  pub count_first : Room word w
+  count_first = two_first _ w word (field n end) refl h
 
-  module _ {a : ℕ} {out₁ : List ℕ} (p : Put k word out out₁ a) where
-    pub count_second : Room a (field n end) out₁
-    count_second = two_second k _ out word (field n end) refl h p
+  module _ {w₁ : Writer} (p : Put word w w₁) where
+    pub count_second : Room (field n end) w₁
+    count_second = two_second _ w word (field n end) refl h p
 
-    pub count_put : {r : ℕ} {out₂ : List ℕ} → Put a (field n end) out₁ out₂ r → Put k (word ++ field n end) out out₂ r
-    count_put q = two_put k _ out word (field n end) refl h p q
+    pub count_put : {w₂ : Writer} → Put (field n end) w₁ w₂ → Put (word ++ field n end) w w₂
+    count_put q = two_put _ w word (field n end) refl h p q
 
 pub ruleset count_laws = (count_first, count_second, count_put)
 
@@ -264,7 +271,7 @@ sources_word = 115 ∷ 111 ∷ 117 ∷ 114 ∷ 99 ∷ 101 ∷ 115 ∷ 32 ∷ []
 abbrev pub refused_word : List ℕ
 refused_word = 114 ∷ 101 ∷ 102 ∷ 117 ∷ 115 ∷ 101 ∷ 100 ∷ 32 ∷ []
 
-module _ (c : Told) (out : List ℕ) (h : Room 0 (count_line (answer_by c [] [])) out) where
+module _ (c : Counts) (w : Writer) (h : Room (count_line (answer_by (Ok c) [] [])) w) where
   abbrev one : List ℕ
   one = groups_word ++ field c.groups 32
 
@@ -274,59 +281,93 @@ module _ (c : Told) (out : List ℕ) (h : Room 0 (count_line (answer_by c [] [])
   abbrev three : List ℕ
   three = sources_word ++ field c.sources 10
 
-  counts_are : count_line (answer_by c [] []) ≡ one ++ (two ++ three)
+  counts_are : count_line (answer_by (Ok c) [] []) ≡ one ++ (two ++ three)
   unfolding count_line ascii
   counts_are = simp append_assoc refl
 
-  pub counts_first : Room 0 one out
-  counts_first = two_first 0 _ out one (two ++ three) counts_are h
+  pub counts_first : Room one w
+  counts_first = two_first _ w one (two ++ three) counts_are h
 
-  module _ {a : ℕ} {out₁ : List ℕ} (p : Put 0 one out out₁ a) where
-    counts_rest : Room a (two ++ three) out₁
-    counts_rest = two_second 0 _ out one (two ++ three) counts_are h p
+  module _ {w₁ : Writer} (p : Put one w w₁) where
+    counts_rest : Room (two ++ three) w₁
+    counts_rest = two_second _ w one (two ++ three) counts_are h p
 
-    pub counts_second : Room a two out₁
-    counts_second = two_first a _ out₁ two three refl counts_rest
+    pub counts_second : Room two w₁
+    counts_second = two_first _ w₁ two three refl counts_rest
 
-    module _ {b : ℕ} {out₂ : List ℕ} (q : Put a two out₁ out₂ b) where
-      pub counts_third : Room b three out₂
-      counts_third = two_second a _ out₁ two three refl counts_rest q
+    module _ {w₂ : Writer} (q : Put two w₁ w₂) where
+      pub counts_third : Room three w₂
+      counts_third = two_second _ w₁ two three refl counts_rest q
 
-      pub counts_put : {r : ℕ} {out₃ : List ℕ} → Put b three out₂ out₃ r → Put 0 (count_line (answer_by c [] [])) out out₃ r
-      counts_put t = two_put 0 _ out one (two ++ three) counts_are h p (two_put a _ out₁ two three refl counts_rest q t)
+      pub counts_put : {w₃ : Writer} → Put three w₂ w₃ → Put (count_line (answer_by (Ok c) [] [])) w w₃
+      counts_put t = two_put _ w one (two ++ three) counts_are h p (two_put _ w₁ two three refl counts_rest q t)
 
 pub ruleset counts_laws = (counts_first, counts_second, counts_third, counts_put)
 
 -- the whole --------------------------------------------------------------------------------------------------------------------------
 
-module _ (text items groups out : List ℕ) (c : Told) (h : Room 0 (answer_lines text (answer_by c items groups)) out) where
-  -- a refusal
-  module _ (n : c.number ≡ 0 → ⊥) where
-    refused_is : answer_lines text (answer_by c items groups) ≡ refused_word ++ field c.number 10
-    unfolding answer_lines refused_line ascii
-    refused_is = rw (ne_eqb c.number 0 n) (simp append_assoc refl)
+-- A writer that begins at the front of an area, and what the area holds at last.
+module _ (bytes before : List ℕ) (w : Writer) (z : w.len ≡ 0) (b : w.area.now ≡ before) where
+  pub front_room : length bytes ≤ length before → Room bytes w
+  front_room h = rw b (omega (arith, z, h))
 
-    pub refused_room : Room 0 (refused_word ++ field c.number 10) out
-    refused_room = subst (λ (w : List ℕ). Room 0 w out) refused_is h
+  pub front_wrote : {last : List ℕ} {v : Writer} → (w.area.ghost_name ≡ v.area.ghost_name → last ≡ v.area.now) → Put bytes w v
+      → Wrote bytes before last v.len
+  front_wrote e p = record {
+    count = let q = p.end in omega arith;
+    area = e (sym p.same_area) ∙ p.area ∙ rw (z, b) (written_front bytes before);
+  }
 
-    pub refused_put : {r : ℕ} {out₁ : List ℕ} → Put 0 (refused_word ++ field c.number 10) out out₁ r
-        → Put 0 (answer_lines text (answer_by c items groups)) out out₁ r
-    refused_put {r} {out₁} p = subst (λ (w : List ℕ). Put 0 w out out₁ r) (sym refused_is) p
+-- a refusal
+refused_word_is : (number : ℕ) → refused_word ++ field number 10 ≡ refused_line number
+unfolding refused_line ascii
+refused_word_is number = simp append_assoc refl
 
-  module _ (n : c.number ≡ 0) where
-    listed_is : answer_lines text (answer_by c items groups) ≡ count_line (answer_by c [] []) ++ group_lines c.groups text groups items
+module _ (number : ℕ) (before : List ℕ) (w : Writer) (z : w.len ≡ 0) (b : w.area.now ≡ before) where
+  pub refusal_room : {n : ℕ} → n ≡ number → length (refused_line number) ≤ length before → Room (refused_word ++ field n 10) w
+  refusal_room e h =
+      rw e
+      (subst (λ (x : List ℕ). Room x w) (sym (refused_word_is number)) (front_room (refused_line number) before w z b h))
+
+  pub refusal_wrote : {n : ℕ} {last : List ℕ} {v : Writer} → n ≡ number → (w.area.ghost_name ≡ v.area.ghost_name → last ≡ v.area.now)
+      → Put (refused_word ++ field n 10) w v → Wrote (refused_line number) before last v.len
+  refusal_wrote {n} {last} {v} q e p =
+      front_wrote (refused_line number) before w z b e (subst (λ (x : List ℕ). Put x w v) (rw q (refused_word_is number)) p)
+
+pub ruleset refusal_laws = (refusal_room, refusal_wrote)
+
+-- the listing of an answer
+refused_is : (text items groups : List ℕ) (e : Refusal) → answer_lines text (answer_by (Err e) items groups) ≡ refused_line (number_of e)
+unfolding answer_lines
+refused_is text items groups e = rw (ne_eqb (number_of e) 0 (number_some e)) refl
+
+module _ (text items groups before : List ℕ) where
+  pub refused_room : (e : Refusal) → length (answer_lines text (answer_by (Err e) items groups)) ≤ length before → length (refused_line (number_of e)) ≤ length before
+  refused_room e h = rw (refused_is text items groups e) at h
+
+  pub refused_wrote : (e : Refusal) {last : List ℕ} {r : ℕ} → Wrote (refused_line (number_of e)) before last r
+      → Wrote (answer_lines text (answer_by (Err e) items groups)) before last r
+  refused_wrote e p = rw (refused_is text items groups e) p
+
+  module _ (c : Counts) (h : length (answer_lines text (answer_by (Ok c) items groups)) ≤ length before) (w : Writer) (z : w.len ≡ 0) (b : w.area.now ≡ before) where
+    abbrev listing : List ℕ
+    listing = answer_lines text (answer_by (Ok c) items groups)
+
+    listed_is : listing ≡ count_line (answer_by (Ok c) [] []) ++ group_lines c.groups text groups items
     unfolding answer_lines count_line
-    listed_is = rw (eq-eqb c.number 0 n) refl
+    listed_is = refl
 
-    pub listed_first : Room 0 (count_line (answer_by c [] [])) out
-    listed_first = two_first 0 _ out (count_line (answer_by c [] [])) (group_lines c.groups text groups items) listed_is h
+    pub listed_first : Room (count_line (answer_by (Ok c) [] [])) w
+    listed_first = two_first _ w (count_line (answer_by (Ok c) [] [])) (group_lines c.groups text groups items) listed_is (front_room listing before w z b h)
 
-    module _ {a : ℕ} {out₁ : List ℕ} (p : Put 0 (count_line (answer_by c [] [])) out out₁ a) where
-      pub listed_second : Room a (group_lines c.groups text groups items) out₁
-      listed_second = two_second 0 _ out (count_line (answer_by c [] [])) (group_lines c.groups text groups items) listed_is h p
+    module _ {v : Writer} (p : Put (count_line (answer_by (Ok c) [] [])) w v) where
+      pub listed_second : Room (group_lines c.groups text groups items) v
+      listed_second = two_second _ w (count_line (answer_by (Ok c) [] [])) (group_lines c.groups text groups items) listed_is (front_room listing before w z b h) p
 
-      pub listed_put : {r : ℕ} {out₂ : List ℕ} → Put a (group_lines c.groups text groups items) out₁ out₂ r
-          → Put 0 (answer_lines text (answer_by c items groups)) out out₂ r
-      listed_put q = two_put 0 _ out (count_line (answer_by c [] [])) (group_lines c.groups text groups items) listed_is h p q
+      pub listed_wrote : {last : List ℕ} {u : Writer} → (w.area.ghost_name ≡ u.area.ghost_name → last ≡ u.area.now)
+          → Put (group_lines c.groups text groups items) v u → Wrote listing before last u.len
+      listed_wrote e q =
+          front_wrote listing before w z b e
+          (two_put _ w (count_line (answer_by (Ok c) [] [])) (group_lines c.groups text groups items) listed_is (front_room listing before w z b h) p q)
 
-pub ruleset listed_laws = (refused_room, refused_put, listed_first, listed_second, listed_put)
+pub ruleset listed_laws = (refused_room, refused_wrote, listed_first, listed_second, listed_wrote)

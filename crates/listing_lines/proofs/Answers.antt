@@ -7,7 +7,9 @@ use mathlib.Core.Bool.{Bool, true, false, ◌&&◌}
 use lib.ListN.{length, take, replicate, length-replicate}
 use lib.Dec.{eqb, leb}
 use borrow.Author.Tests.{leb-true, le-ltb}
+use Rattle.std.specs.Prelude.{Result, Ok, Err, IfOk}
 use Rattle.base.specs.Areas.{Wrote}
+use Rattle.base.specs.declared.refusal.Refusal.{Refusal}
 use Rattle.base.specs.Pick.{pick}
 use Rattle.index.specs.Built.{blank}
 use Rattle.base.proofs.Bools.{and_left, and_right}
@@ -15,33 +17,19 @@ use Rattle.item.specs.Group.{Group}
 use Rattle.lookup.specs.Refusals.{too_few}
 use Rattle.sweep.specs.Sweep.{sweep_of}
 use Rattle.sweep.proofs.Laws.{group_records_length}
-use Rattle.sweep.proofs.Areas.{written_front}
 use Rattle.annotation.specs.declared.answer.Annotation.{Annotation}
-use Rattle.annotation.specs.declared.answer.Annotation.TheVariants.{Accepted, Refused}
-use Rattle.annotation.specs.Values.{annotation_values, annotation_numbers}
+use Rattle.annotation.specs.declared.answer.Counts.{Counts}
+use Rattle.annotation.specs.Values.{count_values, annotation_values, annotation_numbers}
 use Rattle.annotation.specs.Content.{Areas, placed_from, placed_of, content_of, areas}
 use Rattle.annotation.specs.Call.{Annotated, AnnotateRan, annotate_refused, room_for, zero_filled, annotate_gives, answer_of, annotate_plain, annotate_run}
 use Rattle.annotation.specs.Refusal.{annotate_refusal}
 use Rattle.annotation.proofs.Truth.{annotate_true}
-use Rattle.line_writers.specs.declared.Told.{Told}
 use Rattle.line_writers.specs.Lines.{count_line, answer_lines}
 use Rattle.standing.proofs.Swept.{placed_length}
 use Rattle.listing_lines.specs.Listing.{listing_areas, listing_answer, listing_of}
-use Rattle.line_writers.specs.Writes.{Put, Room, answer_by}
+use Rattle.line_writers.specs.Writes.{answer_by}
 use Rattle.listing_lines.specs.Ready.{Ready}
 use Rattle.records.specs.Widths.{group_width}
-
--- the numbers of an answer, in the arms of a `match` on it
-module _ {a : Annotation} where
-  pub told_accepted : {g i s l n : ℕ} → a ≡ Accepted g i s l n → 0 ∷ g ∷ i ∷ s ∷ [] ≡ take 4 (annotation_values a)
-  unfolding annotation_values
-  told_accepted e = rw e refl
-
-  pub told_refused : {m n : ℕ} → a ≡ Refused m n → m ∷ 0 ∷ 0 ∷ 0 ∷ [] ≡ take 4 (annotation_values a)
-  unfolding annotation_values
-  told_refused e = rw e refl
-
-pub ruleset told_laws = (told_accepted, told_refused)
 
 -- the call as run, and the definition ------------------------------------------------------------------------------------------------
 
@@ -116,52 +104,66 @@ groups_few text = go (eqb (annotate_refusal text 0 [] (length text) (length text
 -- the listing by the counts and the areas that the call left -------------------------------------------------------------------------
 
 -- the listing asks only for the number, the counts and two areas of an answer
-listed_same : (text : List ℕ) (c : Told) (items groups : List ℕ) (a : Annotated) → c.number ≡ a.number → c.groups ≡ a.groups
-    → c.items ≡ a.items → c.sources ≡ a.sources → items ≡ a.areas.items → groups ≡ a.areas.groups
-    → answer_lines text (answer_by c items groups) ≡ answer_lines text a
+listed_same : (text : List ℕ) (c a : Annotated) → c.number ≡ a.number → c.groups ≡ a.groups → c.items ≡ a.items → c.sources ≡ a.sources
+    → c.areas.items ≡ a.areas.items → c.areas.groups ≡ a.areas.groups → answer_lines text c ≡ answer_lines text a
 unfolding answer_lines count_line
-listed_same text c items groups a e₀ e₁ e₂ e₃ e₄ e₅ = rw (e₀, e₁, e₂, e₃, e₄, e₅) refl
+listed_same text c a e₀ e₁ e₂ e₃ e₄ e₅ = rw (e₀, e₁, e₂, e₃, e₄, e₅) refl
+
+-- what the call returned has the values of its answer
+counted : (r : Result Counts Refusal) (items groups : List ℕ) (note : ℕ)
+    → (answer_by r items groups).number ∷ (answer_by r items groups).groups ∷ (answer_by r items groups).items ∷ (answer_by r items groups).sources ∷ []
+    ≡ take 4 (count_values r note)
+counted (Ok c) items groups note = refl
+counted (Err e) items groups note = refl
+
+areas_by : (r : Result Counts Refusal) (items groups : List ℕ) → (answer_by r items groups).areas ≡ areas items groups [] []
+areas_by (Ok c) items groups = refl
+areas_by (Err e) items groups = refl
+
+few_by : (r : Result Counts Refusal) (items groups : List ℕ) → (answer_by r items groups).groups ≤ 65535 → IfOk r (λ c. c.groups ≤ 65535)
+few_by (Ok c) items groups h = h
+few_by (Err e) items groups h = tt
 
 listing_is : (text : List ℕ) → length text ≤ 4096 → answer_lines text (listing_answer text) ≡ listing_of text
 unfolding listing_of
 listing_is text h = rw (le-ltb 4096 (length text) h) refl
 
 module _ (text index items groups references labels out : List ℕ) (z : Ready text index items groups references labels out)
-    (answer : Annotation) (items' groups' : List ℕ) (c : Told)
+    (answer : Annotation) (items' groups' : List ℕ)
     (told : annotation_values answer
     ≡ annotation_numbers (annotate_run text 0 [] 0 index (replicate 65535 blank) (areas items groups references labels)))
     (item_area : items' ≡ (annotate_run text 0 [] 0 index (replicate 65535 blank) (areas items groups references labels)).answer.areas.items)
-    (group_area : groups' ≡ (annotate_run text 0 [] 0 index (replicate 65535 blank) (areas items groups references labels)).answer.areas.groups)
-    (counted : c.number ∷ c.groups ∷ c.items ∷ c.sources ∷ [] ≡ take 4 (annotation_values answer)) where
+    (group_area : groups' ≡ (annotate_run text 0 [] 0 index (replicate 65535 blank) (areas items groups references labels)).answer.areas.groups) where
   abbrev gave : Annotated
   gave = (ran text index items groups references labels out z).answer
 
-  numbers : c.number ∷ c.groups ∷ c.items ∷ c.sources ∷ [] ≡ gave.number ∷ gave.groups ∷ gave.items ∷ gave.sources ∷ []
-  unfolding annotation_numbers
-  numbers = counted ∙ ap (take 4) told
+  abbrev by : Annotated
+  by = answer_by answer.counts items' groups'
 
-  gives : answer_lines text (answer_by c items' groups') ≡ listing_of text
+  numbers : by.number ∷ by.groups ∷ by.items ∷ by.sources ∷ [] ≡ gave.number ∷ gave.groups ∷ gave.items ∷ gave.sources ∷ []
+  unfolding annotation_values annotation_numbers
+  numbers = counted answer.counts items' groups' answer.note ∙ ap (take 4) told
+
+  gives : answer_lines text by ≡ listing_of text
   gives =
       let n = numbers in
-      listed_same text c items' groups' gave (cc) (cc) (cc) (cc) item_area group_area
+      let e = areas_by answer.counts items' groups' in
+      listed_same text by gave (cc) (cc) (cc) (cc) (rw e item_area) (rw e group_area)
       ∙ ap (answer_lines text) (answer_is text index items groups references labels out z)
       ∙ listing_is text z.short
 
-  pub in_groups : c.groups ≤ 65535
+  pub in_groups : IfOk answer.counts (λ c. c.groups ≤ 65535)
   in_groups =
       let n = numbers in
-      let e : c.groups ≡ gave.groups = cc in
+      let e : by.groups ≡ gave.groups = cc in
       let f : gave.groups ≡ (listing_answer text).groups = ap (λ (a : Annotated). a.groups) (answer_is text index items groups references labels out z) in
       let l = groups_few text in
-      omega (arith, z.short)
+      few_by answer.counts items' groups' (omega (arith, z.short))
 
-  pub in_room : Room 0 (answer_lines text (answer_by c items' groups')) out
-  in_room = rw gives (omega (arith, z.room))
+  pub in_room : length (answer_lines text (answer_by answer.counts items' groups')) ≤ length out
+  in_room = rw gives z.room
 
-  pub in_listed : {out' : List ℕ} {r : ℕ} → Put 0 (answer_lines text (answer_by c items' groups')) out out' r → Wrote (listing_of text) out out' r
-  in_listed {out'} {r} p = record {
-    count = let e = ap length gives in omega (arith, p.end);
-    area = p.area ∙ rw gives (written_front (listing_of text) out);
-  }
+  pub in_listed : {out' : List ℕ} {r : ℕ} → Wrote (answer_lines text (answer_by answer.counts items' groups')) out out' r → Wrote (listing_of text) out out' r
+  in_listed p = rw gives at p
 
 pub ruleset in_laws = (in_groups, in_room, in_listed)

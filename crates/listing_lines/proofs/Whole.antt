@@ -2,7 +2,7 @@
 use Prim.Native.Nat.{ℕ, ◌+◌, ◌-◌, ◌*◌, ◌≤◌, ◌<◌}
 use native.Mathlib.Omega.{arith}
 use mathlib.Core.Path.{◌≡◌, refl, sym, ◌∙◌, ap}
-use mathlib.Core.List.{List, [], ◌∷◌, ◌++◌, append_assoc}
+use mathlib.Core.List.{List, [], ◌∷◌}
 use lib.ListN.{length, take, replicate, length-append, length-replicate, replicate-append-replicate}
 use lib.Seq.{take_at, length-take-le}
 use borrow.Author.Tests.{lt-ltb}
@@ -11,14 +11,10 @@ use Rattle.base.specs.Areas.{Wrote}
 use Rattle.base.specs.Ascii.{ascii}
 use Rattle.decimal.specs.Decimal.{decimal}
 use Rattle.decimal.proofs.Laws.{decimal_short}
-use Rattle.sweep.specs.Areas.{written_at}
-use Rattle.sweep.proofs.Areas.{written_front}
 use Rattle.base.proofs.Areas.{written_length}
 use Rattle.line_writers.specs.Lines.{refused_line}
 use Rattle.listing_lines.specs.Listing.{listing_of, Counts}
-use Rattle.line_writers.specs.Writes.{Put, Room}
 use Rattle.listing_lines.specs.Ready.{Ready}
-use Rattle.line_writers.proofs.Lines.{field, refused_word}
 use Rattle.listing_lines.proofs.Bound.{listing_short}
 use Rattle.records.specs.Widths.{item_width, group_width}
 
@@ -45,19 +41,13 @@ module _ (n m : ℕ) (a : List ℕ) (e : a ≡ replicate m 0) (h : n ≤ m) wher
   zeros_counted = rw zeros_cut (sym (length-replicate n 0))
 
 -- a text above 4,096 bytes
-pub long_room : (out : List ℕ) → 150000 ≤ length out → Room 0 (refused_word ++ field 1 10) out
-long_room out h = let d = decimal_short 1 in let e = length-append (decimal 1) (10 ∷ []) in omega arith
+pub long_room : (out : List ℕ) → 150000 ≤ length out → length (refused_line 1) ≤ length out
+unfolding refused_line ascii
+long_room out h = let d = decimal_short 1 in let e = length-append (decimal 1) (10 ∷ []) in simp length-append (omega arith)
 
-module _ (text out : List ℕ) where
-  long_is : 4096 < length text → listing_of text ≡ refused_word ++ field 1 10
-  unfolding listing_of refused_line ascii
-  long_is h = rw (lt-ltb 4096 (length text) h) (simp append_assoc refl)
-
-  pub long_listed : {out' : List ℕ} {r : ℕ} → 4096 < length text → Put 0 (refused_word ++ field 1 10) out out' r → Wrote (listing_of text) out out' r
-  long_listed h p = record {
-    count = let e = p.end in let s = ap length (long_is h) in omega arith;
-    area = p.area ∙ ap (λ (w : List ℕ). written_at 0 w out) (sym (long_is h)) ∙ written_front (listing_of text) out;
-  }
+pub long_is : (text : List ℕ) → 4096 < length text → listing_of text ≡ refused_line 1
+unfolding listing_of
+long_is text h = rw (lt-ltb 4096 (length text) h) refl
 
 -- any other text
 pub all_ready : (text index items groups references labels out : List ℕ) → length text ≤ 4096 → index ≡ replicate 4096 0 → items ≡ replicate (item_width * 4096) 0
