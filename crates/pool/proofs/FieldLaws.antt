@@ -13,12 +13,6 @@ pub field_long : (s : List ℕ) (at : ℕ) → at + 3 ≤ field_end s at
 unfolding field_end
 field_long s at = omega arith
 
-pub field_after : (s : List ℕ) (at : ℕ) {k : ℕ} → k ≡ field_end s at → at + 3 ≤ k
-field_after s at p = rw p (field_long s at)
-
-pub field_shrinks : (s : List ℕ) (at e : ℕ) {k : ℕ} → at < e → k ≡ field_end s at → e - k < e - at
-field_shrinks s at e h p = let l = field_long s at in omega arith
-
 fields_enough : (n m : ℕ) (s : List ℕ) (at e : ℕ) → e - at ≤ n → e - at ≤ m → fields_in n s at e ≡ fields_in m s at e
 unfolding fields_in
 fields_enough zero zero s at e h g = refl

@@ -152,8 +152,6 @@ pub split_short : (s : List ℕ) → length s < 3 → has_field s ≡ false
 unfolding has_field
 split_short s h = rw (lt-leb 3 (length s) h) refl
 
-pub ruleset split_laws = (split_past, split_is, split_short)
-
 -- no bytes are no fields, and others begin with one
 pub fields_none : (s : List ℕ) → are_fields s ≡ true → has_field s ≡ false → all_fields s ≡ []
 unfolding are_fields has_field

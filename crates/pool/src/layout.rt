@@ -71,7 +71,7 @@ pub fn entry_bounds(pool: &[u8], i: usize) -> (usize, usize)
 }
 
 // Whether entry `i` begins at `at`, and is one.
-#[tactic(auto, using(crate::proofs::LayoutLaws::pair_laws))]
+#[tactic(auto, using(std::proofs::lemmas::Grind::common_steps, crate::proofs::PartLaws::good_of_part), unfolding(crate::specs::Steps::pair_good))]
 fn is_pair(pool: &[u8], i: usize, at: usize) -> bool
     requires { 6 + 4 * i ≤ length pool.now }
     ensures { result ≡ pair_good pool.now i at }
@@ -81,7 +81,7 @@ fn is_pair(pool: &[u8], i: usize, at: usize) -> bool
 }
 
 // Whether `count` entries stand end to end, from after their pairs to the pool's end.
-#[tactic(auto, using(crate::proofs::LayoutLaws::entries_laws))]
+#[tactic(auto, using(std::proofs::lemmas::Grind::common_steps), unfolding(crate::specs::Layout::entries_good, crate::specs::Steps::pair_good))]
 fn are_entries(pool: &[u8], count: usize) -> bool
     requires { 2 + 4 * count ≤ length pool.now }
     ensures { result ≡ entries_good count pool.now 0 (2 + 4 * count) }
@@ -97,7 +97,7 @@ fn are_entries(pool: &[u8], count: usize) -> bool
 }
 
 // Whether the pool has its layout; no bytes are no pool, and break none.
-#[tactic(auto, using(crate::proofs::LayoutLaws::pool_laws))]
+#[tactic(auto, using(std::proofs::lemmas::Grind::common_steps), unfolding(crate::specs::Layout::well_formed, crate::specs::Layout::laid_out))]
 pub fn is_well_formed(pool: &[u8]) -> bool
     ensures { result ≡ well_formed pool.now }
 {

@@ -17,20 +17,7 @@ pub holds_as : {text text' before area : List ℕ} {k : ℕ} → text ≡ text' 
 holds_as {text} {text'} {before} {area} {k} e h = let P : List ℕ → Type 0 = λ t. Holds t before area k in subst P e h
 
 module _ (text before area : List ℕ) (k : ℕ) (h : Holds text before area k) (b : List ℕ) (e : ℕ) (q : e ≡ min (k + length b) 18446744073709551615) where
-  -- the bytes have no room
-  pub append_past : length area < 18446744073709551615 → length area < e → Holds (text ++ b) before area e
-  append_past s l =
-      record {
-        count = simp length-append (let c = h.count in omega arith);
-        size = h.size;
-        area = λ (r : length (text ++ b) ≤ length before).
-            let u : length text + length b ≤ length before = simp length-append at r in
-            let c = h.count in
-            let z = h.size in
-            absurd (omega arith);
-      }
-
-  -- they have
+  -- the bytes have room
   pub append_room : {p : List ℕ} → length area < 18446744073709551615 → e ≤ length area → p ≡ written b (take (length area - k) (drop k area))
       → Holds (text ++ b) before (take k area ++ (p ++ drop (length area - k) (drop k area))) e
   append_room {p} s l w =
