@@ -1,19 +1,18 @@
 -- The judgement on the items between a bracket and its close: what it says of them, and one piece at a time.
-use Prim.Native.Nat.{ℕ, suc, ◌+◌, ◌-◌, ◌≤◌, ◌<◌}
+use Prim.Native.Nat.{ℕ, suc, ◌+◌}
 use native.Mathlib.Omega.{arith}
-use mathlib.Core.Path.{◌≡◌, refl, sym, ◌∙◌, ap}
+use mathlib.Core.Path.{◌≡◌, refl, ap}
 use mathlib.Core.List.{List, [], ◌∷◌}
 use mathlib.Core.Bool.{Bool, true, false}
 use lib.ListN.{length}
 use Rattle.std.specs.Prelude.{Result, Ok, Err}
 use Rattle.item.specs.declared.BadItem.{BadItem}
 use Rattle.base.specs.Pick.{pick}
-use Rattle.base.specs.First.{first}
-use Rattle.item.specs.Items.{item_of, is_good}
-use Rattle.item.specs.Pieces.{Stretch, stretch, semicolon_at, pieces, items_start, pieces_of, parsed, all_good, items_of}
+use Rattle.item.specs.Items.{is_good}
+use Rattle.item.specs.Pieces.{Stretch, pieces_of, parsed, all_good, items_of}
 use Rattle.item.specs.Group.{good_items}
 use Rattle.item.specs.Judge.{bad_item_at, first_bad, judged_in, judged_of}
-use Rattle.item.proofs.Pieces.{pieces_more, pieces_last, items_count}
+use Rattle.item.proofs.Pieces.{items_count}
 
 -- what the judgement says ----------------------------------------------------------------------------------------------------------
 
@@ -42,18 +41,18 @@ unfoldable pub past : ℕ → Result ℕ BadItem → Result ℕ BadItem
 past n (Ok count) = Ok (n + count)
 past n (Err bad) = Err (bad_item_at (n + bad.item))
 
-past_next : (n : ℕ) (j : Result ℕ BadItem) → past n (past 1 j) ≡ past (n + 1) j
+pub past_next : (n : ℕ) (j : Result ℕ BadItem) → past n (past 1 j) ≡ past (n + 1) j
 unfolding past
 past_next n (Ok k) = ap Ok (omega arith)
 past_next n (Err bad) = ap err (omega arith)
 
-past_none : (j : Result ℕ BadItem) → j ≡ past 0 j
+pub past_none : (j : Result ℕ BadItem) → j ≡ past 0 j
 unfolding past
 past_none (Ok k) = ap Ok (omega arith)
 past_none (Err bad) = ap err (omega arith)
 
 -- a piece before others
-in_good : (s : List ℕ) (x : Stretch) (qs : List Stretch) → is_good (parsed s x) ≡ true → judged_in s (x ∷ qs) ≡ past 1 (judged_in s qs)
+pub in_good : (s : List ℕ) (x : Stretch) (qs : List Stretch) → is_good (parsed s x) ≡ true → judged_in s (x ∷ qs) ≡ past 1 (judged_in s qs)
 unfolding judged_in all_good first_bad past
 in_good s x qs g = rw g (go (all_good s qs))
   where
@@ -61,35 +60,11 @@ in_good s x qs g = rw g (go (all_good s qs))
     go true = ap Ok (omega arith)
     go false = ap err (omega arith)
 
-in_one : (s : List ℕ) (x : Stretch) → is_good (parsed s x) ≡ true → judged_in s (x ∷ []) ≡ Ok 1
-unfolding judged_in all_good
-in_one s x g = rw g
+-- no piece is left
+pub past_all : (s : List ℕ) (n : ℕ) → past n (judged_in s []) ≡ Ok n
+unfolding judged_in all_good past
+past_all s n = ap Ok (omega arith)
 
-in_bad : (s : List ℕ) (x : Stretch) (qs : List Stretch) → is_good (parsed s x) ≡ false → judged_in s (x ∷ qs) ≡ err 0
+pub in_bad : (s : List ℕ) (x : Stretch) (qs : List Stretch) → is_good (parsed s x) ≡ false → judged_in s (x ∷ qs) ≡ err 0
 unfolding judged_in all_good first_bad
 in_bad s x qs g = rw g
-
--- `w` is what the loop's invariant speaks of; the piece goes from `a` to `q`, and `b` is what its test gave
-pub judge_start : (s : List ℕ) (p c : ℕ) {a : ℕ} → a ≡ items_start s p → judged_of s p c ≡ past 0 (judged_in s (pieces s a c))
-unfolding judged_of pieces_of
-judge_start s p c d = rw d (past_none _)
-
-module _ (s : List ℕ) (n a e : ℕ) {w : Result ℕ BadItem} {q : ℕ} {b : Bool}
-    (p : w ≡ past n (judged_in s (pieces s a e))) (d : q ≡ first (semicolon_at s) (e - a) a) (g : b ≡ is_good (item_of s a q)) where
-  pub judge_more : q < e → b ≡ true → w ≡ past (n + 1) (judged_in s (pieces s (q + 1) e))
-  unfolding parsed
-  judge_more h t = p ∙ rw (pieces_more s a e d h, in_good s (stretch a q) (pieces s (q + 1) e) (sym g ∙ t)) (past_next n _)
-
-  pub judge_last : e ≤ q → b ≡ true → Ok (n + 1) ≡ w
-  unfolding parsed past
-  judge_last h t = sym (p ∙ rw (pieces_last s a e d h, in_one s (stretch a q) (sym g ∙ t)))
-
-  pub judge_bad : q < e → b ≡ false → err n ≡ w
-  unfolding parsed past
-  judge_bad h t = sym (p ∙ rw (pieces_more s a e d h, in_bad s (stretch a q) (pieces s (q + 1) e) (sym g ∙ t)) (ap err (omega arith)))
-
-  pub judge_bad_last : e ≤ q → b ≡ false → err n ≡ w
-  unfolding parsed past
-  judge_bad_last h t = sym (p ∙ rw (pieces_last s a e d h, in_bad s (stretch a q) [] (sym g ∙ t)) (ap err (omega arith)))
-
-pub ruleset judge_laws = (judge_start, judge_more, judge_last, judge_bad, judge_bad_last)

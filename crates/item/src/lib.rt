@@ -8,6 +8,7 @@ ghost use Rattle.key.specs.Keys.{key_end};
 ghost use Rattle.item.specs.Items.{key_serves, wins, winner, suppresses, prefix_end, item_at, item_of, is_good};
 ghost use Rattle.item.specs.Pieces.{semicolon_at, plus_at, items_start};
 ghost use Rattle.item.specs.Judge.{judged_of};
+ghost use Rattle.std.specs.Option.{ForSome};
 
 use base::search::first_place;
 use base::slices::{byte_at, find_byte};
@@ -151,28 +152,71 @@ pub fn parse_item(text: &[u8], start: usize, end: usize) -> Option<Item>
     }
 }
 
+// A piece of the text, the places from `from` up to `to`.
+#[derive(Clone, Copy)]
+pub struct Piece {
+    pub from: usize,
+    pub to: usize,
+}
+
+// The pieces of a stretch of the text that ends at `end`, or those that are left of it: the next one begins at `next`, and none is left where that
+// is missing.
+#[derive(Clone, Copy)]
+pub struct GroupPieces<'a> {
+    pub text: &'a [u8],
+    pub next: Option<usize>,
+    pub end: usize,
+    pub ghost inside: { (end ≤ length text.now) × ForSome next (λ a. a ≤ end + 1) },
+}
+
+impl<'a> Iterator for GroupPieces<'a> {
+    ghost use Rattle.std.specs.Iterator.{YieldsFirstBy, item_count};
+    ghost use Rattle.item.specs.Walk.{stretch_of, pieces_left};
+
+    type Item = Piece;
+
+    ghost next_gives = { YieldsFirstBy stretch_of pieces_left };
+
+    ghost remaining = { item_count pieces_left };
+
+    fn next(&mut self) -> Option<Piece> {
+        let from = self.next?;
+        let to = piece_end(self.text, from, self.end);
+        self.next = if to < self.end { Some(to + 1) } else { None };
+        Some(Piece { from, to })
+    }
+}
+
+impl<'a> GroupPieces<'a> {
+    ghost use Rattle.item.specs.Pieces.{pieces_of};
+    ghost use Rattle.item.specs.Walk.{pieces_left};
+
+    // The pieces between the bracket at `p` and the close at `c`.
+    pub fn between(text: &'a [u8], p: usize, c: usize) -> GroupPieces<'a>
+        requires { (p < c) × (c < length text.now) }
+        ensures { pieces_left result ≡ pieces_of text.now p c }
+    {
+        GroupPieces {
+            text,
+            next: Some(items_start(text, p)),
+            end: c,
+        }
+    }
+}
+
 // How many items stand between the bracket at `p` and the close at `c`, where all are good; else the first bad one.
 pub fn judge_items(text: &[u8], p: usize, c: usize) -> Result<usize, BadItem>
     requires { (p < c) × (c < length text.now) }
     ensures { result ≡ judged_of text.now p c }
 {
-    let mut from = items_start(text, p);
-    let mut to = piece_end(text, from, c);
-    let mut n = 0;
-    while to < c {
-        if is_good_item(text, from, to) {
-            n += 1;
-            from = to + 1;
-            to = piece_end(text, from, c);
-        } else {
-            return Err(BadItem { item: n });
+    let mut count = 0;
+    for piece in GroupPieces::between(text, p, c) {
+        if !is_good_item(text, piece.from, piece.to) {
+            return Err(BadItem { item: count });
         }
+        count += 1;
     }
-    if is_good_item(text, from, to) {
-        Ok(n + 1)
-    } else {
-        Err(BadItem { item: n })
-    }
+    Ok(count)
 }
 
 // The theorems of specs/Facts. The function does nothing; its contract states them.
