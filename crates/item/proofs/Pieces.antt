@@ -50,9 +50,6 @@ module _ (s : List ℕ) (a e : ℕ) {q : ℕ} (p : q ≡ first (semicolon_at s) 
   pub piece_by : a ≤ e → q ≤ e
   piece_by h = omega (arith, first_by (semicolon_at s) (e - a) a)
 
-  pub piece_fits : a ≤ length s → e ≤ length s → q ≤ length s
-  piece_fits h g = omega (arith, first_by (semicolon_at s) (e - a) a)
-
   pub pieces_more : q < e → pieces s a e ≡ stretch a q ∷ pieces s (q + 1) e
   unfolding pieces
   pieces_more h =
@@ -111,16 +108,6 @@ module _ (s : List ℕ) (p : ℕ) {a : ℕ} (d : a ≡ items_start s p) where
 
   pub starts_past : 0 < a
   starts_past = omega (arith, starts_after)
-
-  -- the first piece before a close at `c` ends in the text
-  pub first_fits : (c : ℕ) {q : ℕ} → q ≡ first (semicolon_at s) (c - a) a → p < c → c < length s → q ≤ length s
-  first_fits c e h g = piece_fits s a c e (omega (arith, starts_by)) (omega arith)
-
--- the piece after a `;` at `i` ends in the text
-pub next_fits : (s : List ℕ) (i e : ℕ) {q : ℕ} → q ≡ first (semicolon_at s) (e - (i + 1)) (i + 1) → i < e → e < length s → q ≤ length s
-next_fits s i e p h g = piece_fits s (i + 1) e p (omega arith) (omega arith)
-
-pub ruleset piece_laws = (piece_from, first_fits, starts_past)
 
 -- where all pieces are good there are as many items as pieces
 pub items_count : (s : List ℕ) (qs : List Stretch) → all_good s qs ≡ true → length (items_in s qs) ≡ length qs

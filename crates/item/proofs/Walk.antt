@@ -26,7 +26,7 @@ module _ (s : List ℕ) (e : ℕ) {n m : Option ℕ} {a q : ℕ} (b : n ≡ Some
 
 -- the pieces of a group end in the text, and are no more than its bytes
 module _ (s : List ℕ) (hi : ℕ) where
-  abbrev EndsBy : Stretch → Type 0
+  abbrev pub EndsBy : Stretch → Type 0
   EndsBy q = q.to ≤ hi
 
   ends_in : (n a i : ℕ) → i + n ≤ hi → Each EndsBy (pieces_in n s a i)
@@ -49,6 +49,13 @@ count_in s (suc n) a i = go (semicolon_at s i) (count_in s n (i + 1) (i + 1)) (c
     go true x y = omega arith
     go false x y = omega arith
 
+pub pieces_end : (s : List ℕ) (p c : ℕ) → p < c → c < length s → Each (EndsBy s (length s)) (pieces_of s p c)
+unfolding pieces_of pieces
+pieces_end s p c h k =
+    let a = items_start s p in
+    let b : a ≤ p + 2 = starts_by s p refl in
+    ends_in s (length s) (c - a) a a (omega arith)
+
 -- what the loop of the judgement keeps: `left` are the pieces that are left, after `n` good ones
 pub record Judging (s : List ℕ) (p c n : ℕ) (left : List Stretch) : Type 0 where
   pub ends : Each (EndsBy s (length s)) left
@@ -63,7 +70,7 @@ judging_start s p c h k e =
     let d : 0 < a = starts_past s p refl in
     rw e
     record {
-      ends = ends_in s (length s) (c - a) a a (omega arith);
+      ends = pieces_end s p c h k;
       few = omega (arith, count_in s (c - a) a a);
       judges = past_none _;
     }

@@ -1,21 +1,22 @@
 -- Item records, in the form of the needs of the code that writes them.
-use Prim.Native.Nat.{ℕ, suc, ◌+◌, ◌-◌, ◌*◌, ◌≤◌, ◌<◌}
+use Prim.Native.Nat.{ℕ, suc, ◌+◌, ◌-◌, ◌*◌, ◌≤◌}
 use native.Mathlib.Omega.{arith}
 use mathlib.Core.Path.{◌≡◌, refl, sym, ◌∙◌, ap}
-use mathlib.Core.List.{List, [], ◌∷◌, ◌++◌, flat_map, append-nil}
-use mathlib.Core.Bool.{true, true≢false}
-use lib.ListN.{length, take, drop, length-append}
+use mathlib.Core.List.{List, [], ◌∷◌, ◌++◌, flat_map}
+use mathlib.Core.Bool.{◌&&◌, true, true≢false}
+use lib.ListN.{length, take, drop, length-append, take-append-drop}
 use Rattle.std.specs.Prelude.{Option, Some, None}
-use Rattle.base.specs.First.{first}
 use Rattle.base.specs.Lists.{written}
 use Rattle.base.specs.declared.Span.{Span}
-use Rattle.base.proofs.Areas.{rest_room, came_back, back_length, back_next}
+use Rattle.base.proofs.Areas.{rest_room, back_length, back_next}
 use Rattle.item.specs.declared.Item.{Item}
 use Rattle.item.specs.Items.{item_of, is_good}
-use Rattle.item.specs.Pieces.{semicolon_at, pieces, items_start, pieces_of, all_good, kept, items_in, items_of}
+use Rattle.item.specs.Pieces.{Stretch, pieces_of, parsed, all_good, kept, items_in, items_of}
 use Rattle.item.specs.Facts.{parts_of}
 use Rattle.item.proofs.Bounds.{item_within}
-use Rattle.item.proofs.Pieces.{items_more, items_last, first_good, rest_good}
+use Rattle.item.proofs.Walk.{EndsBy, pieces_end}
+use Rattle.base.specs.Sorted.{Each}
+use Rattle.base.proofs.Bools.{and_left, and_right}
 use Rattle.item.specs.Group.{good_items, Group, group_of}
 use Rattle.records.specs.ItemRecords.{item_record, unnumbered_record, records_in, records_of, records_length}
 use Rattle.records.specs.Writing.{piece_record, Narrow, NarrowItem, Writable}
@@ -81,78 +82,74 @@ unfolding piece_record
 piece_length (Some it) g = record_length it
 piece_length None g = absurd (true≢false (sym g))
 
--- The loop: the pieces from `from` on are left, and their records belong to `items` from `n` on.
-pub record Writing (s : List ℕ) (p c : ℕ) (items₀ : List ℕ) (items : List ℕ) (from n : ℕ) : Type 0 where
+-- The loop: `left` are the pieces that are left, and their records belong to `items` from `n` on.
+pub record Writing (s : List ℕ) (p c : ℕ) (items₀ : List ℕ) (items : List ℕ) (left : List Stretch) (n : ℕ) : Type 0 where
   pub long : length items ≡ length items₀
-  pub good : all_good s (pieces s from c) ≡ true
-  pub room : n + item_width * length (items_in s (pieces s from c)) ≤ length items
-  pub gives : written (records_of (group_of s p c)) items₀ ≡ take n items ++ written (records_in (items_in s (pieces s from c))) (drop n items)
+  pub ends : Each (EndsBy s (length s)) left
+  pub good : all_good s left ≡ true
+  pub room : n + item_width * length (items_in s left) ≤ length items
+  pub gives : written (records_of (group_of s p c)) items₀ ≡ take n items ++ written (records_in (items_in s left)) (drop n items)
 
-pub writing_start : (s : List ℕ) (p c : ℕ) (items : List ℕ) {from : ℕ} → Writable s p c items → from ≡ items_start s p
-    → Writing s p c items items from 0
-unfolding good_items pieces_of records_of group_of items_of records_length
+pub writing_start : (s : List ℕ) (p c : ℕ) (items : List ℕ) {left : List Stretch} → Writable s p c items → left ≡ pieces_of s p c
+    → Writing s p c items items left 0
+unfolding good_items records_of group_of items_of records_length
 writing_start s p c items w f = record {
   long = refl;
+  ends = rw f (pieces_end s p c w.after w.inside);
   good = rw f w.good;
   room = rw f (omega (arith, w.room));
   gives = rw f;
 }
 
-module _ {s : List ℕ} {p c : ℕ} {items₀ : List ℕ} {items : List ℕ} {from n : ℕ} (w : Writing s p c items₀ items from n)
-    {q : ℕ} (d : q ≡ first (semicolon_at s) (c - from) from) where
-  piece_good_is : is_good (item_of s from q) ≡ true
-  piece_good_is = first_good s from c d w.good
+module _ {s : List ℕ} {p c : ℕ} {items₀ : List ℕ} {items : List ℕ} {x : Stretch} {left rest : List Stretch} {n : ℕ}
+    (w : Writing s p c items₀ items left n) (d : left ≡ x ∷ rest) where
+  all : (is_good (item_of s x.from x.to) && all_good s rest) ≡ true
+  unfolding all_good parsed
+  all = rw d at w.good
 
-  piece_record_length : length (piece_record (item_of s from q)) ≡ item_width
-  piece_record_length = piece_length (item_of s from q) piece_good_is
+  piece_good_is : is_good (item_of s x.from x.to) ≡ true
+  piece_good_is = and_left _ _ all
 
-  more_room : q < c → n + item_width + item_width * length (items_in s (pieces s (q + 1) c)) ≤ length items
-  more_room h =
-      let e = ap length (items_more s from c d h) in
-      let k = kept_length (item_of s from q) (items_in s (pieces s (q + 1) c)) piece_good_is in
+  piece_record_length : length (piece_record (item_of s x.from x.to)) ≡ item_width
+  piece_record_length = piece_length (item_of s x.from x.to) piece_good_is
+
+  these : items_in s left ≡ kept (item_of s x.from x.to) (items_in s rest)
+  unfolding items_in parsed
+  these = rw d refl
+
+  more_room : n + item_width + item_width * length (items_in s rest) ≤ length items
+  more_room =
+      let e = ap length these in
+      let k = kept_length (item_of s x.from x.to) (items_in s rest) piece_good_is in
       omega (arith, w.room)
 
-  last_room : c ≤ q → n + item_width ≤ length items
-  last_room h =
-      let e = ap length (items_last s from c d h) in
-      let k = kept_length (item_of s from q) [] piece_good_is in
-      omega (arith, w.room)
+  pub next_inside : x.to ≤ length s
+  next_inside = (rw d at w.ends).0
 
-  pub next_room : q < c → item_width ≤ length (take (length items - n) (drop n items))
-  next_room h = rest_room items n item_width (omega (arith, more_room h))
-
-  pub end_room : c ≤ q → item_width ≤ length (take (length items - n) (drop n items))
-  end_room h = rest_room items n item_width (last_room h)
+  pub next_room : item_width ≤ length (take (length items - n) (drop n items))
+  next_room = rest_room items n item_width (omega (arith, more_room))
 
   -- the rest of the area came back with the record of the piece
-  module _ {x : List ℕ} (o : x ≡ written (piece_record (item_of s from q)) (take (length items - n) (drop n items))) where
-    pub writing_next : q < c → Writing s p c items₀ (take n items ++ (x ++ drop (length items - n) (drop n items))) (q + 1) (n + item_width)
-    writing_next h =
-        let r = piece_record (item_of s from q) in
-        let its = items_in s (pieces s (q + 1) c) in
-        let l = piece_record_length in
-        let k = more_room h in
-        let m : n + length r ≤ length items = omega arith in
-        let e = back_length n items r m o in
-        let g = rw (items_more s from c d h, kept_records (item_of s from q) its) at w.gives in
-        record {
-          long = e ∙ w.long;
-          good = rest_good s from c d w.good h;
-          room = rw e k;
-          gives = rw l at (back_next n items r m o (records_in its) g);
-        }
+  pub writing_next : {o : List ℕ} → o ≡ written (piece_record (item_of s x.from x.to)) (take (length items - n) (drop n items))
+      → Writing s p c items₀ (take n items ++ (o ++ drop (length items - n) (drop n items))) rest (n + item_width)
+  writing_next {o} q =
+      let r = piece_record (item_of s x.from x.to) in
+      let its = items_in s rest in
+      let l = piece_record_length in
+      let k = more_room in
+      let m : n + length r ≤ length items = omega arith in
+      let e = back_length n items r m q in
+      let g = rw (these, kept_records (item_of s x.from x.to) its) at w.gives in
+      record {
+        long = e ∙ w.long;
+        ends = (rw d at w.ends).1;
+        good = and_right (is_good (item_of s x.from x.to)) _ all;
+        room = rw e k;
+        gives = rw l at (back_next n items r m q (records_in its) g);
+      }
 
-    pub writing_end : c ≤ q → take n items ++ (x ++ drop (length items - n) (drop n items)) ≡ written (records_of (group_of s p c)) items₀
-    unfolding flat_map
-    writing_end h =
-        let r = piece_record (item_of s from q) in
-        let g = rw (items_last s from c d h, kept_records (item_of s from q) [], append-nil r) at w.gives in
-        came_back n items r o ∙ sym g
-
-    pub end_length : c ≤ q → length (take n items ++ (x ++ drop (length items - n) (drop n items))) ≡ length items₀
-    end_length h =
-        let l = piece_record_length in
-        let k = last_room h in
-        back_length n items (piece_record (item_of s from q)) (omega arith) o ∙ w.long
-
-pub ruleset writing_laws = (writing_start, next_room, end_room, writing_next, writing_end, end_length)
+-- no piece is left
+pub writing_end : {s : List ℕ} {p c : ℕ} {items₀ : List ℕ} {items : List ℕ} {left : List Stretch} {n : ℕ} → Writing s p c items₀ items left n
+    → left ≡ [] → items ≡ written (records_of (group_of s p c)) items₀
+unfolding items_in flat_map written
+writing_end {items = items} {n = n} w e = sym (w.gives ∙ rw e (take-append-drop n items))

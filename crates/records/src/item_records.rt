@@ -9,7 +9,7 @@ ghost use Rattle.records.specs.Writing.{piece_record, NarrowItem, Writable};
 ghost use Rattle.records.specs.Widths.{item_width};
 
 use crate::ITEM_WIDTH;
-use item::{Item, items_start, parse_item, piece_end};
+use item::{GroupPieces, Item, parse_item};
 use locator::{code_of, suffix_of, value_of};
 
 // The record of an item.
@@ -52,19 +52,13 @@ fn write_piece(text: &[u8], from: usize, to: usize, row: &mut [u16])
 }
 
 // The records of the items of the group at `p` with its close at `c`, at the front of `items`.
-#[tactic(auto, using(crate::proofs::RecordLaws::end_room, crate::proofs::RecordLaws::writing_end))]
 pub fn write_records(text: &[u8], p: usize, c: usize, items: &mut [u16])
     requires { Writable text.now p c items.old }
     ensures { items.new ≡ written (records_of (group_of text.now p c)) items.old }
 {
-    let mut from = items_start(text, p);
-    let mut to = piece_end(text, from, c);
     let mut n = 0;
-    while to < c {
-        write_piece(text, from, to, &mut items[n..]);
+    for piece in GroupPieces::between(text, p, c) {
+        write_piece(text, piece.from, piece.to, &mut items[n..]);
         n += ITEM_WIDTH;
-        from = to + 1;
-        to = piece_end(text, from, c);
     }
-    write_piece(text, from, to, &mut items[n..]);
 }
