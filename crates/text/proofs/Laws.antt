@@ -1,5 +1,4 @@
--- Escapes, and the ends of trimmed stretches. Most laws have the form of a need of the code: premises are what the loop's invariant, the
--- callees and the branches say.
+-- Escapes, and the ends of trimmed stretches, unrolled at a place.
 use Prim.Native.Nat.{ℕ, zero, suc, ◌+◌, ◌-◌, ◌%◌, ◌≤◌, ◌<◌}
 use native.Mathlib.Omega.{arith}
 use mathlib.Core.Path.{◌≡◌, refl, sym, ◌∙◌, ap}
@@ -11,7 +10,7 @@ use Rattle.base.specs.Pick.{pick}
 use Rattle.base.specs.Lists.{byte_at}
 use Rattle.base.specs.Last.{last_end}
 use Rattle.base.proofs.Searches.{first_out, first_stop, first_more}
-use Rattle.base.proofs.Lasts.{last_end_out, last_end_stop, last_end_more}
+use Rattle.base.proofs.Lasts.{last_end_stop, last_end_more}
 use Rattle.text.specs.Escape.{slashes, escaped_at}
 use Rattle.white.specs.White.{is_white}
 use Rattle.text.specs.Trim.{trim_start, trim_end}
@@ -45,8 +44,6 @@ escaped_next s i = go (eqb (byte_at s i) 92)
     go true = odd (slashes s i) (eqb (slashes s i % 2) 1) refl
     go false = refl
 
-pub ruleset slash_laws = (slashes_after)
-
 -- trims --------------------------------------------------------------------------------------------------------------------------
 
 module _ (s : List ℕ) (i e : ℕ) {w : ℕ} (p : w ≡ trim_start s i e) where
@@ -63,10 +60,6 @@ module _ (s : List ℕ) (i e : ℕ) {w : ℕ} (p : w ≡ trim_start s i e) where
   start_more h q t = first_more (λ k. not (is_white s k)) i e p h (ap not (sym q ∙ t))
 
 module _ (s : List ℕ) (a i : ℕ) {w : ℕ} (p : w ≡ trim_end s a i) where
-  pub end_out : i ≤ a → a ≡ w
-  unfolding trim_end
-  end_out = last_end_out (λ k. not (is_white s k)) a i a p
-
   pub end_stop : {b : Bool} → a < i → b ≡ is_white s (i - 1) → b ≡ false → i ≡ w
   unfolding trim_end
   end_stop h q f = last_end_stop (λ k. not (is_white s k)) a i a p h (ap not (sym q ∙ f))
@@ -82,5 +75,3 @@ white_one_lem s i {k} p = go (is_white s i) refl
     go : (t : Bool) → is_white s i ≡ t → ltb i k ≡ t
     go true q = let r = start_out s (i + 1) (i + 1) (start_more s i (i + 1) p (omega arith) (sym q) refl) (omega arith) in lt-ltb i k (omega arith)
     go false q = let r = start_stop s i (i + 1) p (omega arith) (sym q) refl in le-ltb i k (omega arith)
-
-pub ruleset trim_laws = (start_out, start_stop, start_more, end_out, end_stop, end_more, white_one_lem)
