@@ -9,28 +9,28 @@ use Rattle.std.specs.Prelude.{◌==◌}
 use Rattle.base.specs.Lists.{written}
 use Rattle.base.proofs.Areas.{written_after, back_length}
 use Rattle.source.specs.Entry.{is_empty}
+use Rattle.source_parts.specs.declared.Text.{Text}
 use Rattle.source_parts.specs.Joined.{beside}
 use Rattle.source_parts.specs.Parts.{Holds}
 
 -- the same text by an equation
-pub holds_as : {text text' before area : List ℕ} {k : ℕ} → text ≡ text' → Holds text before area k → Holds text' before area k
-holds_as {text} {text'} {before} {area} {k} e h = let P : List ℕ → Type 0 = λ t. Holds t before area k in subst P e h
+pub holds_as : {text text' before : List ℕ} {t : Text} → text ≡ text' → Holds text before t → Holds text' before t
+holds_as {text} {text'} {before} {t} e h = let P : List ℕ → Type 0 = λ x. Holds x before t in subst P e h
 
-module _ (text before area : List ℕ) (k : ℕ) (h : Holds text before area k) (b : List ℕ) (e : ℕ) (q : e ≡ min (k + length b) 18446744073709551615) where
-  -- the bytes have room
-  pub append_room : {p : List ℕ} → length area < 18446744073709551615 → e ≤ length area → p ≡ written b (take (length area - k) (drop k area))
-      → Holds (text ++ b) before (take k area ++ (p ++ drop (length area - k) (drop k area))) e
-  append_room {p} s l w =
-      let c = h.count in
-      let z = h.size in
-      let t : k ≡ length text = omega arith in
-      let m : k + length b ≤ length area = omega arith in
-      record {
-        count = simp length-append (omega arith);
-        size = back_length k area b m w ∙ z;
-        area = λ (r : length (text ++ b) ≤ length before).
-            written_after before area text b p k (h.area (omega arith)) t (omega arith) w;
-      }
+-- bytes that have room
+pub push_room : (text before b p : List ℕ) (t u : Text) → Holds text before t → u.len ≡ min (t.len + length b) 18446744073709551615
+    → length t.area.now < 18446744073709551615 → u.len ≤ length t.area.now → p ≡ written b (take (length t.area.now - t.len) (drop t.len t.area.now))
+    → u.area.now ≡ take t.len t.area.now ++ (p ++ drop (length t.area.now - t.len) (drop t.len t.area.now)) → Holds (text ++ b) before u
+push_room text before b p t u h q s l w e =
+    let c = h.count in
+    let z = h.size in
+    let y : t.len ≡ length text = omega arith in
+    let m : t.len + length b ≤ length t.area.now = omega arith in
+    record {
+      count = simp length-append (omega arith);
+      size = rw e (back_length t.len t.area.now b m w ∙ z);
+      area = λ (r : length (text ++ b) ≤ length before). e ∙ written_after before t.area.now text b p t.len (h.area (omega arith)) y (omega arith) w;
+    }
 
 -- which parts are empty
 pub not_first : (o i c : List ℕ) → (length o == 0) ≡ false → false ≡ is_empty (o ++ (i ++ c))

@@ -2,14 +2,14 @@
 use Rattle.std.specs.Prelude.{ℕ, ◌≤◌, ◌≡◌, List, ◌++◌, length, min}
 use Rattle.base.specs.Lists.{written}
 use Rattle.source_parts.specs.declared.Part.{Part}
+use Rattle.source_parts.specs.declared.Text.{Text}
 
 -- the pieces of a part, one after the other
 abbrev pub part_text : Part → List ℕ
 part_text p = p.opening.now ++ (p.inner.now ++ p.closing.now)
 
--- a text of `n` bytes stands at the front of an area that was `before` and is `after`, if it has room there; the count stops at the
--- largest number
-pub record Holds (text before after : List ℕ) (n : ℕ) : Type 0 where
-  pub count : n ≡ min (length text) 18446744073709551615
-  pub size : length after ≡ length before
-  pub area : length text ≤ length before → after ≡ written text before
+-- a text stands at the front of an area that was `before`, if it has room there; its bytes are counted up to the largest number
+pub record Holds (text before : List ℕ) (t : Text) : Type 0 where
+  pub count : t.len ≡ min (length text) 18446744073709551615
+  pub size : length t.area.now ≡ length before
+  pub area : length text ≤ length before → t.area.now ≡ written text before

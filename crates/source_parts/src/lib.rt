@@ -74,37 +74,50 @@ impl<'a> Part<'a> {
     }
 }
 
-// `bytes` after a text of `k` bytes at the front of `area`, if they have room there. How many bytes there are then.
-pub fn append(area: &mut [u8], k: usize, bytes: &[u8]) -> usize
-    ensures { (text before : List ℕ) → Holds text before area.old k → Holds (text ++ bytes.now) before area.new result }
-{
-    let end = k.saturating_add(bytes.len());
-    if end <= area.len() {
-        source::write_bytes(bytes, &mut area[k..]);
-    }
-    end
+// A text that is put together at the front of an area, and how many bytes it has, which are counted also where it has no room there.
+#[derive(Drop)]
+pub struct Text<'a> {
+    pub area: &'a mut [u8],
+    pub len: usize,
 }
 
-// The pieces of a part after such a text.
-fn append_part(area: &mut [u8], k: usize, part: Part) -> usize
-    ensures { (text before : List ℕ) → Holds text before area.old k → Holds (text ++ part_text part.entry) before area.new result }
-{
-    let k = append(area, k, part.opening);
-    let k = append(area, k, part.inner);
-    append(area, k, part.closing)
-}
+impl Text<'_> {
+    // Adds bytes.
+    pub fn push(&mut self, bytes: &[u8])
+        ensures pushed { (text before : List ℕ) → Holds text before self.old → Holds (text ++ bytes.now) before self.new }
+        ensures same_area { self.new.area.ghost_name ≡ self.old.area.ghost_name }
+    {
+        let start = self.len;
+        self.len = start.saturating_add(bytes.len());
+        if self.len <= self.area.len() {
+            source::write_bytes(bytes, &mut self.area[start..]);
+        }
+    }
 
-// A part beside such a text, with `separator` between them; an empty one falls out together with it.
-pub fn join(area: &mut [u8], k: usize, separator: &[u8], part: Part) -> usize
-    ensures { (text before : List ℕ) → Holds text before area.old k
-        → Holds (beside separator.now text (part_text part.entry)) before area.new result }
-{
-    if part.is_empty() {
-        return k;
+    // Adds the pieces of a part.
+    fn push_part(&mut self, part: Part)
+        ensures pushed { (text before : List ℕ) → Holds text before self.old → Holds (text ++ part_text part.entry) before self.new }
+        ensures same_area { self.new.area.ghost_name ≡ self.old.area.ghost_name }
+    {
+        self.push(part.opening);
+        self.push(part.inner);
+        self.push(part.closing);
     }
-    if k == 0 {
-        return append_part(area, 0, part);
+
+    // Adds a part with `separator` before it; an empty one falls out together with that.
+    pub fn join(&mut self, separator: &[u8], part: Part)
+        ensures joined { (text before : List ℕ) → Holds text before self.old
+            → Holds (beside separator.now text (part_text part.entry)) before self.new }
+        ensures same_area { self.new.area.ghost_name ≡ self.old.area.ghost_name }
+    {
+        if part.is_empty() {
+            return;
+        }
+        if self.len == 0 {
+            self.push_part(part);
+            return;
+        }
+        self.push(separator);
+        self.push_part(part);
     }
-    let k = append(area, k, separator);
-    append_part(area, k, part)
 }

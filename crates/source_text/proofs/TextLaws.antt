@@ -1,9 +1,9 @@
 -- The text of an entry, a part after the other.
-use Prim.Native.Nat.{ℕ}
+use Prim.Native.Nat.{ℕ, ◌≤◌}
 use native.Mathlib.Omega.{arith}
 use mathlib.Core.Path.{◌≡◌, refl, sym, ◌∙◌}
 use mathlib.Core.List.{List, [], ◌∷◌, ◌++◌}
-use mathlib.Core.Option.{none, some, get_or}
+use mathlib.Core.Option.{none, some}
 use lib.ListN.{length, take}
 use Rattle.std.specs.Prelude.{ℤ, FitsSigned}
 use Rattle.std.specs.Prelude.{Option as Answer, Some, None}
@@ -20,6 +20,7 @@ use Rattle.pool.specs.Entries.{Name, Entry, field_with, names_in, entry_of}
 use Rattle.pool.specs.Readers.{lent, sign_of}
 use Rattle.source.specs.Decimal.{signed_decimal}
 use Rattle.source.specs.Entry.{is_empty, year_of}
+use Rattle.source_parts.specs.declared.Text.{Text}
 use Rattle.source_parts.specs.Joined.{beside}
 use Rattle.source_parts.specs.Names.{name_of}
 use Rattle.source_parts.specs.Parens.{in_parens}
@@ -46,31 +47,26 @@ module _ (e : Entry) where
       let u : take k out ≡ signed_decimal (sign_of n) = rw w (written_front (signed_decimal (sign_of (cast_signed w64 (cast_unsigned w64 n)))) area k l ∙ rw z refl) in
       head_text t (signed_decimal (sign_of n)) y (p ∙ rw u refl)
 
-  -- the title beside those
-  pub body_title : (t : List ℕ) → t ≡ get_or e.title [] → beside (46 ∷ 32 ∷ []) (head_of e) t ≡ body_of e
-  unfolding body_of
-  body_title t p = rw p refl
-
   -- and the stop
-  pub text_none : {before area : List ℕ} {k : ℕ} → Holds (body_of e) before area k → k ≡ 0 → Holds (source_text_of e) before area 0
+  pub text_none : {before : List ℕ} {t : Text} → Holds (body_of e) before t → t.len ≡ 0 → Holds (source_text_of e) before t
   unfolding source_text_of ended
-  text_none {before} {area} {k} h z = go (body_of e) refl h
+  text_none {before} {t} h z = go (body_of e) refl h
     where
-      go : (b : List ℕ) → body_of e ≡ b → Holds b before area k → Holds (pick (is_empty (body_of e)) [] (body_of e ++ (46 ∷ []))) before area 0
-      go [] q w = rw q (record { count = refl; size = w.size; area = w.area })
+      go : (b : List ℕ) → body_of e ≡ b → Holds b before t → Holds (pick (is_empty (body_of e)) [] (body_of e ++ (46 ∷ []))) before t
+      go [] q w = rw q w
       go (x ∷ xs) q w = let c = w.count in absurd (omega arith)
 
-  pub text_stop : {before area : List ℕ} {k : ℕ} → Holds (body_of e) before area k → (k ≡ 0 → ⊥) → body_of e ++ (46 ∷ []) ≡ source_text_of e
+  pub text_stop : {before : List ℕ} {t : Text} → Holds (body_of e) before t → (t.len ≡ 0 → ⊥) → body_of e ++ (46 ∷ []) ≡ source_text_of e
   unfolding source_text_of ended
-  text_stop {before} {area} {k} h n = go (body_of e) refl h
+  text_stop {before} {t} h n = go (body_of e) refl h
     where
-      go : (b : List ℕ) → body_of e ≡ b → Holds b before area k → body_of e ++ (46 ∷ []) ≡ pick (is_empty (body_of e)) [] (body_of e ++ (46 ∷ []))
+      go : (b : List ℕ) → body_of e ≡ b → Holds b before t → body_of e ++ (46 ∷ []) ≡ pick (is_empty (body_of e)) [] (body_of e ++ (46 ∷ []))
       go [] q w = absurd (n w.count)
       go (x ∷ xs) q w = rw q refl
 
 -- the names, one after the other
-pub nothing_held : (s : List ℕ) → Holds [] s s 0
-nothing_held s = record { count = refl; size = refl; area = λ h. written_none s }
+pub nothing_held : (t : Text) → t.len ≡ 0 → Holds [] t.area.now t
+nothing_held t z = record { count = z; size = refl; area = λ h. written_none t.area.now }
 
 pub names_step : (text t : List ℕ) (n : Name) (ns others : List Name) {w : List ℕ} → w ≡ fold add_name text ns → ns ≡ n ∷ others → t ≡ name_of n
     → w ≡ fold add_name (beside (59 ∷ 32 ∷ []) text t) others
@@ -82,9 +78,14 @@ pub names_end : (fs : List Field) (text : List ℕ) (a b : List Name) → fold a
 unfolding fold names_of entry_of
 names_end fs text a b g e p = sym (g ∙ rw e refl) ∙ rw p refl
 
--- the title, where there is one
-pub title_is : (fs : List Field) (o : Answer (Bor (List ℕ))) (d t : Bor (List ℕ)) → d.now ≡ [] → t ≡ unwrap_or o d → lent o ≡ field_with 8 fs
-    → t.now ≡ get_or (entry_of fs).title []
-unfolding entry_of
-title_is fs None d t z e q = rw (← q, e) z
-title_is fs (Some b) d t z e q = rw (← q, e) refl
+-- the title beside the head
+pub body_title : (fs : List Field) (o : Answer (Bor (List ℕ))) (d t : Bor (List ℕ)) {x : List ℕ} → d.now ≡ [] → t ≡ unwrap_or o d → lent o ≡ field_with 8 fs
+    → x ≡ t.now → beside (46 ∷ 32 ∷ []) (head_of (entry_of fs)) x ≡ body_of (entry_of fs)
+unfolding body_of entry_of
+body_title fs None d t z e q p = rw (← q, p, e, z) refl
+body_title fs (Some b) d t z e q p = rw (← q, p, e) refl
+
+-- what the area holds at last, where the text has room in it
+pub held_area : (out before : List ℕ) (u : Text) {name : ℕ} {last : List ℕ} → Holds out before u → u.area.ghost_name ≡ name
+    → (name ≡ u.area.ghost_name → last ≡ u.area.now) → length out ≤ length before → last ≡ written out before
+held_area out before u h n e r = e (sym n) ∙ h.area r

@@ -1,62 +1,65 @@
 // The text of a source: names, year and title of an entry of the pool.
 #![tactic(auto)]
 
-ghost use Rattle.std.specs.Prelude.{◌≡◌, List, ℕ};
+ghost use Rattle.std.specs.Prelude.{◌≡◌, ◌≤◌, [], List, ℕ, length, min};
+ghost use Rattle.base.specs.Lists.{written};
 ghost use Rattle.pool.specs.Entries.{entry_of};
 ghost use Rattle.pool.specs.Views.{fields_left};
 ghost use Rattle.source_parts.specs.Parts.{Holds};
 ghost use Rattle.source_text.specs.Call.{source_text_call};
-ghost use Rattle.source_text.specs.Text.{names_of, head_of, body_of, source_text_of};
+ghost use Rattle.source_text.specs.Text.{names_of, head_of, source_text_of};
 ghost use Rattle.source_text.specs.Values.{source_text_values, source_text_numbers, source_text_answer};
 
 use base::refusal::Refusal;
 use pool::Pool;
 use pool::fields::{Fields, tag};
 use source::Year;
-use source_parts::{Part, append, join};
+use source_parts::{Part, Text};
 
-// The names of an entry, joined, at the front of `area`, if they have room there. How many bytes they are.
-fn write_names(fields: Fields, area: &mut [u8]) -> usize
-    ensures { Holds (names_of (entry_of (fields_left fields.entry))) area.old area.new result }
+// Adds the names of an entry, joined, to an empty text.
+fn add_names(fields: Fields, text: &mut Text)
+    ensures names { (before : List ℕ) → Holds [] before text.old
+        → Holds (names_of (entry_of (fields_left fields.entry))) before text.new }
+    ensures same_area { text.new.area.ghost_name ≡ text.old.area.ghost_name }
 {
-    let mut k = 0;
     for name in fields.names() {
-        k = join(area, k, b"; ", Part::name(name));
+        text.join(b"; ", Part::name(name));
     }
-    k
 }
 
-// The year in parentheses beside the names, which are `k` bytes at the front of `area`.
-fn add_year(fields: Fields, area: &mut [u8], k: usize) -> usize
-    ensures { (before : List ℕ) → Holds (names_of (entry_of (fields_left fields.entry))) before area.old k
-        → Holds (head_of (entry_of (fields_left fields.entry))) before area.new result }
+// Adds the year in parentheses to the names.
+fn add_year(fields: Fields, text: &mut Text)
+    ensures head { (before : List ℕ) → Holds (names_of (entry_of (fields_left fields.entry))) before text.old
+        → Holds (head_of (entry_of (fields_left fields.entry))) before text.new }
+    ensures same_area { text.new.area.ghost_name ≡ text.old.area.ghost_name }
 {
-    let Some(year) = source::csl_year(fields) else {
-        return k;
-    };
-    match year {
-        Year::Number(number) => {
+    match source::csl_year(fields) {
+        None => {}
+        Some(Year::Text(year)) => text.join(b" ", Part::in_parens(year)),
+        Some(Year::Number(number)) => {
             let mut digits = [0; 21];
             let n = source::signed_len(number);
             source::write_signed(number, &mut digits);
-            join(area, k, b" ", Part::in_parens(&digits[..n]))
+            text.join(b" ", Part::in_parens(&digits[..n]));
         }
-        Year::Text(text) => join(area, k, b" ", Part::in_parens(text)),
     }
 }
 
-// The text of an entry at the front of `area`, if it has room there (`csl_to_def`). How many bytes it is.
+// The text of an entry at the front of `area`, if it has room there (`csl_to_def`). How many bytes it is, up to the largest number.
 fn write_text(fields: Fields, area: &mut [u8]) -> usize
-    ensures { Holds (source_text_of (entry_of (fields_left fields.entry))) area.old area.new result }
+    ensures count { result ≡ min (length (source_text_of (entry_of (fields_left fields.entry)))) usize.MAX }
+    ensures area { let out = source_text_of (entry_of (fields_left fields.entry)) in
+        length out ≤ length area.old → area.new ≡ written out area.old }
 {
-    let names = write_names(fields, area);
-    let head = add_year(fields, area, names);
-    let title = fields.field(tag::TITLE).unwrap_or(&[]);
-    let body = join(area, head, b". ", Part::plain(title));
-    if body == 0 {
+    let mut text = Text { area, len: 0 };
+    add_names(fields, &mut text);
+    add_year(fields, &mut text);
+    text.join(b". ", Part::plain(fields.field(tag::TITLE).unwrap_or(&[])));
+    if text.len == 0 {
         return 0;
     }
-    append(area, body, b".")
+    text.push(b".");
+    text.len
 }
 
 // "source text 7, 8, 10": the text of entry `entry` at the front of `area`. A refusal touches nothing.

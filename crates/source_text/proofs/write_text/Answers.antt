@@ -1,24 +1,34 @@
-use Rattle.std.proofs.Common.{refl, ◌∙◌}
+use Rattle.std.proofs.Common.{◌∙◌, sym, refl, rules}
 use Rattle.pool.specs.Entries.{entry_of}
 use Rattle.pool.specs.Views.{fields_left}
 use Rattle.source_parts.specs.Parts.{Holds}
 use Rattle.source_parts.proofs.PartLaws.{holds_as}
-use Rattle.source_text.specs.Text.{body_of}
-use Rattle.source_text.proofs.TextLaws.{body_title, text_none, text_stop, title_is}
+use Rattle.source_text.specs.Text.{body_of, source_text_of}
+use Rattle.source_text.proofs.TextLaws.{nothing_held, body_title, text_none, text_stop, held_area}
 use Rattle.source_text.proofs.write_text.Goals as goal
 
-pub returns-then-body-eq0 : goal.returns-then-body-eq0
-returns-then-body-eq0 c =
+pub returns-then-text-eq0 : goal.returns-then-text-eq0
+returns-then-text-eq0 c =
     let e = entry_of (fields_left c.args.fields) in
-    let t = title_is (fields_left c.args.fields) c.field.result _ c.unwrap_or-title.result refl c.unwrap_or-title.ensures c.field.ensures in
-    let h : Holds (body_of e) c.args.area.now c.join-body.new.area c.join-body.result =
-    holds_as (body_title e _ (c.plain.ensures ∙ t)) (c.join-body.ensures _ _ (c.add_year-head.ensures _ c.write_names-names.ensures)) in
-    text_none e h c.if-body-eq0.true
+    let h : Holds (body_of e) c.args.area.now c.join.new.self =
+    holds_as (body_title (fields_left c.args.fields) c.field.result _ c.unwrap_or.result refl c.unwrap_or.ensures c.field.ensures c.plain.ensures)
+    (c.join.ensures.joined _ _ (c.add_year.ensures.head _ (c.add_names.ensures.names _ (nothing_held _ refl)))) in
+    let k = text_none e h c.if-text-eq0.true in
+    let n = c.join.ensures.same_area ∙ c.add_year.ensures.same_area ∙ c.add_names.ensures.same_area in
+    record {
+      count = sym c.if-text-eq0.true ∙ k.count;
+      area = λ r. held_area (source_text_of e) c.args.area.now c.join.new.self k n (search rules) r;
+    }
 
 pub returns : goal.returns
 returns c =
     let e = entry_of (fields_left c.args.fields) in
-    let t = title_is (fields_left c.args.fields) c.field.result _ c.unwrap_or-title.result refl c.unwrap_or-title.ensures c.field.ensures in
-    let h : Holds (body_of e) c.args.area.now c.join-body.new.area c.join-body.result =
-    holds_as (body_title e _ (c.plain.ensures ∙ t)) (c.join-body.ensures _ _ (c.add_year-head.ensures _ c.write_names-names.ensures)) in
-    holds_as (text_stop e h c.if-body-eq0.false) (c.append.ensures _ _ h)
+    let h : Holds (body_of e) c.args.area.now c.join.new.self =
+    holds_as (body_title (fields_left c.args.fields) c.field.result _ c.unwrap_or.result refl c.unwrap_or.ensures c.field.ensures c.plain.ensures)
+    (c.join.ensures.joined _ _ (c.add_year.ensures.head _ (c.add_names.ensures.names _ (nothing_held _ refl)))) in
+    let k = holds_as (text_stop e h c.if-text-eq0.false) (c.push.ensures.pushed _ _ h) in
+    let n = c.push.ensures.same_area ∙ c.join.ensures.same_area ∙ c.add_year.ensures.same_area ∙ c.add_names.ensures.same_area in
+    record {
+      count = k.count;
+      area = λ r. held_area (source_text_of e) c.args.area.now c.push.new.self k n (search rules) r;
+    }
