@@ -5,8 +5,8 @@ use mathlib.Core.Path.{◌≡◌, refl, sym, ◌∙◌, ap, ap₂, subst}
 use mathlib.Core.List.{List, ◌++◌}
 use mathlib.Core.Logic.{inl, inr, ⊎_elim}
 use mathlib.Core.Bool.{true, ◌&&◌, not}
-use lib.ListN.{length, get_or, drop, replicate, length-set, length-replicate, get_or-replicate, get_or-append}
-use lib.Seq.{get_or-set_same, get_or-set_other, get_or-append-add, get_or-drop, ext_get_or}
+use lib.ListN.{length, get_or, take, drop, replicate, length-set, length-replicate, get_or-replicate, get_or-append}
+use lib.Seq.{length-take-le, get_or-set_same, get_or-set_other, get_or-append-add, get_or-drop, ext_get_or}
 use lib.Dec.{eqb, ltb}
 use borrow.Author.Tests.{eqb-true, eqb-false, ltb-true, ltb-false}
 use Rattle.base.specs.Lists.{byte_at, written}
@@ -31,7 +31,7 @@ use Rattle.index.proofs.Built.{length_index, at_index}
 -- areas -----------------------------------------------------------------------------------------------------------------------------
 
 module _ {A : Type 0} (x d : A) where
-  length_filled : (n : ℕ) (area : List A) → length (filled x n area) ≡ length area
+  pub length_filled : (n : ℕ) (area : List A) → length (filled x n area) ≡ length area
   unfolding filled
   length_filled zero area = refl
   length_filled (suc n) area = length-set (filled x n area) n x ∙ length_filled n area
@@ -69,6 +69,19 @@ written_is d out area new f a g =
         a.beyond p l
         ∙ sym (subst (λ (n : ℕ). get_or (out ++ drop (length out) area) n d ≡ get_or area n d) e
         (get_or-append-add out (drop (length out) area) q d ∙ get_or-drop (length out) area q d))
+
+-- as `fill` leaves an area whose first `n` places were lent to it
+module _ {A : Type 0} (x : A) where
+  filled_written : (n : ℕ) (area : List A) → n ≤ length area → filled x n area ≡ written (replicate n x) area
+  filled_written n area h =
+      let lr = length-replicate n x in
+      let f = length_filled x x n area in
+      written_is x (replicate n x) area (filled x n area) (omega (arith, lr)) (rw lr (record { long = f; beyond = λ v l. filled_out x x n area v l }))
+      (λ p l. let k : p < n = omega (arith, lr) in filled_in x x n area p k h ∙ sym (get_or-replicate n p x x k))
+
+  pub fill_front : (n : ℕ) (area : List A) {front : List A} → n ≤ length area → front ≡ replicate (length (take n area)) x → front ++ drop n area ≡ filled x n area
+  unfolding written
+  fill_front n area h e = sym (filled_written n area h ∙ rw (e, length-take-le n area h, length-replicate n x) refl)
 
 -- places ----------------------------------------------------------------------------------------------------------------------------
 
@@ -116,7 +129,7 @@ module _ (s index₀ : List ℕ) (records₀ : List Bracket) (fi : length s ≤ 
     unfolding skipped
     skips =
         let f = ordinary_from s c.at in
-        let b = ordinary_by s c.at refl w.within in
+        let b = ordinary_by s c.at w.within in
         passes (ordinary_end s c.at - c.at) (omega arith) (λ v l k. ordinary_before s c.at v l (omega arith))
 
   module _ (c : Scan) (index : List ℕ) (records : List Bracket) (w : KnownAt s index₀ records₀ fi fr c index records) where

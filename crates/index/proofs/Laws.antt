@@ -84,11 +84,23 @@ module _ (s : List ℕ) (i : ℕ) (r : Reads) where
   unfolding read_on latest key_here
   read_key h f p l q = rw (white_ascii s i (omega arith), h, f, ← p, lt-ltb _ _ l, q)
 
-  pub read_other : {k : ℕ} → (byte_at s i ≡ 59 → ⊥) → eqb (byte_at s i) 64 && not r.esc ≡ false
-      → k ≡ pick (is_white s i) r.content (i + 1)
-      → record { esc = eqb (byte_at s i) 92 && not r.esc; comma = r.comma; key = r.key; end = r.end; content = k } ≡ read_on s i r
+  pub read_escape : byte_at s i ≡ 92 → r.esc ≡ false
+      → record { esc = true; comma = r.comma; key = r.key; end = r.end; content = i + 1 } ≡ read_on s i r
   unfolding read_on latest key_here
-  read_other h f q = rw (ne_eqb _ _ h, f, q)
+  read_escape h f = rw (white_ascii s i (omega arith), h, f) refl
+
+  pub read_other : {k : ℕ} → (byte_at s i ≡ 59 → ⊥) → (byte_at s i ≡ 64 → r.esc ≡ true) → (byte_at s i ≡ 92 → r.esc ≡ true)
+      → k ≡ pick (is_white s i) r.content (i + 1)
+      → record { esc = false; comma = r.comma; key = r.key; end = r.end; content = k } ≡ read_on s i r
+  unfolding read_on latest key_here
+  read_other h f g q = rw (ne_eqb _ _ h, never 64 f, never 92 g, q)
+    where
+      never : (b : ℕ) → (byte_at s i ≡ b → r.esc ≡ true) → eqb (byte_at s i) b && not r.esc ≡ false
+      never b h = go (eqb (byte_at s i) b) refl
+        where
+          go : (t : Bool) → eqb (byte_at s i) b ≡ t → t && not r.esc ≡ false
+          go true e = rw (h (eqb-true _ _ e)) refl
+          go false e = refl
 
 -- the plans of the four kinds of turn, from what the calls gave
 pub plan_next : (c next : Scan) (place mark : ℕ) {n : Scan} {p : Plan} → n ≡ next → p ≡ plan_with c n place mark
@@ -158,6 +170,12 @@ module _ (s : List ℕ) (c : Scan) (outer : Bracket) {w : Reads} (e : w ≡ read
       → p ≡ scan_plan s c outer
   unfolding scan_plan opens closes parts
   plan_at_other h k l q = q ∙ rw (e, ne_eqb _ _ h, ne_eqb _ _ k, ne_eqb _ _ l)
+
+pub ruleset sign_laws = (end_fits, read_no_key, read_key)
+
+pub ruleset read_laws = (read_parts, read_escape, read_other)
+
+pub ruleset plan_laws = (plan_at_part, plan_at_escaped, plan_at_open, plan_at_close, plan_at_lone, plan_at_other)
 
 pub ruleset laws = (
   pick_yes,

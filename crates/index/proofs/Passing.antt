@@ -76,9 +76,9 @@ pub ordinary_from : (s : List ℕ) (i : ℕ) → i ≤ ordinary_end s i
 unfolding ordinary_end
 ordinary_from s i = first_from (λ j. not (is_ordinary (byte_at s j))) (length s - i) i
 
-pub ordinary_by : (s : List ℕ) (i : ℕ) {e : ℕ} → e ≡ ordinary_end s i → i ≤ length s → e ≤ length s
+pub ordinary_by : (s : List ℕ) (i : ℕ) → i ≤ length s → ordinary_end s i ≤ length s
 unfolding ordinary_end
-ordinary_by s i p h = let l = first_by (λ j. not (is_ordinary (byte_at s j))) (length s - i) i in omega arith
+ordinary_by s i h = let l = first_by (λ j. not (is_ordinary (byte_at s j))) (length s - i) i in omega arith
 
 -- all bytes before it are ordinary
 pub ordinary_before : (s : List ℕ) (i v : ℕ) → i ≤ v → v < ordinary_end s i → is_ordinary (byte_at s v) ≡ true
@@ -153,6 +153,12 @@ fill_one x area n e = let z : n + 1 ≡ suc n = omega arith in rw (z, e)
 
 pub fill_all : {A : Type 0} (x : A) (area : List A) {now : List A} (n m : ℕ) → now ≡ filled x n area → n ≤ m → m ≤ n → now ≡ filled x m area
 fill_all x area n m e h l = let z : n ≡ m = omega arith in rw (← z) e
+
+pub ruleset content_laws = (end_fits, content_graphic, content_some, content_none)
+
+pub ruleset skip_laws = (ordinary_by, skip_none, skip_some)
+
+pub ruleset turn_laws = (turn_here, turn_by, turn_is)
 
 pub ruleset passing_laws = (
   content_here,

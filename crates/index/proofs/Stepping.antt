@@ -1,16 +1,16 @@
 -- Plain facts of the loop of `bracket_pairs`: what holds at its head, at the start, after a turn, and where the loop is left.
-use Rattle.std.proofs.Common.{ℕ, ◌-◌, ◌<◌, ◌≡◌, refl, ◌∙◌, ap, List, true, false, length, get_or, arith}
-use borrow.Author.Tests.{ltb-true, ltb-false}
+use Rattle.std.proofs.Common.{ℕ, ◌-◌, ◌<◌, ◌≤◌, ◌≡◌, refl, ◌∙◌, ap, List, ◌++◌, true, false, length, get_or, take, drop, replicate, arith, rules}
+use borrow.Author.Tests.{lt-ltb}
 use Rattle.index.specs.declared.Bracket.{Bracket}
 use Rattle.index.specs.declared.Plan.{Plan}
 use Rattle.index.specs.declared.Scan.{Scan}
 use Rattle.index.specs.Built.{blank}
 use Rattle.index.specs.Building.{Both, built, Enough}
 use Rattle.index.specs.Passing.{turn_of, turn_at, unread, filled}
-use Rattle.index.specs.Scan.{start, step_index, step_records}
+use Rattle.index.specs.Scan.{first_reads, start, step_index, step_records}
 use Rattle.index.specs.Turn.{Ready}
 use Rattle.index.proofs.Turns.{KnownAt}
-use Rattle.index.proofs.Building.{turn_far, build_start, build_turn, build_end, fine, read_in, slot_in, place_in}
+use Rattle.index.proofs.Building.{length_filled, fill_front, turn_far, build_start, build_turn, build_end, fine, read_in, slot_in, place_in}
 
 -- the turn over the records as they were read
 pub turned : (s : List ℕ) (c : Scan) (records : List Bracket) {k : ℕ} {outer : Bracket} {p : Plan} → p ≡ turn_of s c outer
@@ -18,9 +18,23 @@ pub turned : (s : List ℕ) (c : Scan) (records : List Bracket) {k : ℕ} {outer
 unfolding turn_at
 turned s c records e o k = e ∙ ap (turn_of s c) (o ∙ ap (λ (n : ℕ). get_or records n blank) k)
 
-unread_is : (s : List ℕ) (c : Scan) → unread s c ≡ true → c.at < length s
-unfolding unread
-unread_is s c m = ltb-true c.at (length s) m
+-- the state before the first byte, and the record of zeros, as the defaults of their types
+abbrev Zero : Bracket → Type 0
+Zero b = (b.place ≡ 0) × ((b.seen ≡ 0) × ((b.good ≡ 0) × (b.bad ≡ 0)))
+
+abbrev Start : Scan → Type 0
+Start c =
+    (c.at ≡ 0)
+    × ((c.depth ≡ 0)
+    × (Zero c.inner
+    × ((c.bad ≡ 0) × ((c.reads.esc ≡ false) × ((c.reads.comma ≡ 0) × ((c.reads.key ≡ 0) × ((c.reads.end ≡ 0) × (c.reads.content ≡ 0))))))))
+
+blank_is : (b : Bracket) → Zero b → b ≡ blank
+blank_is b e = search (e, rules)
+
+start_is : (c : Scan) → Start c → c ≡ start
+unfolding start first_reads
+start_is c e = search (e, rules)
 
 -- what holds at the loop's head
 pub record Stepped (s index₀ : List ℕ) (records₀ : List Bracket) (c : Scan) (index : List ℕ) (records : List Bracket) : Type 0 where
@@ -30,46 +44,50 @@ pub record Stepped (s index₀ : List ℕ) (records₀ : List Bracket) (c : Scan
   pub same_records : length records ≡ length records₀
 
 -- at the start: the index's front is zeros
-pub step_start : (s index₀ : List ℕ) (records₀ : List Bracket) → Enough s (length index₀) (length records₀) → {c : Scan} {index : List ℕ} → c ≡ start
-    → index ≡ filled 0 (length s) index₀ → length index ≡ length index₀ → Stepped s index₀ records₀ c index records₀
-step_start s index₀ records₀ n e i l = record {
-  enough = n;
-  known = rw (e, i) (build_start s index₀ records₀ n.wide n.long);
-  same_index = l;
-  same_records = refl;
-}
+pub step_start : (s index₀ : List ℕ) (records₀ : List Bracket) → Enough s (length index₀) (length records₀) → (c : Scan) → Start c → {front : List ℕ}
+    → front ≡ replicate (length (take (length s) index₀)) 0 → Stepped s index₀ records₀ c (front ++ drop (length s) index₀) records₀
+step_start s index₀ records₀ n c e f =
+    let i = fill_front 0 (length s) index₀ n.wide f in
+    record {
+      enough = n;
+      known = rw (start_is c e, i) (build_start s index₀ records₀ n.wide n.long);
+      same_index = rw i (length_filled 0 0 (length s) index₀);
+      same_records = refl;
+    }
 
 module _ (s index₀ : List ℕ) (records₀ : List Bracket) (c : Scan) (index : List ℕ) (records : List Bracket) (f : Stepped s index₀ records₀ c index records) where
   -- a turn can be taken
-  pub step_ready : unread s c ≡ true → Ready s c index records
-  step_ready m =
-      let h = unread_is s c m in
+  pub step_ready : c.at < length s → Ready s c index records
+  unfolding unread
+  step_ready h =
       let n = f.enough in
       let place = place_in s index₀ records₀ n.wide n.long c index records f.known h in
       record {
-        fine = fine s index₀ records₀ n.wide n.long c index records f.known m n.short;
+        fine = fine s index₀ records₀ n.wide n.long c index records f.known (lt-ltb c.at (length s) h) n.short;
         read = read_in s index₀ records₀ n.wide n.long c index records f.known h;
         slot = slot_in s index₀ records₀ n.wide n.long c index records f.known h;
         place = let e = f.same_index in let l = n.wide in omega arith;
       }
 
   -- it leaves less of the text
-  pub step_less : {c' : Scan} → unread s c ≡ true → c' ≡ (turn_at s c records).next → length s - c'.at < length s - c.at
-  step_less m e = let h = unread_is s c m in let far = turn_far s c records in rw e (omega arith)
+  pub step_less : {c' : Scan} → c.at < length s → c' ≡ (turn_at s c records).next → length s - c'.at < length s - c.at
+  step_less h e = let far = turn_far s c records in rw e (omega arith)
 
   -- after it
-  pub step_next : {c' : Scan} {index' : List ℕ} {records' : List Bracket} → unread s c ≡ true → c' ≡ (turn_at s c records).next
+  pub step_next : {c' : Scan} {index' : List ℕ} {records' : List Bracket} → c.at < length s → c' ≡ (turn_at s c records).next
       → index' ≡ step_index (turn_at s c records) index → records' ≡ step_records (turn_at s c records) records
       → length index' ≡ length index → length records' ≡ length records → Stepped s index₀ records₀ c' index' records'
-  step_next m e i r li lr = record {
+  step_next h e i r li lr = record {
     enough = f.enough;
-    known = rw (e, i, r) (build_turn s index₀ records₀ f.enough.wide f.enough.long c index records f.known (unread_is s c m));
+    known = rw (e, i, r) (build_turn s index₀ records₀ f.enough.wide f.enough.long c index records f.known h);
     same_index = li ∙ f.same_index;
     same_records = lr ∙ f.same_records;
   }
 
   -- where the loop is left
-  pub step_end : {records' : List Bracket} → unread s c ≡ false → records' ≡ filled blank (length s) records
-      → ◌≡◌ {A = Both} (index, records') (built s index₀ records₀)
-  unfolding unread
-  step_end m e = rw e (build_end s index₀ records₀ f.enough.wide f.enough.long c index records f.known (ltb-false c.at (length s) m))
+  pub step_end : length s ≤ c.at → (b : Bracket) → Zero b → {front : List Bracket} → front ≡ replicate (length (take (length s) records)) b
+      → ◌≡◌ {A = Both} (index, front ++ drop (length s) records) (built s index₀ records₀)
+  step_end h b z e =
+      let l = f.same_records in
+      let n = f.enough.long in
+      rw (fill_front blank (length s) records (omega arith) (rw (blank_is b z) at e)) (build_end s index₀ records₀ f.enough.wide n c index records f.known h)

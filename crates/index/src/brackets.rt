@@ -1,13 +1,13 @@
 // The build of the index: what it reads and stores of the lent bracket records, one turn of the scan, and the loop.
 // No other function reads or writes the slice of records.
-ghost use Rattle.std.specs.Prelude.{◌-◌, ◌<◌, ◌≤◌, length, set, get_or, true, ◌≡◌};
+ghost use Rattle.std.specs.Prelude.{◌<◌, length, set, get_or, true, ◌≡◌};
 ghost use Rattle.index.specs.Built.{blank};
 ghost use Rattle.index.specs.Building.{built, built_when, Enough};
-ghost use Rattle.index.specs.Passing.{turn_at, filled};
+ghost use Rattle.index.specs.Passing.{turn_at};
 ghost use Rattle.index.specs.Scan.{step_index, step_records};
 ghost use Rattle.index.specs.Turn.{Ready};
 
-use crate::{Bracket, Scan};
+use crate::{Bracket, Scan, decide};
 
 // The record at `i`.
 fn record_at(records: &mut [Bracket], i: usize) -> Bracket
@@ -32,16 +32,6 @@ pub fn count(records: &mut [Bracket]) -> usize
     records.len()
 }
 
-// The place of the record around the innermost of `depth` open brackets; 0 where there is none.
-fn below(depth: usize) -> usize
-    ensures { result ≡ depth - 1 }
-{
-    if depth == 0 {
-        return 0;
-    }
-    depth - 1
-}
-
 // One turn of the scan: the next state, with one record stored and one entry written.
 fn step(text: &[u8], c: Scan, index: &mut [u16], records: &mut [Bracket]) -> Scan
     requires { Ready text.now c index.old records.old }
@@ -49,29 +39,11 @@ fn step(text: &[u8], c: Scan, index: &mut [u16], records: &mut [Bracket]) -> Sca
         × (index.new ≡ step_index (turn_at text.now c records.old) index.old)
         × (records.new ≡ step_records (turn_at text.now c records.old) records.old) }
 {
-    let outer = record_at(records, below(c.depth));
-    let p = crate::decide(text, c, outer);
-    store(records, p.slot, p.top);
-    crate::write_entry(index, p);
-    p.next
-}
-
-// Leaves as many zero records as the text has bytes.
-fn clear(text: &[u8], records: &mut [Bracket])
-    requires { length text.now ≤ length records.old }
-    ensures { records.new ≡ filled blank (length text.now) records.old }
-{
-    let b = Bracket {
-        place: 0,
-        seen: 0,
-        good: 0,
-        bad: 0,
-    };
-    let mut i = 0;
-    while i < text.len() {
-        store(records, i, b);
-        i += 1;
-    }
+    let outer = record_at(records, c.depth.saturating_sub(1));
+    let plan = decide(text, c, outer);
+    store(records, plan.slot, plan.top);
+    index[plan.place] = plan.mark;
+    plan.next
 }
 
 // Builds the index of the text: clears its entries, takes the turns of the scan, and clears the records.
@@ -79,15 +51,17 @@ fn bracket_pairs(text: &[u8], index: &mut [u16], records: &mut [Bracket])
     requires { Enough text.now (length index.old) (length records.old) }
     ensures { (index.new, records.new) ≡ built text.now index.old records.old }
 {
-    crate::clear_entries(text, index);
-    let mut c = crate::begin();
-    while crate::is_more(text, c) {
+    index[..text.len()].fill(0);
+    let mut c = Scan::default();
+    // no iterator is plainer: each turn says where the next one begins
+    while c.at < text.len() {
         c = step(text, c, index, records);
     }
-    clear(text, records);
+    records[..text.len()].fill(Bracket::default());
 }
 
 // Builds the index where that is wanted; else does nothing.
+#[tactic(auto, unfolding(crate::specs::Built::index_after, crate::specs::Built::records_after))]
 pub fn build_when(want: bool, text: &[u8], index: &mut [u16], records: &mut [Bracket])
     requires { want ≡ true → Enough text.now (length index.old) (length records.old) }
     ensures { (index.new, records.new) ≡ built_when want text.now index.old records.old }

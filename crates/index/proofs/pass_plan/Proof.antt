@@ -1,8 +1,0 @@
--- `index::pass_plan` meets its contract: its parts are what its calls ensure. Assumes nothing.
-use borrow.Author.Rules.{rules}
-use Rattle.index.proofs.Laws.{laws}
-use Rattle.index.proofs.pass_plan.Statement.{statement}
-use Rattle.index.proofs.pass_plan.Tie as tie
-
-pub pass_plan_spec : {M : Type 1} → statement M
-pass_plan_spec = tie.close (tie.spec (λ c κs. search rules) (λ c κs. search rules) (λ c. search laws))
