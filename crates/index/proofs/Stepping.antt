@@ -1,12 +1,12 @@
 -- Plain facts of the loop of `bracket_pairs`: what holds at its head, at the start, after a turn, and where the loop is left.
-use Rattle.std.proofs.Common.{ℕ, ◌-◌, ◌<◌, ◌≤◌, ◌≡◌, refl, ◌∙◌, ap, List, ◌++◌, true, false, length, get_or, take, drop, replicate, arith, rules}
+use Rattle.std.proofs.Common.{ℕ, ◌-◌, ◌<◌, ◌≤◌, ◌≡◌, refl, ◌∙◌, ap, List, ◌++◌, false, length, get_or, take, drop, replicate, arith, rules}
 use borrow.Author.Tests.{lt-ltb}
 use Rattle.index.specs.declared.Bracket.{Bracket}
 use Rattle.index.specs.declared.Plan.{Plan}
 use Rattle.index.specs.declared.Scan.{Scan}
 use Rattle.index.specs.Built.{blank}
 use Rattle.index.specs.Building.{Both, built, Enough}
-use Rattle.index.specs.Passing.{turn_of, turn_at, unread, filled}
+use Rattle.index.specs.Passing.{turn_of, turn_at, unread}
 use Rattle.index.specs.Scan.{first_reads, start, step_index, step_records}
 use Rattle.index.specs.Turn.{Ready}
 use Rattle.index.proofs.Turns.{KnownAt}
