@@ -1,4 +1,5 @@
 // The attributes of a definition line (`attr_value`): words `name=value` parted by white space.
+// A word is told by its places, since whether a byte is white depends on the bytes before it; a name and a value are slices.
 #![tactic(auto)]
 
 ghost use Rattle.std.specs.Prelude.{◌≡◌, length};

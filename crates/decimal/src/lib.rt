@@ -1,4 +1,5 @@
 // Numbers in decimal, written at the front of a lent area.
+// The digits are written from the last one on.
 #![tactic(auto)]
 
 ghost use Rattle.std.specs.Prelude.{◌≡◌, ◌≤◌, length};

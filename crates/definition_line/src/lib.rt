@@ -1,4 +1,5 @@
 // Definition lines: where they begin, and their attributes.
+// The attributes are a slice of the text, the part between the braces.
 #![tactic(auto)]
 
 ghost use Rattle.std.specs.Prelude.{◌≡◌, ◌&&◌, ◌≤◌, ◌<◌, length};

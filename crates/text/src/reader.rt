@@ -7,7 +7,8 @@ ghost use Rattle.text.specs.Trim.{trim_start, trim_end};
 use base::search::{after_last, first_place};
 use white::is_white;
 
-// "Escape and white space are read by a reader that keeps the text and a position."
+// "Escape and white space are read by a reader that keeps the text and a position." (That the position lies in the text is no ghost field, but a clause
+// where it is needed: `trim_start` may begin past the text's end, and asks nothing of its callers there.)
 #[derive(Drop)]
 pub struct Reader<'a> {
     pub text: &'a [u8],

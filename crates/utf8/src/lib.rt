@@ -10,7 +10,7 @@ ghost use Rattle.utf8.specs.Utf8.{utf8};
 
 use base::refusal::Refusal;
 
-// Whether the text is well-formed UTF-8.
+// Whether the text is well-formed UTF-8. (By `simdutf8`: `std::str::from_utf8` takes several times as long where the characters are of two or three bytes.)
 #[tactic(auto, using(crate::proofs::Standard::standard_laws))]
 pub fn is_utf8(text: &[u8]) -> bool
     ensures { result ≡ utf8 text.now }
