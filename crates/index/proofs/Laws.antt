@@ -1,16 +1,14 @@
 -- Laws on a turn of the scan, in the form of the code's needs.
-use Prim.Native.Nat.{ℕ, ◌+◌, ◌-◌, ◌≤◌, ◌<◌, max}
+use Prim.Native.Nat.{ℕ, ◌+◌, ◌≤◌, ◌<◌}
 use native.Mathlib.Omega.{arith}
 use mathlib.Core.Path.{◌≡◌, refl, ◌∙◌}
 use mathlib.Core.List.{List}
 use lib.ListN.{length}
 use mathlib.Core.Bool.{Bool, true, false, ◌&&◌, not, and-false}
 use lib.Dec.{eqb}
-use borrow.Author.Tests.{eq-eqb, ne_eqb, lt-ltb, le-ltb, eqb-true, not-true}
+use borrow.Author.Tests.{ne_eqb, lt-ltb, le-ltb, eqb-true}
 use Rattle.base.specs.Pick.{pick}
 use Rattle.base.specs.Lists.{byte_at}
-use Rattle.base.proofs.Bools.{and_left, and_right}
-use Rattle.base.proofs.Picks.{pick_yes, pick_no, pick_eq, pick_ne}
 use Rattle.white.specs.White.{is_white}
 use Rattle.white.proofs.Whites.{white_ascii}
 use Rattle.key.specs.Keys.{key_end}
@@ -19,52 +17,9 @@ use Rattle.index.specs.declared.Bracket.{Bracket}
 use Rattle.index.specs.declared.Reads.{Reads}
 use Rattle.index.specs.declared.Scan.{Scan}
 use Rattle.index.specs.declared.Plan.{Plan}
-use Rattle.index.specs.Scan.{reach, parted, around, counted, all_good_in, key_here, latest, read_on, opens, closes, parts, scan_plan, next_with, plan_with, open_plan, close_plan, part_plan, pass_plan}
-
--- the bracket records
-module _ (b : Bracket) (r n : ℕ) where
-  pub parted_new : b.seen ≡ 0 → record { place = b.place; seen = 1; good = r; bad = n } ≡ parted b r n
-  unfolding parted
-  parted_new e = rw (eq-eqb b.seen 0 e)
-
-  pub parted_old : (b.seen ≡ 0 → ⊥) → b ≡ parted b r n
-  unfolding parted
-  parted_old e = rw (ne_eqb b.seen 0 e)
-
-module _ (a b : Bracket) where
-  pub around_new : a.seen ≡ 0 → record { place = a.place; seen = b.seen; good = b.good; bad = b.bad } ≡ around a b
-  unfolding around
-  around_new e = rw (eq-eqb a.seen 0 e)
-
-  pub around_old : (a.seen ≡ 0 → ⊥) → a ≡ around a b
-  unfolding around
-  around_old e = rw (ne_eqb a.seen 0 e)
-
-module _ (r n : ℕ) where
-  pub counted_one : r ≡ 0 → n + 1 ≡ counted r n
-  unfolding counted
-  counted_one e = rw (eq-eqb r 0 e)
-
-  pub counted_none : (r ≡ 0 → ⊥) → n ≡ counted r n
-  unfolding counted
-  counted_none e = rw (ne_eqb r 0 e)
-
-module _ (r : Reads) where
-  pub reach_key : {m : ℕ} → m ≡ max r.comma r.key → r.end ≡ r.content → m ≡ reach r
-  unfolding reach
-  reach_key p e = rw (eq-eqb r.end r.content e) p
-
-  pub reach_comma : (r.end ≡ r.content → ⊥) → r.comma ≡ reach r
-  unfolding reach
-  reach_comma e = rw (ne_eqb r.end r.content e) (omega arith)
+use Rattle.index.specs.Scan.{key_here, latest, read_on, opens, closes, parts, scan_plan, open_plan, close_plan, part_plan, pass_plan}
 
 -- what is known after a byte
-pub sign_here : (b : ℕ) (e : Bool) → eqb b 64 && not e ≡ true → b ≡ 64
-sign_here b e h = eqb-true b 64 (and_left (eqb b 64) (not e) h)
-
-pub sign_live : (b : ℕ) (e : Bool) → eqb b 64 && not e ≡ true → e ≡ false
-sign_live b e h = not-true e (and_right (eqb b 64) (not e) h)
-
 pub end_fits : (s : List ℕ) (i : ℕ) {e : ℕ} → e ≡ key_end s (i + 1) → i < length s → length s ≤ 65535 → e < 65536
 end_fits s i p h l = omega (arith, key_by_lem s (i + 1) (omega arith))
 
@@ -101,21 +56,6 @@ module _ (s : List ℕ) (i : ℕ) (r : Reads) where
           go : (t : Bool) → eqb (byte_at s i) b ≡ t → t && not r.esc ≡ false
           go true e = rw (h (eqb-true _ _ e)) refl
           go false e = refl
-
--- the plans of the four kinds of turn, from what the calls gave
-pub plan_next : (c next : Scan) (place mark : ℕ) {n : Scan} {p : Plan} → n ≡ next → p ≡ plan_with c n place mark
-    → p ≡ plan_with c next place mark
-plan_next c next place mark q e = e ∙ rw q
-
-module _ (c : Scan) (w : Reads) where
-  pub plan_closed : (outer : Bracket) {r m : ℕ} {a : Bracket} {n : Scan} {p : Plan} → r ≡ reach c.reads
-      → m ≡ pick (all_good_in c.inner r c.bad) c.at 0 → a ≡ around outer c.inner → n ≡ next_with c (c.depth - 1) a c.bad w
-      → p ≡ plan_with c n c.inner.place m → p ≡ close_plan c outer w
-  plan_closed outer er em ea en ep = rw (ep, en, ea, em, er)
-
-  pub plan_parted : {r k : ℕ} {b : Bracket} {n : Scan} {p : Plan} → r ≡ reach c.reads → k ≡ counted r c.bad
-      → b ≡ parted c.inner r k → n ≡ next_with c c.depth b k w → p ≡ plan_with c n c.at 0 → p ≡ part_plan c w
-  plan_parted er ek eb en ep = rw (ep, en, eb, ek, er)
 
 -- what holds of each of them, in its case, holds of the turn
 module _ (s : List ℕ) (c : Scan) (outer : Bracket) where
@@ -176,34 +116,3 @@ pub ruleset sign_laws = (end_fits, read_no_key, read_key)
 pub ruleset read_laws = (read_parts, read_escape, read_other)
 
 pub ruleset plan_laws = (plan_at_part, plan_at_escaped, plan_at_open, plan_at_close, plan_at_lone, plan_at_other)
-
-pub ruleset laws = (
-  pick_yes,
-  pick_no,
-  pick_eq,
-  pick_ne,
-  parted_new,
-  parted_old,
-  around_new,
-  around_old,
-  counted_one,
-  counted_none,
-  reach_key,
-  reach_comma,
-  sign_here,
-  sign_live,
-  end_fits,
-  read_parts,
-  read_no_key,
-  read_key,
-  read_other,
-  plan_next,
-  plan_closed,
-  plan_parted,
-  plan_at_part,
-  plan_at_escaped,
-  plan_at_open,
-  plan_at_close,
-  plan_at_lone,
-  plan_at_other,
-)

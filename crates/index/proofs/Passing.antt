@@ -4,7 +4,7 @@ use native.Mathlib.Omega.{arith}
 use mathlib.Core.Path.{◌≡◌, refl, sym, ◌∙◌, ap}
 use mathlib.Core.List.{List}
 use mathlib.Core.Bool.{Bool, true, false, not, true≢false}
-use lib.ListN.{length, set}
+use lib.ListN.{length}
 use lib.Dec.{eqb}
 use borrow.Author.Tests.{ne_eqb, ltb-true, not-false}
 use Rattle.base.specs.Pick.{pick}
@@ -12,7 +12,7 @@ use Rattle.base.specs.Last.{last_end}
 use Rattle.base.specs.Lists.{byte_at}
 use Rattle.base.proofs.Picks.{pick_not}
 use Rattle.base.proofs.Lasts.{last_end_stop, last_end_some, last_end_none}
-use Rattle.base.proofs.Searches.{first_out, first_stop, first_more, first_from, first_by, first_fails}
+use Rattle.base.proofs.Searches.{first_from, first_by, first_fails}
 use Rattle.white.specs.White.{is_white}
 use Rattle.white.specs.Bytes.{is_ascii_graphic}
 use Rattle.text.specs.Trim.{trim_end}
@@ -24,7 +24,7 @@ use Rattle.index.specs.declared.Scan.{Scan}
 use Rattle.index.specs.declared.Plan.{Plan}
 use Rattle.index.specs.Scan.{key_here, latest, read_on, scan_plan}
 use Rattle.index.proofs.Laws.{plan_at}
-use Rattle.index.specs.Passing.{is_ordinary, ordinary_end, content_in, passing, skipped, turn_of, unread, Fine, filled}
+use Rattle.index.specs.Passing.{is_ordinary, ordinary_end, content_in, passing, skipped, turn_of, unread, Fine}
 
 -- bytes -----------------------------------------------------------------------------------------------------------------------------
 
@@ -58,19 +58,6 @@ module _ (s : List ℕ) (a e : ℕ) (k : ℕ) where
   content_none p h = sym (last_end_none (λ i. not (is_white s i)) (e - a) a k (rw p at h))
 
 -- the search ------------------------------------------------------------------------------------------------------------------------
-
-module _ (s : List ℕ) (i : ℕ) {w : ℕ} (p : w ≡ ordinary_end s i) where
-  pub ordinary_out : length s ≤ i → i ≡ w
-  unfolding ordinary_end
-  ordinary_out = first_out (λ j. not (is_ordinary (byte_at s j))) i (length s) p
-
-  pub ordinary_stop : {b : Bool} → i < length s → b ≡ is_ordinary (byte_at s i) → b ≡ false → i ≡ w
-  unfolding ordinary_end
-  ordinary_stop h q t = first_stop (λ j. not (is_ordinary (byte_at s j))) i (length s) p h (ap not (sym q ∙ t))
-
-  pub ordinary_more : {b : Bool} → i < length s → b ≡ is_ordinary (byte_at s i) → b ≡ true → w ≡ ordinary_end s (i + 1)
-  unfolding ordinary_end
-  ordinary_more h q t = first_more (λ j. not (is_ordinary (byte_at s j))) i (length s) p h (ap not (sym q ∙ t))
 
 pub ordinary_from : (s : List ℕ) (i : ℕ) → i ≤ ordinary_end s i
 unfolding ordinary_end
@@ -141,41 +128,8 @@ pub turn_is : (s : List ℕ) (c : Scan) (outer : Bracket) {p : Plan} {n : Scan} 
 unfolding turn_of
 turn_is s c outer e q = rw (q, e)
 
--- an area that is filled ------------------------------------------------------------------------------------------------------------
-
-pub fill_none : {A : Type 0} (x : A) (area : List A) → area ≡ filled x 0 area
-unfolding filled
-fill_none x area = refl
-
-pub fill_one : {A : Type 0} (x : A) (area : List A) {now : List A} (n : ℕ) → now ≡ filled x n area → set now n x ≡ filled x (n + 1) area
-unfolding filled
-fill_one x area n e = let z : n + 1 ≡ suc n = omega arith in rw (z, e)
-
-pub fill_all : {A : Type 0} (x : A) (area : List A) {now : List A} (n m : ℕ) → now ≡ filled x n area → n ≤ m → m ≤ n → now ≡ filled x m area
-fill_all x area n m e h l = let z : n ≡ m = omega arith in rw (← z) e
-
 pub ruleset content_laws = (end_fits, content_graphic, content_some, content_none)
 
 pub ruleset skip_laws = (ordinary_by, skip_none, skip_some)
 
 pub ruleset turn_laws = (turn_here, turn_by, turn_is)
-
-pub ruleset passing_laws = (
-  content_here,
-  end_fits,
-  content_graphic,
-  content_some,
-  content_none,
-  ordinary_out,
-  ordinary_stop,
-  ordinary_more,
-  ordinary_by,
-  skip_none,
-  skip_some,
-  turn_here,
-  turn_by,
-  turn_is,
-  fill_none,
-  fill_one,
-  fill_all,
-)
