@@ -20,41 +20,47 @@ fn is_bare(item: Item) -> bool
     item.prefix.len == 0 && item.locator.len == 0 && !item.suppressed
 }
 
-// Whether the group from `at` to `close`, of `count` items, is a key alone: "one item, no prefix, no locator, not suppressed".
-fn is_only_key(text: &[u8], at: usize, close: usize, count: usize) -> bool
-    requires { GroupFrom text.now at close count }
-    ensures { result ≡ only_key (items_of text.now at close) }
-{
-    if count != 1 {
-        return false;
-    }
-    match parse_item(text, items_start(text, at), close) {
-        Some(item) => is_bare(item),
-        None => false,
-    }
+// A group of a text by its place: the bracket that opens it, its close, and how many items it has.
+#[derive(Clone, Copy)]
+pub struct GroupAt<'a> {
+    pub text: &'a [u8],
+    pub at: usize,
+    pub close: usize,
+    pub count: usize,
+    pub ghost stands: { GroupFrom text.now at close count },
 }
 
-// Whether that group starts a definition line.
-fn is_definition(text: &[u8], at: usize, close: usize, count: usize) -> bool
-    requires { GroupFrom text.now at close count }
-    ensures { result ≡ defines text.now (group_of text.now at close) }
-{
-    in_definition_place(text, at, close) && is_only_key(text, at, close, count)
-}
+impl<'a> GroupAt<'a> {
+    ghost use Rattle.item.specs.Pieces.{items_of};
+    ghost use Rattle.item.specs.Group.{group_of};
+    ghost use Rattle.definition_line.specs.Lines.{only_key, defines, in_line};
 
-// Whether that group stands in a definition line; the group before it ended at `from`, and `before` says whether that one does.
-pub fn is_in_line(
-    text: &[u8],
-    before: bool,
-    from: usize,
-    at: usize,
-    close: usize,
-    count: usize,
-) -> bool
-    requires { GroupFrom text.now at close count }
-    ensures { result ≡ in_line text.now before from (group_of text.now at close) }
-{
-    is_definition(text, at, close, count) || before && at <= break_at(text, from, at)
+    // Whether the group is a key alone: "one item, no prefix, no locator, not suppressed".
+    fn is_only_key(self) -> bool
+        ensures { result ≡ only_key (items_of self.entry.text.now self.entry.at self.entry.close) }
+    {
+        if self.count != 1 {
+            return false;
+        }
+        match parse_item(self.text, items_start(self.text, self.at), self.close) {
+            Some(item) => is_bare(item),
+            None => false,
+        }
+    }
+
+    // Whether the group starts a definition line.
+    fn is_definition(self) -> bool
+        ensures { result ≡ defines self.entry.text.now (group_of self.entry.text.now self.entry.at self.entry.close) }
+    {
+        in_definition_place(self.text, self.at, self.close) && self.is_only_key()
+    }
+
+    // Whether the group stands in a definition line; the group before it ended at `from`, and `before` says whether that one does.
+    pub fn is_in_line(self, before: bool, from: usize) -> bool
+        ensures { result ≡ in_line self.entry.text.now before from (group_of self.entry.text.now self.entry.at self.entry.close) }
+    {
+        self.is_definition() || before && self.at <= break_at(self.text, from, self.at)
+    }
 }
 
 // The standing that a sweep gives a group: 0 in a definition line, 1 elsewhere. It stays a number: that of the group record, which the C

@@ -9,7 +9,7 @@ ghost use Rattle.records.specs.Widths.{item_width, group_width};
 
 use records::item_records::write_records;
 use records::{GROUP_WIDTH, ITEM_WIDTH};
-use standing::{is_in_line, standing_of};
+use standing::{GroupAt, standing_of};
 
 // Where a sweep stands: its place, the counts of the groups and items so far, whether the last group stands in a definition line and
 // where it ended, whether all records so far fitted, and whether the bracket at its place wants a build. `fits` and `wants` stay flags: each
@@ -94,7 +94,13 @@ pub fn record_group(
     requires { Recordable text.now at close count s (length items.old) (length groups.old) }
     ensures { RecordedOne text.now at close s items.old groups.old result items.new groups.new }
 {
-    let inside = is_in_line(text, s.inside, s.from, at, close, count);
+    let group = GroupAt {
+        text,
+        at,
+        close,
+        count,
+    };
+    let inside = group.is_in_line(s.inside, s.from);
     let n = s.items;
     let g = s.groups;
     let fits = s.fits & has_room(n + count, g + 1, items.len(), groups.len());

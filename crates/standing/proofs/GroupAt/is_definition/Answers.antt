@@ -1,7 +1,7 @@
--- The answers of `standing::is_definition`: the group stands in no such place, or its key decides.
+-- The answers of `standing::GroupAt::is_definition`: the group stands in no such place, or its key decides.
 use Rattle.std.proofs.Common.{◌∙◌}
 use Rattle.standing.proofs.Lines.{no_place, by_key}
-use Rattle.standing.proofs.is_definition.Goals as goal
+use Rattle.standing.proofs.GroupAt.is_definition.Goals as goal
 
 pub returns-then-in_definition_place : goal.returns-then-in_definition_place
 returns-then-in_definition_place c =

@@ -1,7 +1,7 @@
--- The answers of `standing::is_in_line`: a definition line starts, goes on, or neither.
+-- The answers of `standing::GroupAt::is_in_line`: a definition line starts, goes on, or neither.
 use Rattle.std.proofs.Common.{◌∙◌}
 use Rattle.standing.proofs.Lines.{line_starts, line_goes_on, line_none}
-use Rattle.standing.proofs.is_in_line.Goals as goal
+use Rattle.standing.proofs.GroupAt.is_in_line.Goals as goal
 
 pub returns-then-is_definition : goal.returns-then-is_definition
 returns-then-is_definition c = c.if-is_definition.true ∙ line_starts _ _ _ _ _ c.is_definition.ensures c.if-is_definition.true
