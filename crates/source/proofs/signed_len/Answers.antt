@@ -1,3 +1,4 @@
+-- `signed_len`: the digits, and the sign where there is one.
 use Rattle.std.proofs.Common.{arith}
 use Rattle.decimal.proofs.Laws.{decimal_short}
 use Rattle.source.proofs.YearLaws.{sign_minus, sign_plain}

@@ -1,3 +1,4 @@
+-- `write_signed`: the sign where there is one, and the digits in what is left of the area.
 use Rattle.std.proofs.Common.{arith, length-take, length-drop}
 use Rattle.source.proofs.YearLaws.{sign_minus, sign_plain, minus_room, minus_written}
 use Rattle.source.proofs.write_signed.Goals as goal

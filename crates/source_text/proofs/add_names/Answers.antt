@@ -1,3 +1,4 @@
+-- `add_names`: one name more, and none is left.
 use Rattle.std.proofs.Common.{◌∙◌, ap}
 use Rattle.pool.specs.Views.{fields_left, name_lent, names_left}
 use Rattle.source_parts.proofs.PartLaws.{holds_as}

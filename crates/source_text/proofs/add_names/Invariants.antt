@@ -1,3 +1,4 @@
+-- `add_names`: the text is the names so far.
 use Rattle.std.proofs.Common.{◌≡◌, List, [], ℕ}
 use Rattle.base.specs.Fold.{fold}
 use Rattle.pool.specs.Views.{names_left}

@@ -1,3 +1,4 @@
+-- `add_year`: no year, bytes, or a number in decimal.
 use Rattle.std.proofs.Common.{rules}
 use Rattle.std.specs.Prelude.{FitsSigned}
 use Rattle.std.specs.Int.{w64}

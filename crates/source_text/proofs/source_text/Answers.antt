@@ -1,3 +1,4 @@
+-- `source_text`: the refusals 7, 8 and 10, and the text.
 use Rattle.std.proofs.Common.{◌≡◌, refl, ◌≤◌, arith, length}
 use Rattle.base.specs.Refusals.{refusal_of}
 use Rattle.pool.specs.Entries.{entry_of}

@@ -1,3 +1,4 @@
+-- `write_text`: names, year and title are the body, and a stop follows what is not empty.
 use Rattle.std.proofs.Common.{◌∙◌, sym, refl, rules}
 use Rattle.pool.specs.Entries.{entry_of}
 use Rattle.pool.specs.Views.{fields_left}

@@ -1,3 +1,4 @@
+-- `field::split_field`: the three bytes of a field's head, and as many as they say.
 use Rattle.pool.proofs.PartLaws.{split_past, split_is, split_short}
 use Rattle.pool.proofs.field.split_field.Goals as goal
 

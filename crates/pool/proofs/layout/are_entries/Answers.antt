@@ -1,3 +1,4 @@
+-- `layout::are_entries`: one entry on.
 use Rattle.std.proofs.Common.{rules}
 use Rattle.pool.proofs.LayoutLaws.{entries_next}
 use Rattle.pool.proofs.layout.are_entries.Goals as goal

@@ -1,3 +1,4 @@
+-- `layout::is_entry`: one field on.
 use Rattle.std.proofs.Common.{arith}
 use Rattle.pool.specs.Views.{field_lent}
 use Rattle.pool.proofs.LayoutLaws.{entry_next, entry_stop}

@@ -1,3 +1,4 @@
+-- `layout::is_entry`: the entry is good where the rest is, after a field with the tag `last`.
 use Rattle.std.proofs.Common.{◌≡◌, length}
 use Rattle.pool.specs.Steps.{good_rest}
 use Rattle.pool.proofs.layout.is_entry.Given as goal

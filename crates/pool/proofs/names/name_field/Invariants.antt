@@ -1,3 +1,4 @@
+-- `names::name_field`: the field is that of a name whose fields go on with those that are left.
 use Rattle.std.proofs.Common.{◌≡◌}
 use Rattle.pool.specs.Entries.{in_name}
 use Rattle.pool.specs.Views.{fields_left}

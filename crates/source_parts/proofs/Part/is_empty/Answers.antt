@@ -1,3 +1,4 @@
+-- `Part::is_empty`: a part has no bytes where none of its pieces has.
 use Rattle.std.proofs.Common.{sym, ◌∙◌}
 use Rattle.source_parts.proofs.PartLaws.{not_first, not_second}
 use Rattle.source_parts.proofs.Part.is_empty.Goals as goal

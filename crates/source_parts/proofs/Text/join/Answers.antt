@@ -1,3 +1,4 @@
+-- `Text::join`: an empty part, a part of an empty text, and both with the separator between them.
 use Rattle.std.proofs.Common.{sym, ◌∙◌}
 use Rattle.source_parts.specs.Parts.{part_text}
 use Rattle.source_parts.proofs.PartLaws.{holds_as, beside_none, beside_first, beside_both}

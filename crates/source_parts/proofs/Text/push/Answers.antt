@@ -1,3 +1,4 @@
+-- `Text::push`: bytes that have room stand after the text.
 use Rattle.std.proofs.Common.{refl, arith}
 use Rattle.source_parts.proofs.PartLaws.{push_room}
 use Rattle.source_parts.proofs.Text.push.Goals as goal

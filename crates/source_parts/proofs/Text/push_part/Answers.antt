@@ -1,3 +1,4 @@
+-- `Text::push_part`: three pieces, one after the other.
 use Rattle.std.proofs.Common.{◌≡◌, ◌++◌, append_assoc}
 use Rattle.source_parts.proofs.PartLaws.{holds_as}
 use Rattle.source_parts.proofs.Text.push_part.Goals as goal

@@ -1,3 +1,4 @@
+-- `Fields::field`: the field is the first with its tag of those that are left.
 use Rattle.std.proofs.Common.{◌≡◌}
 use Rattle.pool.specs.Entries.{field_with}
 use Rattle.pool.specs.Views.{fields_left}

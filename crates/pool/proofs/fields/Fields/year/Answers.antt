@@ -1,3 +1,4 @@
+-- `Fields::year`: no field is no year, and a field has eight bytes, those of its number.
 use Rattle.std.proofs.Common.{arith}
 use Rattle.pool.proofs.YearLaws.{year_none, year_eight, year_is}
 use Rattle.pool.proofs.fields.Fields.year.Goals as goal

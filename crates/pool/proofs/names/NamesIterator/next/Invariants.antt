@@ -1,3 +1,4 @@
+-- `Names::next`: no name is passed over.
 use Rattle.std.proofs.Common.{◌≡◌, length}
 use Rattle.pool.specs.Views.{fields_left, names_left}
 use Rattle.pool.proofs.names.NamesIterator.next.Given as goal
