@@ -1,5 +1,5 @@
 -- The answers of `records::item_records::write_records`: the walk begins with all pieces, a piece is written, and none is left.
-use Rattle.std.proofs.Common.{ap, ◌∙◌}
+use Rattle.std.proofs.Common.{ap, ◌∙◌, arith}
 use Rattle.item.specs.Walk.{pieces_left}
 use Rattle.records.proofs.RecordLaws.{writing_start, next_inside, next_room, writing_next, writing_end}
 use Rattle.records.proofs.item_records.write_records.Goals as goal
@@ -10,7 +10,7 @@ loop-piece-init c =
 
 pub write_piece-requires : goal.write_piece-requires
 write_piece-requires c =
-    (next_inside c.loop-piece.invariant c.in-Some.ensures.steps, c.requires.short, next_room c.loop-piece.invariant c.in-Some.ensures.steps)
+    (omega (arith, next_inside c.loop-piece.invariant c.in-Some.ensures.steps), c.requires.short, next_room c.loop-piece.invariant c.in-Some.ensures.steps)
 
 pub loop-piece-preserved : goal.loop-piece-preserved
 loop-piece-preserved c = writing_next c.loop-piece.invariant c.in-Some.ensures.steps c.write_piece.ensures
