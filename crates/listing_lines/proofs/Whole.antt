@@ -33,12 +33,8 @@ zeros_take : (n m : ℕ) → take {A = ℕ} n (replicate (n + m) 0) ≡ replicat
 zeros_take n m =
     ap (take n) (sym (replicate-append-replicate n m 0)) ∙ take_at (replicate n 0) (replicate m 0) n (length-replicate n 0)
 
-module _ (n m : ℕ) (a : List ℕ) (e : a ≡ replicate m 0) (h : n ≤ m) where
-  pub zeros_cut : take n a ≡ replicate n 0
-  zeros_cut = let p : n + (m - n) ≡ m = omega arith in rw (e, ← p) (zeros_take n (m - n))
-
-  pub zeros_counted : n ≡ length (take n a)
-  zeros_counted = rw zeros_cut (sym (length-replicate n 0))
+zeros_cut : (n m : ℕ) (a : List ℕ) → a ≡ replicate m 0 → n ≤ m → take n a ≡ replicate n 0
+zeros_cut n m a e h = let p : n + (m - n) ≡ m = omega arith in rw (e, ← p) (zeros_take n (m - n))
 
 -- a text above 4,096 bytes
 pub long_room : (out : List ℕ) → 150000 ≤ length out → length (refused_line 1) ≤ length out

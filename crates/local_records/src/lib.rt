@@ -20,13 +20,7 @@ pub fn look_up(text: &[u8], at: usize, note: u8, index: &mut [u16], items: &mut 
         LookUpPromise text.now at note index.old records items.old
         result index.new ran.records items.new }
 {
-    let b = Bracket {
-        place: 0,
-        seen: 0,
-        good: 0,
-        bad: 0,
-    };
-    let mut records = [b; 65535];
+    let mut records = [Bracket::default(); 65535];
     calls::look_up(text, at, note, index, &mut records, items)
 }
 
@@ -49,13 +43,7 @@ pub fn annotate<'a>(
         AnnotatePromise text.now mode pool.now note index.old records given
         result index.new ran.records left }
 {
-    let b = Bracket {
-        place: 0,
-        seen: 0,
-        good: 0,
-        bad: 0,
-    };
-    let mut records = [b; 65535];
+    let mut records = [Bracket::default(); 65535];
     calls::annotate(
         text,
         mode,

@@ -8,7 +8,8 @@ ghost use Rattle.std.specs.Io.KnownBytes.{Consumes, IsAtEnd};
 use std::io;
 use std::io::Read;
 
-// Reads until `buf` is full or the input ends, and returns how many bytes it put at the front of `buf`.
+// Reads until `buf` is full or the input ends, and returns how many bytes it put at the front of `buf`. (The library has no call for that: its
+// `read_exact` fails at an early end, and its `read_to_end` fills a `Vec`. So this stays a loop.)
 pub fn read_full<R: Read>(reader: &mut R, buf: &mut [u8]) -> io::Result<usize>
     ensures bound { ReadsAtMost result buf.new }
     ensures bytes { IfOk result (λ n. Consumes (R.remaining reader.old) (R.remaining reader.new) (take n buf.new)) }

@@ -5,7 +5,8 @@ use crate::body::Body;
 #[derive(Clone, Copy)]
 pub struct StoredAnnotation<'a>(pub Body<'a>);
 
-// The numbers of an answer: 0 or a refusal's number, and the counts of groups, items, sources and label bytes.
+// The numbers of an answer: 0 or a refusal's number, and the counts of groups, items, sources and label bytes. (Numbers in place of a
+// `Result`: the list has them so.)
 #[derive(Clone, Copy, Default, PartialEq, Eq)]
 pub struct Numbers {
     pub number: usize,
@@ -87,7 +88,11 @@ impl<'a> StoredAnnotation<'a> {
 
     // What an area holds behind the answer: zeros after refusal 10, else what it held.
     fn behind<T: Copy + Default>(self, unused: T) -> T {
-        if self.0.number(4) == 10 { T::default() } else { unused }
+        if self.0.number(4) == 10 {
+            T::default()
+        } else {
+            unused
+        }
     }
 }
 

@@ -15,9 +15,7 @@ pub fn rest_is<T: Copy + PartialEq>(area: &[T], at: usize, value: T) -> bool {
 // Whether the area begins with the `n` numbers that `body` begins with.
 pub fn has_numbers(area: &[u16], n: usize, body: Body<'_>) -> bool {
     area.get(..n).is_some_and(|part| {
-        part.iter()
-            .enumerate()
-            .all(|(i, x)| *x == body.word(2 * i))
+        part.iter().enumerate().all(|(i, x)| *x == body.word(2 * i))
     })
 }
 

@@ -1,22 +1,28 @@
 // A record's body: the request's numbers, the answer's numbers, two bytes each, then bytes.
-ghost use Rattle.std.specs.Prelude.{◌≤◌};
+ghost use Rattle.std.specs.Prelude.{◌≡◌, ◌≤◌, take, drop, get_or};
 
 #[derive(Clone, Copy)]
 pub struct Body<'a>(pub &'a [u8]);
 
 impl<'a> Body<'a> {
     // What follows the first `n` bytes.
-    pub fn after(self, n: usize) -> Body<'a> {
+    pub fn after(self, n: usize) -> Body<'a>
+        ensures { result.0.now ≡ drop n self.entry.0.now }
+    {
         Body(self.0.get(n..).unwrap_or(&[]))
     }
 
     // The first `n` bytes, or all where there are fewer.
-    pub fn before(self, n: usize) -> &'a [u8] {
+    pub fn before(self, n: usize) -> &'a [u8]
+        ensures { result.now ≡ take n self.entry.0.now }
+    {
         self.0.get(..n).unwrap_or(self.0)
     }
 
     // The byte at `at`; 0 past the end.
-    pub fn byte(self, at: usize) -> u8 {
+    pub fn byte(self, at: usize) -> u8
+        ensures { result ≡ get_or self.entry.0.now at 0 }
+    {
         self.0.get(at).copied().unwrap_or(0)
     }
 
@@ -40,7 +46,8 @@ impl<'a> Body<'a> {
         ensures { result ≤ 16777215 }
     {
         match self.after(at).0 {
-            [low, middle, high, ..] => usize::from(u16::from_le_bytes([*low, *middle])) + 65536 * usize::from(*high),
+            [low, middle, high, ..] => usize::from(u16::from_le_bytes([*low, *middle]))
+                + 65536 * usize::from(*high),
             _ => 0,
         }
     }

@@ -5,7 +5,7 @@ use crate::body::Body;
 #[derive(Clone, Copy)]
 pub struct StoredLookUp<'a>(pub Body<'a>);
 
-// The numbers of an answer: 0 or a refusal's number, and what is said of the group.
+// The numbers of an answer: 0 or a refusal's number, and what is said of the group. (Numbers in place of a `Result`: the list has them so.)
 #[derive(Clone, Copy, Default, PartialEq, Eq)]
 pub struct Numbers {
     pub number: usize,

@@ -5,7 +5,7 @@ use item::Item;
 use locator::Locator;
 use replay_body::body::Body;
 
-// The limit that a number stands for: 65,535 for none.
+// The limit that a number of the list stands for: 65,535 for none.
 fn limit(n: usize) -> usize {
     if n == 65535 { usize::MAX } else { n }
 }
