@@ -76,9 +76,6 @@ judging_start s p c h k e =
     }
 
 module _ {s : List ℕ} {p c n : ℕ} {x : Stretch} {left rest : List Stretch} (j : Judging s p c n left) (e : left ≡ x ∷ rest) where
-  pub judging_inside : x.to ≤ length s
-  judging_inside = (rw e at j.ends).0
-
   pub judging_more : is_good (item_of s x.from x.to) ≡ true → Judging s p c (n + 1) rest
   unfolding parsed
   judging_more g = record {

@@ -2,7 +2,6 @@
 use Rattle.std.specs.Prelude.{ℕ, List, [], Option, Some, None}
 use Rattle.item.specs.declared.GroupPieces.{GroupPieces}
 use Rattle.item.specs.declared.Piece.{Piece}
-use Rattle.item.specs.declared.GroupPieces.{GroupPieces}
 use Rattle.item.specs.Pieces.{Stretch, stretch, pieces}
 
 -- a piece of the text, as a stretch
