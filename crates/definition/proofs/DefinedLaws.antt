@@ -17,8 +17,9 @@ use Rattle.definition_line.specs.Lines.{attributes_of}
 use Rattle.definition.specs.declared.AuthorYear.{AuthorYear}
 use Rattle.definition.specs.Parts.{author_bytes, year_bytes, both_of, Gives}
 use Rattle.definition.specs.Defs.{line_def, entry_def, def_author, def_year}
-use Rattle.definition.specs.declared.defined.Defined.{Defined}
-use Rattle.definition.specs.declared.defined.Defined.TheVariants.{Line, Entry as EntryOf, Nothing}
+use Rattle.std.specs.Prelude.{Option, Some, None}
+use Rattle.definition.specs.declared.defined.Definition.{Definition}
+use Rattle.definition.specs.declared.defined.Definition.TheVariants.{Line, Entry}
 use Rattle.definition.specs.Lines.{line_in, line_def_in}
 use Rattle.definition.specs.Definitions.{definition_in}
 use Rattle.records.specs.Records.{close_of_record, next_in}
@@ -29,21 +30,21 @@ use Rattle.definition.specs.Entries.{entry_in, GivesAuthor, GivesYear}
 
 -- which it is
 module _ (text pool groups items key : List ℕ) (n : ℕ) {g : ℕ} (p : g ≡ line_in text groups items n key) where
-  pub found_line : g < n → Line g ≡ found_in text groups items n pool key
+  pub found_line : g < n → Some (Line g) ≡ found_in text groups items n pool key
   unfolding found_in
   found_line h = rw (← p, lt-ltb g n h) refl
 
   module _ {i m : ℕ} (h : n ≤ g) (q : i ≡ entry_in pool key) (r : m ≡ count_of pool) where
-    pub found_entry : i < m → EntryOf i ≡ found_in text groups items n pool key
+    pub found_entry : i < m → Some (Entry i) ≡ found_in text groups items n pool key
     unfolding found_in
     found_entry l = rw (← p, le-ltb g n h, ← q, ← r, lt-ltb i m l) refl
 
-    pub found_nothing : m ≤ i → Nothing ≡ found_in text groups items n pool key
+    pub found_nothing : m ≤ i → None ≡ found_in text groups items n pool key
     unfolding found_in
     found_nothing l = rw (← p, le-ltb g n h, ← q, ← r, le-ltb i m l) refl
 
 -- and what it is then
-pub find_is : (text pool groups items key : List ℕ) (n : ℕ) {d : Defined} → d ≡ found_in text groups items n pool key
+pub find_is : (text pool groups items key : List ℕ) (n : ℕ) {d : Option Definition} → d ≡ found_in text groups items n pool key
     → defined_as text groups n pool d ≡ definition_in text groups items n pool key
 unfolding definition_in
 find_is text pool groups items key n p = rw p refl
@@ -69,26 +70,26 @@ pub entry_gives : (pool : List ℕ) (i : ℕ) {a : Author} {y : Year} → GivesA
     → (text : List ℕ) → Gives text pool (both_of a y) (author_of (entry_at pool i)) (year_of (entry_at pool i))
 entry_gives pool i p q text = record { author_as = p.bytes text; year_as = q.bytes text }
 
-module _ (text pool groups : List ℕ) (n : ℕ) {d : Defined} where
-  pub line_there : {g : ℕ} → DefinedIn pool n d → d ≡ Line g → g < n
+module _ (text pool groups : List ℕ) (n : ℕ) {d : Option Definition} where
+  pub line_there : {g : ℕ} → DefinedIn pool n d → d ≡ Some (Line g) → g < n
   line_there w p = rw p at w
 
-  pub entry_there : {i : ℕ} → DefinedIn pool n d → d ≡ EntryOf i → i < count_of pool
+  pub entry_there : {i : ℕ} → DefinedIn pool n d → d ≡ Some (Entry i) → i < count_of pool
   entry_there w p = rw p at w
 
-  pub given_line : {g : ℕ} {r : AuthorYear} → d ≡ Line g
+  pub given_line : {g : ℕ} {r : AuthorYear} → d ≡ Some (Line g)
       → ((pool : List ℕ) → Gives text pool r (line_def_in text groups n g).author (line_def_in text groups n g).year)
       → Gives text pool r (def_author (defined_as text groups n pool d)) (def_year (defined_as text groups n pool d))
   unfolding defined_as
   given_line p w = rw p (w pool)
 
-  pub given_entry : {i : ℕ} {r : AuthorYear} → d ≡ EntryOf i
+  pub given_entry : {i : ℕ} {r : AuthorYear} → d ≡ Some (Entry i)
       → ((text : List ℕ) → Gives text pool r (author_of (entry_at pool i)) (year_of (entry_at pool i)))
       → Gives text pool r (def_author (defined_as text groups n pool d)) (def_year (defined_as text groups n pool d))
   unfolding defined_as entry_def
   given_entry p w = rw p (w text)
 
-  pub given_nothing : d ≡ Nothing
+  pub given_nothing : d ≡ None
       → Gives text pool (both_of Missing NoYear) (def_author (defined_as text groups n pool d)) (def_year (defined_as text groups n pool d))
   unfolding defined_as author_bytes year_bytes
   given_nothing p = rw p (record { author_as = refl; year_as = refl })

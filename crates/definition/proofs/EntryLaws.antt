@@ -3,15 +3,17 @@ use Prim.Native.Nat.{ℕ, zero, suc, ◌+◌, ◌-◌, ◌≤◌, ◌<◌}
 use native.Mathlib.Numerals.{add-one}
 use native.Mathlib.Omega.{arith}
 use mathlib.Core.Path.{◌≡◌, refl, sym, ◌∙◌, ap}
-use mathlib.Core.List.{List, [], ◌∷◌, map}
-use mathlib.Core.Bool.{Bool, true, false, not, ◌&&◌}
+use mathlib.Core.List.{List, [], map}
+use mathlib.Core.Bool.{Bool, true, false, ◌&&◌}
 use mathlib.Core.Option.{Option, none, some, or_else, get_or}
 use lib.ListN.{length, take, drop}
 use lib.Dec.{leb, ltb}
-use borrow.Author.Tests.{lt-ltb, le-ltb, eq-eqb, ne_eqb}
+use borrow.Author.Tests.{lt-ltb, le-ltb, eq-eqb, ne_eqb, ltb-false}
+use Rattle.std.specs.Prelude.{Option as Option', unwrap_or}
+use Rattle.std.specs.Bool.{then_some}
 use Rattle.base.specs.Pick.{pick}
 use Rattle.base.specs.First.{first}
-use Rattle.base.specs.Lists.{byte_at, part, same, up_from}
+use Rattle.base.specs.Lists.{byte_at, part, up_from}
 use Rattle.base.specs.declared.Span.{Span}
 use Rattle.pool.specs.declared.Found.{Found}
 use Rattle.pool.specs.declared.Found.TheVariants.{At, Missing}
@@ -26,34 +28,16 @@ use Rattle.pool.proofs.PoolLaws.{pair_there, entry_there}
 use Rattle.source.specs.declared.EntryYear.{EntryYear as SourceYear}
 use Rattle.source.specs.declared.EntryYear.TheVariants.{Number as SourceNumber, At as SourceAt, Missing as SourceMissing}
 use Rattle.source.specs.Years.{written_year, ReadsYear}
-use Rattle.source.specs.Entry.{is_empty, author_by, author_of, year_of}
+use Rattle.source.specs.Entry.{author_by, author_of, year_of}
 use Rattle.definition.specs.declared.Author.{Author}
 use Rattle.definition.specs.declared.Author.TheVariants.{InPool, Missing as NoAuthor}
 use Rattle.definition.specs.declared.Year.TheVariants.{InPool as YearInPool, Number, Missing as NoYear}
 use Rattle.definition.specs.Parts.{author_bytes, year_bytes}
 use Rattle.definition.specs.Defs.{Def, entry_def, entry_defines, first_entry}
-use Rattle.base.proofs.Searches.{first_out, first_stop, first_more}
+use Rattle.base.proofs.Searches.{first_by}
 use Rattle.definition.specs.Entries.{entry_has, entry_in, GivesAuthor, GivesYear}
 
 -- ids ----------------------------------------------------------------------------------------------------------------------------
-
-id_empty : (own key : List ℕ) → length own ≡ 0 → false ≡ (not (is_empty own) && same own key)
-id_empty [] key h = refl
-id_empty (x ∷ xs) key h = absurd (omega arith)
-
-id_same : (own key : List ℕ) {r : Bool} → (length own ≡ 0 → ⊥) → r ≡ same own key → r ≡ (not (is_empty own) && same own key)
-id_same [] key h p = absurd (h refl)
-id_same (x ∷ xs) key h p = p
-
--- that of an entry
-module _ (s key : List ℕ) (i : ℕ) {own : List ℕ} (p : own ≡ (entry_at s i).id) where
-  pub has_none : length own ≡ 0 → false ≡ entry_has s key i
-  unfolding entry_has entry_defines
-  has_none h = id_empty own key h ∙ rw p refl
-
-  pub has_same : {r : Bool} → (length own ≡ 0 → ⊥) → r ≡ same own key → r ≡ entry_has s key i
-  unfolding entry_has entry_defines
-  has_same h q = id_same own key h q ∙ rw p refl
 
 -- a part of no bytes
 pub part_none : (s : List ℕ) → part s 0 (0 + 0) ≡ []
@@ -87,25 +71,19 @@ module _ (s : List ℕ) (i : ℕ) {at e : ℕ} (p : at ≡ offset_of s i) (q : e
   unfolding entry_of
   id_missing f t g = g ∙ part_none s ∙ rw t at (ap (λ (o : Option (List ℕ)). get_or o []) f.bytes) ∙ id_at
 
-pub ruleset id_laws = (has_none, has_same, pair_there, entry_fields, id_given, id_missing)
+pub ruleset id_laws = (pair_there, entry_fields, id_given, id_missing)
 
--- the search for the first entry with an id
-module _ (s key : List ℕ) (i m : ℕ) where
-  pub entry_start : {n : ℕ} → n ≡ count_of s → entry_in s key ≡ first (entry_has s key) (n - 0) 0
-  unfolding entry_in
-  entry_start {n} p = let z : n - 0 ≡ n = omega arith in rw (z, p) refl
+-- the first of `m` places at which a test holds, where there is one
+pub first_some : (f : ℕ → Bool) (n : ℕ) {i m : ℕ} {r : Option' ℕ} → i ≡ first f (m - 0) 0 → r ≡ then_some (ltb i m) i → m ≡ n
+    → unwrap_or r n ≡ first f n 0
+first_some f n {i} {m} p q e = rw (q, ← e) (go (ltb i m) refl)
+  where
+    z : m - 0 ≡ m
+    z = omega arith
 
-  pub entry_out : {w : ℕ} → w ≡ first (entry_has s key) (m - i) i → m ≤ i → i ≡ w
-  entry_out p h = first_out (entry_has s key) i m p h
-
-  pub entry_stop : {w : ℕ} {b : Bool} → w ≡ first (entry_has s key) (m - i) i → i < m → b ≡ entry_has s key i → b ≡ true → i ≡ w
-  entry_stop p h q t = first_stop (entry_has s key) i m p h (sym q ∙ t)
-
-  pub entry_more : {w : ℕ} {b : Bool} → w ≡ first (entry_has s key) (m - i) i → i < m → b ≡ entry_has s key i → b ≡ false
-      → w ≡ first (entry_has s key) (m - (i + 1)) (i + 1)
-  entry_more p h q t = first_more (entry_has s key) i m p h (sym q ∙ t)
-
-pub ruleset entry_laws = (entry_start, entry_out, entry_stop, entry_more)
+    go : (t : Bool) → ltb i m ≡ t → unwrap_or (then_some t i) m ≡ first f m 0
+    go true h = rw z at p
+    go false h = let k = ltb-false i m h in omega (arith, rw z at p, first_by f m 0)
 
 -- it is the first entry of the list
 unfoldable entry_given : List ℕ → ℕ → ℕ → Option Def

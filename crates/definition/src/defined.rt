@@ -14,13 +14,13 @@ use crate::{Author, AuthorYear, Year};
 
 // What defines a key: the line that a group starts, by the group's number, or an entry of the pool, by its number.
 #[derive(Clone, Copy)]
-pub enum Defined {
-    Line { group: usize },
-    Entry { number: usize },
-    Nothing,
+pub enum Definition {
+    Line(usize),
+    Entry(usize),
 }
 
 // What defines the key, among the first `n` groups, whose definition lines lie below `lines`, and in the pool.
+#[tactic(auto, using(crate::proofs::DefinedLaws::find_laws), unfolding(crate::specs::Defined::found_in))]
 pub fn find(
     text: &[u8],
     pool: &[u8],
@@ -29,24 +29,16 @@ pub fn find(
     n: usize,
     lines: usize,
     key: &[u8],
-) -> Defined
+) -> Option<Definition>
     requires { (n < record_bound) × (well_formed pool.now ≡ true) × LinesBelow text.now groups.now items.now n lines }
     ensures result_value { defined_as text.now groups.now n pool.now result ≡ definition_in text.now groups.now
         items.now n pool.now key.now }
     ensures within { DefinedIn pool.now n result }
     ensures found { result ≡ found_in text.now groups.now items.now n pool.now key.now }
 {
-    let group = crate::lines::line_in(text, groups, items, n, lines, key);
-    if group < n {
-        return Defined::Line { group };
-    }
-    let number = crate::entries::entry_in(pool, key);
-    let count = pool::entry_count(pool);
-    if number < count {
-        Defined::Entry { number }
-    } else {
-        Defined::Nothing
-    }
+    crate::lines::line_in(text, groups, items, n, lines, key)
+        .map(Definition::Line)
+        .or_else(|| crate::entries::entry_in(pool, key).map(Definition::Entry))
 }
 
 // The author and the year that the definition line of group record `g` gives.
@@ -73,15 +65,22 @@ fn entry_given(pool: &[u8], number: usize) -> AuthorYear
 }
 
 // The author and the year that a definition gives, by what was found.
-pub fn given_by(text: &[u8], pool: &[u8], groups: &[u16], n: usize, d: Defined) -> AuthorYear
+#[tactic(auto, using(crate::proofs::DefinedLaws::given_laws))]
+pub fn given_by(
+    text: &[u8],
+    pool: &[u8],
+    groups: &[u16],
+    n: usize,
+    d: Option<Definition>,
+) -> AuthorYear
     requires { (n < record_bound) × (well_formed pool.now ≡ true) × DefinedIn pool.now n d }
     ensures { Gives text.now pool.now result (def_author (defined_as text.now groups.now n pool.now d))
         (def_year (defined_as text.now groups.now n pool.now d)) }
 {
     match d {
-        Defined::Line { group } => line_given(text, groups, n, group),
-        Defined::Entry { number } => entry_given(pool, number),
-        Defined::Nothing => AuthorYear {
+        Some(Definition::Line(group)) => line_given(text, groups, n, group),
+        Some(Definition::Entry(number)) => entry_given(pool, number),
+        None => AuthorYear {
             author: Author::Missing,
             year: Year::Missing,
         },

@@ -1,5 +1,5 @@
 // Entries of the pool: the first with an id, and the author and the year that one gives.
-ghost use Rattle.std.specs.Prelude.{◌≡◌, true, ◌+◌, ◌<◌};
+ghost use Rattle.std.specs.Prelude.{◌≡◌, true, ◌+◌, ◌<◌, IfSome, unwrap_or};
 ghost use Rattle.std.proofs.Math.Option.{or_else};
 ghost use Rattle.base.specs.Lists.{part};
 ghost use Rattle.pool.specs.Fields.{fields_of};
@@ -32,31 +32,25 @@ pub fn entry_id(pool: &[u8], i: usize) -> &[u8]
 }
 
 // Whether entry `i` has the id `key`; an empty id is never one.
+#[tactic(auto, unfolding(crate::specs::Entries::entry_has, crate::specs::Defs::entry_defines))]
 fn has_id(pool: &[u8], i: usize, key: &[u8]) -> bool
     requires { (well_formed pool.now ≡ true) × (i < count_of pool.now) }
     ensures { result ≡ entry_has pool.now key.now i }
 {
     let own = entry_id(pool, i);
-    if own.len() == 0 {
-        return false;
-    }
-    base::slices::is_same(own, key)
+    !own.is_empty() && base::slices::is_same(own, key)
 }
 
-// The number of the first entry with the id `key`; the count of entries where none has it.
-pub fn entry_in(pool: &[u8], key: &[u8]) -> usize
+// The number of the first entry with the id `key`.
+#[tactic(auto, unfolding(crate::specs::Entries::entry_in))]
+pub fn entry_in(pool: &[u8], key: &[u8]) -> Option<usize>
     requires { well_formed pool.now ≡ true }
-    ensures { result ≡ entry_in pool.now key.now }
+    ensures first { unwrap_or result (count_of pool.now) ≡ entry_in pool.now key.now }
+    ensures within { IfSome result (λ i. i < count_of pool.now) }
 {
     let count = pool::entry_count(pool);
-    let mut i: usize = 0;
-    while i < count {
-        if has_id(pool, i, key) {
-            return i;
-        }
-        i += 1;
-    }
-    i
+    let i = base::search::first_place(0, count, |i| has_id(pool, i, key));
+    (i < count).then_some(i)
 }
 
 // The author by the name whose field 2 ends at `at`: its literal, else its family.
