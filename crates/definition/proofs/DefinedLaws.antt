@@ -1,30 +1,20 @@
--- What defines a key, and the author and the year that it gives, in the form of the needs.
+-- What defines a key, in the form of the needs.
 use Prim.Native.Nat.{ℕ, ◌≤◌, ◌<◌}
 use native.Mathlib.Omega.{arith}
 use mathlib.Core.Path.{◌≡◌, refl}
+use mathlib.Core.Bool.{Bool, true, false}
+use lib.Dec.{ltb}
 use mathlib.Core.List.{List}
-use borrow.Author.Tests.{lt-ltb, le-ltb}
-use Rattle.base.specs.declared.Span.{Span}
-use Rattle.base.specs.Spans.{bytes_of}
-use Rattle.pool.specs.Layout.{count_of, entry_at}
-use Rattle.source.specs.Entry.{author_of, year_of}
-use Rattle.definition.specs.declared.Author.{Author}
-use Rattle.definition.specs.declared.Author.TheVariants.{Missing}
-use Rattle.definition.specs.declared.Year.{Year}
-use Rattle.definition.specs.declared.Year.TheVariants.{Missing as NoYear}
-use Rattle.attributes.specs.Attributes.{attr_value, author_word, year_word}
-use Rattle.definition_line.specs.Lines.{attributes_of}
-use Rattle.definition.specs.declared.AuthorYear.{AuthorYear}
-use Rattle.definition.specs.Parts.{author_bytes, year_bytes, both_of, Gives}
-use Rattle.definition.specs.Defs.{line_def, entry_def, def_author, def_year}
+use borrow.Author.Tests.{lt-ltb, le-ltb, ltb-true, ltb-false}
 use Rattle.std.specs.Prelude.{Option, Some, None}
+use Rattle.pool.specs.Layout.{count_of, well_formed}
+use Rattle.pool.proofs.PoolLaws.{laid_out_lem, count_bytes}
 use Rattle.definition.specs.declared.defined.Definition.{Definition}
 use Rattle.definition.specs.declared.defined.Definition.TheVariants.{Line, Entry}
-use Rattle.definition.specs.Lines.{line_in, line_def_in}
+use Rattle.definition.specs.Lines.{line_in}
 use Rattle.definition.specs.Definitions.{definition_in}
-use Rattle.records.specs.Records.{close_of_record, next_in}
-use Rattle.definition.specs.Defined.{defined_as, found_in, DefinedIn}
-use Rattle.definition.specs.Entries.{entry_in, GivesAuthor, GivesYear}
+use Rattle.definition.specs.Defined.{defined_as, found_in}
+use Rattle.definition.specs.Entries.{entry_in}
 
 -- the definition of a key --------------------------------------------------------------------------------------------------------
 
@@ -54,44 +44,14 @@ below_count pool p h = omega arith
 
 pub ruleset find_laws = (find_is, found_line, found_entry, found_nothing, below_count)
 
--- the author and the year of what was found --------------------------------------------------------------------------------------
-
--- a line gives what its attributes give
-pub line_gives : (text groups : List ℕ) (n g : ℕ) {close next : ℕ} (s : Span) (r : AuthorYear) → close ≡ close_of_record groups g
-    → next ≡ next_in text groups n g → bytes_of text s ≡ attributes_of text close next
-    → ((pool : List ℕ) → Gives text pool r (attr_value (bytes_of text s) author_word) (attr_value (bytes_of text s) year_word))
-    → (pool : List ℕ) → Gives text pool r (line_def_in text groups n g).author (line_def_in text groups n g).year
-unfolding line_def_in line_def
-line_gives text groups n g s r p q e w pool = rw (← p, ← q, ← e) (w pool)
-
--- an entry gives its author and its year
-pub entry_gives : (pool : List ℕ) (i : ℕ) {a : Author} {y : Year} → GivesAuthor pool a (author_of (entry_at pool i))
-    → GivesYear pool y (year_of (entry_at pool i))
-    → (text : List ℕ) → Gives text pool (both_of a y) (author_of (entry_at pool i)) (year_of (entry_at pool i))
-entry_gives pool i p q text = record { author_as = p.bytes text; year_as = q.bytes text }
-
-module _ (text pool groups : List ℕ) (n : ℕ) {d : Option Definition} where
-  pub line_there : {g : ℕ} → DefinedIn pool n d → d ≡ Some (Line g) → g < n
-  line_there w p = rw p at w
-
-  pub entry_there : {i : ℕ} → DefinedIn pool n d → d ≡ Some (Entry i) → i < count_of pool
-  entry_there w p = rw p at w
-
-  pub given_line : {g : ℕ} {r : AuthorYear} → d ≡ Some (Line g)
-      → ((pool : List ℕ) → Gives text pool r (line_def_in text groups n g).author (line_def_in text groups n g).year)
-      → Gives text pool r (def_author (defined_as text groups n pool d)) (def_year (defined_as text groups n pool d))
-  unfolding defined_as
-  given_line p w = rw p (w pool)
-
-  pub given_entry : {i : ℕ} {r : AuthorYear} → d ≡ Some (Entry i)
-      → ((text : List ℕ) → Gives text pool r (author_of (entry_at pool i)) (year_of (entry_at pool i)))
-      → Gives text pool r (def_author (defined_as text groups n pool d)) (def_year (defined_as text groups n pool d))
-  unfolding defined_as entry_def
-  given_entry p w = rw p (w text)
-
-  pub given_nothing : d ≡ None
-      → Gives text pool (both_of Missing NoYear) (def_author (defined_as text groups n pool d)) (def_year (defined_as text groups n pool d))
-  unfolding defined_as author_bytes year_bytes
-  given_nothing p = rw p (record { author_as = refl; year_as = refl })
-
-pub ruleset given_laws = (line_gives, entry_gives, line_there, entry_there, given_line, given_entry, given_nothing)
+-- a pool has few entries
+pub count_short : (pool : List ℕ) → well_formed pool ≡ true → count_of pool ≤ 8192
+count_short pool w = go (ltb 0 (count_of pool)) refl
+  where
+    go : (t : Bool) → ltb 0 (count_of pool) ≡ t → count_of pool ≤ 8192
+    go true q =
+        let l = laid_out_lem pool w (count_bytes pool w (ltb-true 0 (count_of pool) q)) in
+        let a = l.small in
+        let b = l.pairs in
+        omega arith
+    go false q = let h = ltb-false 0 (count_of pool) q in omega arith

@@ -1,4 +1,3 @@
-pub mod Values
 pub mod EntryLaws
 pub mod LineLaws
 pub mod DefinedLaws

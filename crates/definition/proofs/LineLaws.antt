@@ -10,8 +10,7 @@ use Rattle.base.specs.Pick.{pick}
 use Rattle.base.specs.Last.{last_end}
 use Rattle.base.specs.LastPlace.{last}
 use Rattle.definition_line.specs.Lines.{colon_after}
-use Rattle.definition.specs.Lines.{defines_in, defines_key_in, line_in}
-use Rattle.definition.specs.Definitions.{LinesBelow}
+use Rattle.definition.specs.Lines.{defines_in, defines_key_in, line_in, LinesBelow}
 use Rattle.records.specs.Records.{close_of_record}
 use Rattle.base.proofs.Bools.{split}
 use Rattle.base.proofs.Lasts.{last_end_by, last_end_behind}

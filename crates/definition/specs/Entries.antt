@@ -1,11 +1,7 @@
--- Follows the code; nothing to believe: the first entry of a pool that defines a key, and what an entry gives.
-use Rattle.std.specs.Prelude.{ℕ, ◌≡◌, List, Bool}
-use Rattle.std.proofs.Math.Option.{Option}
+-- Follows the code; nothing to believe: the first entry of a pool that defines a key.
+use Rattle.std.specs.Prelude.{ℕ, List, Bool}
 use Rattle.base.specs.First.{first}
 use Rattle.pool.specs.Layout.{count_of, entry_at}
-use Rattle.definition.specs.declared.Author.{Author}
-use Rattle.definition.specs.declared.Year.{Year}
-use Rattle.definition.specs.Parts.{author_bytes, year_bytes}
 use Rattle.definition.specs.Defs.{entry_defines}
 
 -- entry number `i` of a pool defines the key
@@ -15,11 +11,3 @@ entry_has pool key i = entry_defines key (entry_at pool i)
 -- the number of the first entry that defines the key; the count of entries where there is none
 unfoldable pub entry_in : List ℕ → List ℕ → ℕ
 entry_in pool key = first (entry_has pool key) (count_of pool) 0
-
--- an author with the bytes that are said, or none where none are said, whatever the text
-pub record GivesAuthor (pool : List ℕ) (r : Author) (o : Option (List ℕ)) : Type 0 where
-  pub bytes : (text : List ℕ) → author_bytes text pool r ≡ o
-
--- a year with the bytes that are said, or none where none are said, whatever the text
-pub record GivesYear (pool : List ℕ) (r : Year) (o : Option (List ℕ)) : Type 0 where
-  pub bytes : (text : List ℕ) → year_bytes text pool r ≡ o

@@ -1,5 +1,5 @@
 -- Follows the code; nothing to believe: definition lines among the records.
-use Rattle.std.specs.Prelude.{ℕ, List, Bool, ◌&&◌, eqb}
+use Rattle.std.specs.Prelude.{ℕ, ◌≤◌, ◌<◌, ◌≡◌, List, Bool, false, ◌&&◌, eqb}
 use Rattle.base.specs.LastPlace.{last}
 use Rattle.base.specs.Lists.{same}
 use Rattle.definition_line.specs.Lines.{starts_line, colon_after}
@@ -25,3 +25,8 @@ line_in text groups items n key = last (defines_key_in text groups items key) n 
 -- the definition that the line of group record `g` gives
 unfoldable pub line_def_in : List ℕ → List ℕ → ℕ → ℕ → Def
 line_def_in text groups n g = line_def text g (close_of_record groups g) (next_in text groups n g)
+
+-- Of the first `n` group records, all that start a definition line lie below `lines`: the search for the last of a key may begin there.
+pub record LinesBelow (text groups items : List ℕ) (n lines : ℕ) : Type 0 where
+  pub bounded : lines ≤ n
+  pub none : (g : ℕ) → lines ≤ g → g < n → defines_in text groups items g ≡ false

@@ -1,9 +1,9 @@
 // Definition lines among the group records.
 ghost use Rattle.std.specs.Prelude.{◌≡◌, ◌<◌, IfSome, unwrap_or};
-ghost use Rattle.definition.specs.Lines.{defines_in, defines_key_in, line_in};
-ghost use Rattle.definition.specs.Definitions.{LinesBelow};
+ghost use Rattle.definition.specs.Lines.{defines_in, defines_key_in, LinesBelow};
 ghost use Rattle.records.specs.Bounds.{record_bound};
 
+use crate::Definitions;
 use records::{GROUP_COUNT, GROUP_FIRST, GROUP_PLACE, GROUP_WIDTH, field};
 
 // Whether group record `g` starts a definition line.
@@ -42,20 +42,19 @@ pub fn lines_end(text: &[u8], groups: &[u16], items: &[u16], n: usize) -> usize
     base::search::after_last(0, n, |g| defines_in(text, groups, items, g))
 }
 
-// The last of the first `n` group records that starts a definition line of the key. The search begins at `lines`, from which on none
-// starts one of any key.
-#[tactic(auto, unfolding(crate::specs::Lines::line_in))]
-pub fn line_in(
-    text: &[u8],
-    groups: &[u16],
-    items: &[u16],
-    n: usize,
-    lines: usize,
-    key: &[u8],
-) -> Option<usize>
-    requires { (n < record_bound) × LinesBelow text.now groups.now items.now n lines }
-    ensures last { unwrap_or result n ≡ line_in text.now groups.now items.now n key.now }
-    ensures within { IfSome result (λ g. g < n) }
-{
-    base::search::last_place(lines, |g| defines_key_in(text, groups, items, g, key))
+impl Definitions<'_> {
+    ghost use Rattle.definition.specs.Lines.{line_in};
+
+    // The last of the group records that starts a definition line of the key. The search begins at `lines`, from which on none starts
+    // one of any key.
+    #[tactic(auto, unfolding(crate::specs::Lines::line_in))]
+    pub fn line_of(&self, key: &[u8]) -> Option<usize>
+        ensures last { unwrap_or result self.now.n ≡ line_in self.now.text.now self.now.groups.now self.now.items.now self.now.n key.now }
+        ensures within { IfSome result (λ g. g < self.now.n) }
+    {
+        base::search::last_place(
+            self.lines,
+            |g| defines_key_in(self.text, self.groups, self.items, g, key),
+        )
+    }
 }
