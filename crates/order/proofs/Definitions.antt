@@ -7,7 +7,7 @@ use mathlib.Core.List.{List, [], ◌∷◌, ◌++◌, map, map-append}
 use mathlib.Core.Logic.{inl, inr}
 use mathlib.Core.Bool.{Bool, true, false, not, true≢false}
 use lib.ListN.{length, get_or, set, take, drop, length-map}
-use lib.Seq.{length-take-le, take-suc, get_or-drop, get_or-append-add}
+use lib.Seq.{length-take-le, take_all, take-suc, get_or-drop, get_or-append-add}
 use lib.Dec.{ltb}
 use borrow.Author.Tests.{lt-ltb, le-ltb, ltb-true, ltb-false}
 use Rattle.base.specs.Pick.{pick}
@@ -20,8 +20,9 @@ use Rattle.pool.specs.Layout.{count_of, entry_at}
 use Rattle.source.specs.Entry.{is_empty}
 use Rattle.base.proofs.Areas.{written_front, written_none, written_byte, written_over}
 use Rattle.definition.specs.Defs.{is_defined, entry_defines}
-use Rattle.definition.specs.declared.defined.Defined.{Defined}
-use Rattle.definition.specs.declared.defined.Defined.TheVariants.{Line, Entry as EntryOf, Nothing}
+use Rattle.std.specs.Prelude.{Option, Some, None}
+use Rattle.definition.specs.declared.defined.Definition.{Definition}
+use Rattle.definition.specs.declared.defined.Definition.TheVariants.{Line, Entry}
 use Rattle.definition.specs.Lines.{defines_in, defines_key_in, line_in}
 use Rattle.definition.specs.Definitions.{definition_in}
 use Rattle.records.specs.Records.{key_in}
@@ -34,6 +35,7 @@ use Rattle.order.specs.References.{source_key_in, rank_in, number_of_key, Source
 use Rattle.order.specs.Ordered.{rank_by, definition_of, source_by, SortedBy}
 use Rattle.base.proofs.Lasts.{last_holds}
 use Rattle.order.proofs.Sorting.{less_asym, less_self}
+use Rattle.order.proofs.OrderLaws.{written_part}
 use Rattle.order.proofs.Insertions.{insert_alike, inserted_next, inserted_length, inserted_each, inserted_precedes}
 use Rattle.records.specs.Widths.{group_first}
 
@@ -46,16 +48,16 @@ module _ (text pool groups items key : List ℕ) (n : ℕ) where
   abbrev entry : ℕ
   entry = entry_in pool key
 
-  abbrev found : Defined
+  abbrev found : Option Definition
   found = found_in text groups items n pool key
 
   -- one of three
-  found_by : (P : Defined → Type 0) → (line < n → P (Line line)) → (n ≤ line → entry < count_of pool → P (EntryOf entry))
-      → (n ≤ line → count_of pool ≤ entry → P Nothing) → P found
+  found_by : (P : Option Definition → Type 0) → (line < n → P (Some (Line line))) → (n ≤ line → entry < count_of pool → P (Some (Entry entry)))
+      → (n ≤ line → count_of pool ≤ entry → P None) → P found
   unfolding found_in
   found_by P a b c = go (ltb line n) refl (ltb entry (count_of pool)) refl
     where
-      go : (t : Bool) → ltb line n ≡ t → (u : Bool) → ltb entry (count_of pool) ≡ u → P (pick t (Line line) (pick u (EntryOf entry) Nothing))
+      go : (t : Bool) → ltb line n ≡ t → (u : Bool) → ltb entry (count_of pool) ≡ u → P (pick t (Some (Line line)) (pick u (Some (Entry entry)) None))
       go true p u q = a (ltb-true line n p)
       go false p true q = b (ltb-false line n p) (ltb-true entry (count_of pool) q)
       go false p false q = c (ltb-false line n p) (ltb-false entry (count_of pool) q)
@@ -63,13 +65,13 @@ module _ (text pool groups items key : List ℕ) (n : ℕ) where
   found_there : DefinedIn pool n found
   found_there = found_by (DefinedIn pool n) (λ h. h) (λ h l. l) (λ h l. tt)
 
-  line_key : line < n → key_by text pool groups items (Line line) ≡ key
+  line_key : line < n → key_by text pool groups items (Some (Line line)) ≡ key
   unfolding key_by line_in defines_key_in
   line_key h =
       same_true (key_in text items (group_field groups line group_first)) key
       (and_right (defines_in text groups items line) _ (last_holds (defines_key_in text groups items key) n n (omega arith) h))
 
-  entry_key : entry < count_of pool → key_by text pool groups items (EntryOf entry) ≡ key
+  entry_key : entry < count_of pool → key_by text pool groups items (Some (Entry entry)) ≡ key
   unfolding key_by entry_in entry_has entry_defines
   entry_key h =
       same_true (entry_at pool entry).id key
@@ -83,14 +85,14 @@ module _ (text pool groups items key : List ℕ) (n : ℕ) where
       (λ h t. line_key h) (λ h l t. entry_key l) (λ h l t. absurd (true≢false (sym t)))
 
 -- the definition that has the number of one
-at_number : (pool : List ℕ) (n : ℕ) (d : Defined) → DefinedIn pool n d → definition_at pool n (definition_number pool n d) ≡ d
+at_number : (pool : List ℕ) (n : ℕ) (d : Option Definition) → DefinedIn pool n d → definition_at pool n (definition_number pool n d) ≡ d
 unfolding definition_at definition_number
-at_number pool n (Line g) h = rw (lt-ltb g n h) refl
-at_number pool n (EntryOf i) h =
+at_number pool n (Some (Line g)) h = rw (lt-ltb g n h) refl
+at_number pool n (Some (Entry i)) h =
     let a : n ≤ n + i = omega arith in
     let z : n + i - n ≡ i = omega arith in
     rw (le-ltb (n + i) n a, z, lt-ltb i (count_of pool) h) refl
-at_number pool n Nothing h =
+at_number pool n None h =
     let a : n ≤ n + count_of pool = omega arith in
     let z : n + count_of pool - n ≡ count_of pool = omega arith in
     let e : count_of pool ≤ count_of pool = omega arith in
@@ -160,11 +162,6 @@ module _ (text pool groups items : List ℕ) (n m : ℕ) (before : List ℕ) whe
   unfolding inserted_from
   definitions_start = written_none before
 
-  pub definitions_end : (i c : ℕ) {numbers : List ℕ} → i ≤ c → c ≤ i
-      → numbers ≡ written (map (definition_of text pool groups items n m) (inserted_from (rank_in text pool groups items n m) i [] 1)) before
-      → numbers ≡ written (map (definition_of text pool groups items n m) (inserted_from (rank_in text pool groups items n m) c [] 1)) before
-  definitions_end i c a b p = let e : i ≡ c = omega arith in rw e at p
-
   module _ (sources : ℕ) (known : SourcesKnown text pool groups items n m sources) where
     alike : (k : ℕ) → 1 ≤ k → k ≤ sources → rank_by text pool groups items n (definition_of text pool groups items n m k) ≡ rank_in text pool groups items n m k
     alike k a b = its_rank text pool groups items n m k (known.defined k a b)
@@ -220,7 +217,7 @@ module _ (text pool groups items : List ℕ) (n m : ℕ) (before : List ℕ) whe
         let k = length-map (ranked sources) (definition_of text pool groups items n m) in
         o ∙ rw (f, b, p) (written_over (defined sources) (ranked sources) before (omega arith))
 
-pub ruleset definition_laws = (definitions_start, definitions_more, definitions_end, definitions_sorted, sources_back)
+pub ruleset definition_laws = (definitions_start, definitions_more, definitions_sorted, sources_back)
 
 -- the pass that puts the numbers of the sources for those of their definitions
 module _ (text pool groups items : List ℕ) (n m : ℕ) (before : List ℕ) where
@@ -245,8 +242,13 @@ module _ (text pool groups items : List ℕ) (n m : ℕ) (before : List ℕ) whe
       let u : map f (take (i + 1) before) ≡ out ++ (v ∷ []) = rw (t, e, q, g) (map-append f (take i before) (get_or before i 0 ∷ [])) in
       written_byte before numbers out i v p (sym k) (omega arith) ∙ ap (λ (x : List ℕ). written x before) (sym u)
 
-  pub back_end : (i c : ℕ) {numbers : List ℕ} → i ≤ c → c ≤ i → numbers ≡ written (map (source_by text pool groups items n m) (take i before)) before
-      → numbers ≡ written (map (source_by text pool groups items n m) (take c before)) before
-  back_end i c a b p = let e : i ≡ c = omega arith in rw e at p
+pub back_all : (text pool groups items : List ℕ) (n m s : ℕ) (area : List ℕ) {i : ℕ} {numbers : List ℕ} → i ≡ length (take s area) → s ≤ length area
+    → numbers ≡ written (map (source_by text pool groups items n m) (take i (take s area))) (take s area)
+    → numbers ++ drop s area ≡ written (map (source_by text pool groups items n m) (take s area)) area
+back_all text pool groups items n m s area e h p =
+    let f = source_by text pool groups items n m in
+    let k : take (length (take s area)) (take s area) ≡ take s area = take_all (length (take s area)) (take s area) (omega arith) in
+    let l : length (map f (take s area)) ≡ s = length-map (take s area) f ∙ length-take-le s area h in
+    rw (p, e, k) (written_part (map f (take s area)) area s l h)
 
-pub ruleset back_laws = (back_start, back_more, back_end)
+pub ruleset back_laws = (back_start, back_more, back_all)

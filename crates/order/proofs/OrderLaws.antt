@@ -3,82 +3,22 @@ use Prim.Native.Nat.{ℕ, zero, suc, ◌+◌, ◌-◌, ◌≤◌, ◌<◌}
 use native.Mathlib.Omega.{arith}
 use native.Mathlib.Numerals.{add-one}
 use mathlib.Core.Path.{◌≡◌, refl, sym, ◌∙◌, ap}
-use mathlib.Core.List.{List, [], ◌∷◌, ◌++◌}
+use mathlib.Core.List.{List, [], ◌∷◌, ◌++◌, append-nil}
 use mathlib.Core.Bool.{Bool, true, false}
-use lib.ListN.{length, get_or, set, take, drop, drop_of_length-le, length-drop}
-use lib.Seq.{drop-cons, length-take-le}
-use lib.Dec.{ltb}
-use borrow.Author.Tests.{lt-ltb, le-ltb, eq-eqb, ne_eqb}
+use lib.ListN.{length, get_or, set, take, drop, drop_of_length-le, length-take, length-drop}
+use lib.Seq.{length-take-le}
+use borrow.Rule.Slice.PartMut.{put_mid}
 use Rattle.base.specs.Pick.{pick}
 use Rattle.base.specs.First.{first}
 use Rattle.base.specs.Lists.{written, up_from}
-use Rattle.base.proofs.Searches.{first_by, first_shift}
+use Rattle.base.proofs.Searches.{first_shift}
 use Rattle.base.proofs.Ups.{up_length}
 use Rattle.base.proofs.Areas.{written_none, written_byte}
-use Rattle.order.specs.Order.{less, insert_by, inserted_from, reference_order}
-use Rattle.order.specs.Ordered.{rank_by, greater_at, shifted}
-use Rattle.order.specs.References.{rank_in, references_in}
+use Rattle.order.specs.Order.{less, insert_by}
+use Rattle.order.specs.Ordered.{greater_at, shifted}
 use Rattle.order.proofs.Insertions.{insert_length}
 
--- the order of bytes -------------------------------------------------------------------------------------------------------------
-
-module _ (a b : List ℕ) (i : ℕ) {w : Bool} (p : w ≡ less (drop i a) (drop i b)) where
-  pub less_out : length a ≤ i → ltb i (length b) ≡ w
-  unfolding less
-  less_out h = sym (p ∙ rw (drop_of_length-le a h) (go (drop i b) refl))
-    where
-      go : (l : List ℕ) → drop i b ≡ l → less [] l ≡ ltb i (length b)
-      go [] e = let k = ap length e in sym (le-ltb i (length b) (omega (arith, rw length-drop at k)))
-      go (x ∷ xs) e = let k = ap length e in sym (lt-ltb i (length b) (omega (arith, rw length-drop at k)))
-
-  pub less_short : i < length a → length b ≤ i → false ≡ w
-  unfolding less
-  less_short h l = sym (p ∙ rw (drop-cons a i 0 h, drop_of_length-le b l))
-
-  pub less_below : i < length a → i < length b → get_or a i 0 < get_or b i 0 → true ≡ w
-  unfolding less
-  less_below h l q = sym (p ∙ rw (drop-cons a i 0 h, drop-cons b i 0 l, lt-ltb _ _ q))
-
-  pub less_above : i < length a → i < length b → get_or b i 0 < get_or a i 0 → false ≡ w
-  unfolding less
-  less_above h l q =
-      let n : (get_or a i 0 ≡ get_or b i 0 → ⊥) = λ e. omega arith in
-      let m : get_or b i 0 ≤ get_or a i 0 = omega arith in
-      sym (p ∙ rw (drop-cons a i 0 h, drop-cons b i 0 l, le-ltb _ _ m, ne_eqb _ _ n))
-
-  pub less_same : i < length a → i < length b → get_or b i 0 ≤ get_or a i 0 → get_or a i 0 ≤ get_or b i 0 → w ≡ less (drop (i + 1) a) (drop (i + 1) b)
-  unfolding less
-  less_same h l q r =
-      let e : get_or a i 0 ≡ get_or b i 0 = omega arith in
-      p ∙ rw (add-one, drop-cons a i 0 h, drop-cons b i 0 l, le-ltb _ _ q, eq-eqb _ _ e)
-
-pub ruleset less_laws = (less_out, less_short, less_below, less_above, less_same)
-
--- the place of a rank -------------------------------------------------------------------------------------------------------------
-
-module _ (text pool groups items : List ℕ) (n : ℕ) (bytes numbers : List ℕ) (i : ℕ) where
-  pub greater_is : {d : ℕ} {v : List ℕ} {r : Bool} → d ≡ get_or numbers i 0 → v ≡ rank_by text pool groups items n d → r ≡ less bytes v
-      → r ≡ greater_at (rank_by text pool groups items n) bytes numbers i
-  unfolding greater_at
-  greater_is p q e = e ∙ rw (q, p) refl
-
-pub ruleset place_laws = (greater_is)
-
 -- numbers one place further ------------------------------------------------------------------------------------------------------
-
-module _ (area : List ℕ) (to i x : ℕ) {w : List ℕ} (p : w ≡ shifted (to - i) area i x) where
-  pub shift_more : i < to → w ≡ shifted (to - (i + 1)) (set area i x) (i + 1) (get_or area i 0)
-  unfolding shifted
-  shift_more h = let z : to - i ≡ suc (to - (i + 1)) = omega arith in p ∙ rw z refl
-
-  pub shift_end : i ≤ to → to ≤ i → set area to x ≡ w
-  unfolding shifted
-  shift_end a b =
-      let z : to - i ≡ 0 = omega arith in
-      let e : i ≡ to = omega arith in
-      sym (p ∙ rw (z, e) refl)
-
-pub ruleset shift_laws = (shift_more, shift_end)
 
 shifted_cons : (n y : ℕ) (ys : List ℕ) (i x : ℕ) → shifted n (y ∷ ys) (suc i) x ≡ y ∷ shifted n ys i x
 unfolding shifted
@@ -93,6 +33,35 @@ shifted_front n [] x h = absurd (omega arith)
 shifted_front zero (y ∷ ys) x h = refl
 shifted_front (suc n) (y ∷ ys) x h =
     shifted_cons n x ys 0 y ∙ ap (λ (l : List ℕ). x ∷ l) (shifted_front n ys y (omega arith))
+
+last_of : (k : ℕ) (l : List ℕ) → k < length l → drop k (take (suc k) l) ≡ get_or l k 0 ∷ []
+last_of k [] h = absurd (omega arith)
+last_of zero (y ∷ ys) h = refl
+last_of (suc k) (y ∷ ys) h = last_of k ys (omega arith)
+
+front_of : (k : ℕ) (l : List ℕ) → take k (take (suc k) l) ≡ take k l
+front_of zero l = refl
+front_of (suc k) [] = refl
+front_of (suc k) (y ∷ ys) = ap (λ (l : List ℕ). y ∷ l) (front_of k ys)
+
+turned : (k : ℕ) (l : List ℕ) (v : ℕ) → k < length l
+    → set ((drop k (take (suc k) l) ++ take k (take (suc k) l)) ++ drop (suc k) l) 0 v ≡ v ∷ (take k l ++ drop (suc k) l)
+turned k l v h = rw (last_of k l h, front_of k l) refl
+
+pub rotated : (from k : ℕ) (area mid : List ℕ) (v : ℕ) → from + k < length area
+    → mid ≡ drop k (take (suc k) (drop from area)) ++ take k (take (suc k) (drop from area))
+    → set (take from area ++ (mid ++ drop (suc k) (drop from area))) from v ≡ shifted k area from v
+rotated from k [] mid v h e = absurd (omega arith)
+rotated zero k (y ∷ ys) mid v h e = let l : k < length (y ∷ ys) = omega arith in rw e (turned k (y ∷ ys) v l ∙ sym (shifted_front k (y ∷ ys) v l))
+rotated (suc from) k (y ∷ ys) mid v h e = ap (λ (l : List ℕ). y ∷ l) (rotated from k ys mid v (omega arith) e) ∙ sym (shifted_cons k y ys from v)
+
+pub rotated_to : (area mid : List ℕ) (from to v : ℕ) → from ≤ to → to < length area
+    → mid ≡ drop (length (take (to + 1 - from) (drop from area)) - 1) (take (to + 1 - from) (drop from area)) ++ take (length (take (to + 1 - from) (drop from area)) - 1) (take (to + 1 - from) (drop from area))
+    → set (put_mid from (to + 1 - from) area mid) from v ≡ shifted (to - from) area from v
+rotated_to area mid from to v h l e =
+    let n : to + 1 - from ≡ suc (to - from) = omega arith in
+    let m : length (take (suc (to - from)) (drop from area)) - 1 ≡ to - from = rw (length-take, length-drop) (omega arith) in
+    rw n (rotated from (to - from) area mid v (omega arith) (rw (n, m) at e))
 
 -- inserted by rank ---------------------------------------------------------------------------------------------------------------
 
@@ -128,19 +97,13 @@ insert_shift rank bytes k e (suc c) (y ∷ ys) h = rw (← e) (go (less bytes (r
     go true r = rw z (shifted_cons c k ys 0 y ∙ ap (λ (l : List ℕ). k ∷ l) (shifted_front c ys y (omega arith)))
     go false r = rw (← q, u, add-one p) (shifted_cons (c - p) y ys p k ∙ ap (λ (l : List ℕ). y ∷ l) r)
 
-module _ (text pool groups items : List ℕ) (n c d : ℕ) (numbers bytes : List ℕ) {p : ℕ} where
-  pub place_within : p ≡ first (greater_at (rank_by text pool groups items n) bytes numbers) c 0 → p ≤ c
-  place_within q = let l = first_by (greater_at (rank_by text pool groups items n) bytes numbers) c 0 in omega arith
-
-  pub insert_written : {out : List ℕ} → bytes ≡ rank_by text pool groups items n d
-      → p ≡ first (greater_at (rank_by text pool groups items n) bytes numbers) c 0 → c < length numbers
-      → out ≡ shifted (c - p) numbers p d → out ≡ written (insert_by (rank_by text pool groups items n) (take c numbers) d) numbers
-  unfolding written
-  insert_written e q h o =
-      let l = insert_length (rank_by text pool groups items n) (take c numbers) d in
-      o ∙ rw (q, l, length-take-le c numbers (omega arith)) (insert_shift (rank_by text pool groups items n) bytes d e c numbers h)
-
-pub ruleset insert_laws = (place_within, insert_written)
+pub insert_written : (rank : ℕ → List ℕ) (c d : ℕ) (numbers bytes : List ℕ) {p : ℕ} {out : List ℕ} → bytes ≡ rank d
+    → p ≡ first (greater_at rank bytes numbers) c 0 → c < length numbers
+    → out ≡ shifted (c - p) numbers p d → out ≡ written (insert_by rank (take c numbers) d) numbers
+unfolding written
+insert_written rank c d numbers bytes e q h o =
+    let l = insert_length rank (take c numbers) d in
+    o ∙ rw (q, l, length-take-le c numbers (omega arith)) (insert_shift rank bytes d e c numbers h)
 
 -- by number ----------------------------------------------------------------------------------------------------------------------
 
@@ -161,22 +124,18 @@ module _ (before : List ℕ) (i : ℕ) where
       let e : up_from 1 i ++ ((i + 1) ∷ []) ≡ up_from 1 (i + 1) = rw (add-one i) (rw (z, add-one i) at (sym (up_next 1 i))) in
       rw (← e) (written_byte before numbers (up_from 1 i) i (i + 1) p (sym l) (omega arith))
 
-  pub up_end : (c : ℕ) {numbers : List ℕ} → i ≤ c → c ≤ i → numbers ≡ written (up_from 1 i) before → numbers ≡ written (up_from 1 c) before
-  up_end c a b p = let e : i ≡ c = omega arith in rw e at p
+-- a front that was written, before what lies after it
+pub written_part : (out area : List ℕ) (s : ℕ) → length out ≡ s → s ≤ length area → written out (take s area) ++ drop s area ≡ written out area
+unfolding written
+written_part out area s e h =
+    let n : length (take s area) ≡ s = length-take-le s area h in
+    let z : drop (length out) (take s area) ≡ [] = drop_of_length-le (take s area) {i = length out} (omega arith) in
+    rw (z, append-nil, e) refl
 
-pub ruleset up_laws = (up_start, up_more, up_end)
+pub up_back : (s : ℕ) (area : List ℕ) {i : ℕ} {items : List ℕ} → i ≡ length (take s area) → s ≤ length area
+    → items ≡ written (up_from 1 i) (take s area) → items ++ drop s area ≡ written (up_from 1 s) area
+up_back s area e h p =
+    let n : length (take s area) ≡ s = length-take-le s area h in
+    rw (p, e, n) (written_part (up_from 1 s) area s (up_length 1 s) h)
 
--- the whole order ---------------------------------------------------------------------------------------------------------------
-
-module _ (text pool groups items : List ℕ) (n m mode sources : ℕ) (before : List ℕ) where
-  pub by_number : {out : List ℕ} → mode ≡ 0 → out ≡ written (up_from 1 sources) before
-      → out ≡ written (references_in text pool groups items n m mode sources) before
-  unfolding references_in reference_order
-  by_number p e = e ∙ rw (eq-eqb mode 0 p) refl
-
-  pub by_rank : {out : List ℕ} → (mode ≡ 0 → ⊥) → out ≡ written (inserted_from (rank_in text pool groups items n m) sources [] 1) before
-      → out ≡ written (references_in text pool groups items n m mode sources) before
-  unfolding references_in reference_order
-  by_rank p e = e ∙ rw (ne_eqb mode 0 p) refl
-
-pub ruleset reference_laws = (by_number, by_rank)
+pub ruleset up_laws = (up_start, up_more, up_back)

@@ -1,5 +1,5 @@
--- The order of bytes, and the place of a rank among numbers that are in order, found by halves.
-use Prim.Native.Nat.{ℕ, zero, suc, ◌+◌, ◌≤◌, ◌<◌}
+-- The order of bytes, and numbers in order.
+use Prim.Native.Nat.{ℕ, zero, suc, ◌≤◌, ◌<◌}
 use native.Mathlib.Omega.{arith}
 use mathlib.Core.Path.{◌≡◌, refl, sym, ◌∙◌}
 use mathlib.Core.List.{List, [], ◌∷◌}
@@ -9,11 +9,9 @@ use lib.ListN.{length, get_or, take}
 use lib.Seq.{get_or-take, length-take-le}
 use lib.Dec.{eqb, ltb}
 use borrow.Author.Tests.{lt-ltb, le-ltb, eq-eqb, ne_eqb, ltb-true, ltb-false, eqb-true, eqb-false}
-use Rattle.base.specs.First.{first}
 use Rattle.base.specs.Sorted.{Each}
-use Rattle.base.proofs.Searches.{first_by, first_holds, first_before}
 use Rattle.order.specs.Order.{less}
-use Rattle.order.specs.Ordered.{rank_by, greater_at, Rising, SortedBy}
+use Rattle.order.specs.Ordered.{greater_at, Rising, SortedBy}
 
 -- the order of bytes -------------------------------------------------------------------------------------------------------------
 
@@ -133,41 +131,3 @@ module _ (rank : ℕ → List ℕ) where
           less_cut bytes (rank (get_or l i 0)) (rank (get_or l j 0)) t
           (rw (x, y) at (sorted_at (take c l) i j s h (omega (arith, n))))
       go false e = let h = ltb-false i j e in let z : i ≡ j = omega arith in rw z at t
-
--- a search by halves -------------------------------------------------------------------------------------------------------------
-
-module _ (f : ℕ → Bool) (c : ℕ) (r : Rising f c) (x : ℕ) where
-  above : x < c → f x ≡ false → x + 1 ≤ first f c 0
-  above h e = go (ltb x (first f c 0)) refl
-    where
-      go : (t : Bool) → ltb x (first f c 0) ≡ t → x + 1 ≤ first f c 0
-      go true q = let l = ltb-true x (first f c 0) q in omega arith
-      go false q =
-          let l = ltb-false x (first f c 0) q in
-          absurd (true≢false (sym (r (first f c 0) x l h (first_holds f c 0 (omega arith))) ∙ e))
-
-module _ (text pool groups items : List ℕ) (n : ℕ) (bytes numbers : List ℕ) (c : ℕ) where
-  pub half_below : (x : ℕ) {b : Bool} → b ≡ greater_at (rank_by text pool groups items n) bytes numbers x → b ≡ true
-      → first (greater_at (rank_by text pool groups items n) bytes numbers) c 0 ≤ x
-  half_below x q t = first_before (greater_at (rank_by text pool groups items n) bytes numbers) c 0 x (omega arith) (sym q ∙ t)
-
-  pub half_above : (x : ℕ) {b : Bool} → Rising (greater_at (rank_by text pool groups items n) bytes numbers) c → x < c
-      → b ≡ greater_at (rank_by text pool groups items n) bytes numbers x → b ≡ false
-      → x + 1 ≤ first (greater_at (rank_by text pool groups items n) bytes numbers) c 0
-  half_above x r h q t = above (greater_at (rank_by text pool groups items n) bytes numbers) c r x h (sym q ∙ t)
-
-  pub half_start : first (greater_at (rank_by text pool groups items n) bytes numbers) c 0 ≤ c
-  half_start = omega (arith, first_by (greater_at (rank_by text pool groups items n) bytes numbers) c 0)
-
-  pub half_end : {low high : ℕ} → low ≤ first (greater_at (rank_by text pool groups items n) bytes numbers) c 0
-      → first (greater_at (rank_by text pool groups items n) bytes numbers) c 0 ≤ high → high ≤ low
-      → low ≡ first (greater_at (rank_by text pool groups items n) bytes numbers) c 0
-  half_end a b h = omega arith
-
-pub ruleset half_laws = (half_start, half_end)
-
-pub rises_here : (text pool groups items : List ℕ) (n : ℕ) (bytes numbers : List ℕ) (c : ℕ) → c < length numbers
-    → SortedBy (rank_by text pool groups items n) (take c numbers) → Rising (greater_at (rank_by text pool groups items n) bytes numbers) c
-rises_here text pool groups items n bytes numbers c h s = sorted_rises (rank_by text pool groups items n) bytes numbers c (omega arith) s
-
-pub ruleset sorted_laws = (rises_here)

@@ -3,228 +3,96 @@
 
 pub mod ranks;
 
-ghost use Rattle.std.specs.Prelude.{◌≡◌, true, [], map, ◌-◌, ◌<◌, ◌≤◌, length, take};
-ghost use Rattle.base.specs.First.{first};
+ghost use Rattle.std.specs.Prelude.{◌≡◌, [], map, ◌<◌, ◌≤◌, length, take};
 ghost use Rattle.base.specs.Lists.{written, up_from};
-ghost use Rattle.pool.specs.Layout.{well_formed};
-ghost use Rattle.definition.specs.Definitions.{LinesBelow};
-ghost use Rattle.order.specs.Order.{less, insert_by, inserted_from};
-ghost use Rattle.order.specs.Ordered.{definition_of, source_by, rank_by, greater_at, shifted, Rising, SortedBy};
-ghost use Rattle.order.specs.References.{rank_in, SourcesKnown, references_in};
+ghost use Rattle.base.specs.Modes.{mode_number};
+ghost use Rattle.order.specs.Order.{insert_by, inserted_from};
+ghost use Rattle.order.specs.Ordered.{SortedBy};
+ghost use Rattle.order.specs.ByDefinitions.{rank_of, number_of, source_of, source_rank, Known, references_of};
 ghost use Rattle.records.specs.Bounds.{record_bound};
 
-// Whether the bytes `a` come before the bytes `b`.
-fn is_less(a: &[u8], b: &[u8]) -> bool
-    ensures { result ≡ less a.now b.now }
-{
-    let mut i: usize = 0;
-    while i < a.len() {
-        if b.len() <= i {
-            return false;
-        }
-        if a[i] < b[i] {
-            return true;
-        }
-        if b[i] < a[i] {
-            return false;
-        }
-        i += 1;
-    }
-    i < b.len()
-}
-
-// Whether the definition whose number is at place `i` of `references` has a greater rank than `rank`.
-fn is_greater<'a>(
-    text: &'a [u8],
-    pool: &'a [u8],
-    groups: &[u16],
-    items: &[u16],
-    n: usize,
-    rank: &[u8],
-    references: &[u16],
-    i: usize,
-) -> bool
-    requires { (n < record_bound) × (well_formed pool.now ≡ true) }
-    ensures { result ≡ greater_at (rank_by text.now pool.now groups.now items.now n) rank.now references.now i }
-{
-    let d = records::number_at(references, i);
-    is_less(rank, ranks::rank_by(text, pool, groups, items, n, d))
-}
-
-// The first of the `count` places of `references` whose definition has a greater rank than `rank`, all after it having one too; `count` where none has.
-fn place_of<'a>(
-    text: &'a [u8],
-    pool: &'a [u8],
-    groups: &[u16],
-    items: &[u16],
-    n: usize,
-    rank: &[u8],
-    references: &[u16],
-    count: usize,
-) -> usize
-    requires { (n < record_bound) × (well_formed pool.now ≡ true) × (count < 65536)
-        × Rising (greater_at (rank_by text.now pool.now groups.now items.now n) rank.now references.now) count }
-    ensures { result ≡ first
-        (greater_at (rank_by text.now pool.now groups.now items.now n) rank.now references.now)
-        count 0 }
-{
-    let mut low: usize = 0;
-    let mut high = count;
-    while low < high {
-        let middle = low + (high - low) / 2;
-        if is_greater(text, pool, groups, items, n, rank, references, middle) {
-            high = middle;
-        } else {
-            low = middle + 1;
-        }
-    }
-    low
-}
-
-// The number `v` at place `from`, and those from there up to `to` one place further.
-fn shift(references: &mut [u16], from: usize, to: usize, v: u16)
-    requires { (from ≤ to) × (to < length references.old) }
-    ensures { references.new ≡ shifted (to - from) references.old from v }
-{
-    let mut x = v;
-    let mut i = from;
-    while i < to {
-        let y = references[i];
-        references[i] = x;
-        x = y;
-        i += 1;
-    }
-    references[to] = x;
-}
+use base::mode::Mode;
+use definition::Definitions;
+use ranks::{definition_of, rank_by, source_by};
 
 // The definition number `d`, into the `count` definition numbers in order at the front of `references`.
-fn insert_definition<'a>(
-    text: &'a [u8],
-    pool: &'a [u8],
-    groups: &[u16],
-    items: &[u16],
-    n: usize,
-    count: usize,
-    d: u16,
-    references: &mut [u16],
-)
-    requires { (n < record_bound) × (well_formed pool.now ≡ true) × (count < 65535) × (count < length references.old)
-        × SortedBy (rank_by text.now pool.now groups.now items.now n) (take count references.old) }
-    ensures { references.new ≡ written
-        (insert_by (rank_by text.now pool.now groups.now items.now n) (take count references.old) d)
-        references.old }
+fn insert_definition(definitions: &Definitions, count: usize, d: u16, references: &mut [u16])
+    requires { (count < 65535) × (count < length references.old) × SortedBy (rank_of definitions.now) (take count references.old) }
+    ensures { references.new ≡ written (insert_by (rank_of definitions.now) (take count references.old) d) references.old }
 {
-    let rank = ranks::rank_by(text, pool, groups, items, n, d as usize);
-    let place = place_of(text, pool, groups, items, n, rank, references, count);
-    shift(references, place, count, d);
+    let rank = rank_by(definitions, usize::from(d));
+    let place = references[..count].partition_point(|&other| rank_by(
+        definitions,
+        usize::from(other),
+    ) <= rank);
+    references[place..=count].rotate_right(1);
+    references[place] = d;
 }
 
 // The numbers of the definitions of the `sources` sources, by their ranks. Each definition is searched for once.
-fn order_definitions<'a>(
-    text: &'a [u8],
-    pool: &'a [u8],
-    groups: &[u16],
-    items: &[u16],
-    n: usize,
-    lines: usize,
-    m: usize,
-    sources: usize,
-    references: &mut [u16],
-)
-    requires { (n ≤ 32768) × (m < record_bound) × (well_formed pool.now ≡ true) × (sources ≤ 65535) × (sources ≤ length references.old)
-        × SourcesKnown text.now pool.now groups.now items.now n m sources × LinesBelow text.now groups.now items.now n lines }
+
+fn order_definitions(definitions: &Definitions, m: usize, sources: usize, references: &mut [u16])
+    requires { (definitions.now.n ≤ 32768) × (m < record_bound) × (sources ≤ 65535) × (sources ≤ length references.old)
+        × Known definitions.now m sources }
     ensures { references.new ≡ written
-        (map (definition_of text.now pool.now groups.now items.now n m)
-        (inserted_from (rank_in text.now pool.now groups.now items.now n m) sources [] 1))
+        (map (number_of definitions.now m) (inserted_from (source_rank definitions.now m) sources [] 1))
         references.old }
 {
-    let mut i: usize = 0;
-    while i < sources {
-        let d = ranks::definition_of(text, pool, groups, items, n, lines, m, i + 1);
-        insert_definition(text, pool, groups, items, n, i, d, references);
-        i += 1;
+    for i in 0..sources {
+        let d = definition_of(definitions, m, i + 1);
+        insert_definition(definitions, i, d, references);
     }
 }
 
 // The numbers of the sources, for those of their definitions at the first `sources` places.
-fn number_sources<'a>(
-    text: &'a [u8],
-    pool: &'a [u8],
-    groups: &[u16],
-    items: &[u16],
-    n: usize,
-    m: usize,
-    sources: usize,
-    references: &mut [u16],
-)
-    requires { (n < record_bound) × (m < record_bound) × (well_formed pool.now ≡ true) × (sources ≤ length references.old) }
-    ensures { references.new ≡ written
-        (map (source_by text.now pool.now groups.now items.now n m) (take sources references.old))
-        references.old }
+
+fn number_sources(definitions: &Definitions, m: usize, sources: usize, references: &mut [u16])
+    requires { (m < record_bound) × (sources ≤ length references.old) }
+    ensures { references.new ≡ written (map (source_of definitions.now m) (take sources references.old)) references.old }
 {
-    let mut i: usize = 0;
-    while i < sources {
-        let d = records::number_at(references, i);
-        references[i] = ranks::source_by(text, pool, groups, items, n, m, d);
-        i += 1;
+    for reference in &mut references[..sources] {
+        *reference = source_by(definitions, m, usize::from(*reference));
     }
 }
 
 // The numbers from 1 on, `sources` of them, by their ranks.
-fn order_by_rank<'a>(
-    text: &'a [u8],
-    pool: &'a [u8],
-    groups: &[u16],
-    items: &[u16],
-    n: usize,
-    lines: usize,
-    m: usize,
-    sources: usize,
-    references: &mut [u16],
-)
-    requires { (n ≤ 32768) × (m < record_bound) × (well_formed pool.now ≡ true) × (sources ≤ 65535) × (sources ≤ length references.old)
-        × SourcesKnown text.now pool.now groups.now items.now n m sources × LinesBelow text.now groups.now items.now n lines }
-    ensures { references.new ≡ written
-        (inserted_from (rank_in text.now pool.now groups.now items.now n m) sources [] 1) references.old }
+
+fn order_by_rank(definitions: &Definitions, m: usize, sources: usize, references: &mut [u16])
+    requires { (definitions.now.n ≤ 32768) × (m < record_bound) × (sources ≤ 65535) × (sources ≤ length references.old)
+        × Known definitions.now m sources }
+    ensures { references.new ≡ written (inserted_from (source_rank definitions.now m) sources [] 1) references.old }
 {
-    order_definitions(text, pool, groups, items, n, lines, m, sources, references);
-    number_sources(text, pool, groups, items, n, m, sources, references);
+    order_definitions(definitions, m, sources, references);
+    number_sources(definitions, m, sources, references);
 }
 
 // The numbers from 1 on, `sources` of them.
+#[tactic(auto, using(crate::proofs::OrderLaws::up_laws))]
 fn order_by_number(sources: usize, references: &mut [u16])
     requires { (sources ≤ 65535) × (sources ≤ length references.old) }
     ensures { references.new ≡ written (up_from 1 sources) references.old }
 {
-    let mut i: usize = 0;
-    while i < sources {
-        references[i] = (i + 1) as u16;
-        i += 1;
+    for (i, reference) in references[..sources].iter_mut().enumerate() {
+        *reference = (i + 1) as u16;
     }
 }
 
-// The numbers of the `sources` sources in reference order, at the front of `references`, from the records of `n` groups, whose
-// definition lines lie below `lines`, and `m` items.
-pub fn order_references<'a>(
-    text: &'a [u8],
-    mode: u8,
-    pool: &'a [u8],
-    n: usize,
-    lines: usize,
+// The numbers of the `sources` sources in reference order, at the front of `references`, from where their keys are defined and `m` item
+// records.
+#[tactic(auto, unfolding(crate::specs::References::references_in, crate::specs::Order::reference_order))]
+pub fn order_references(
+    definitions: &Definitions,
+    mode: Mode,
     m: usize,
     sources: usize,
-    items: &[u16],
-    groups: &[u16],
     references: &mut [u16],
 )
-    requires { (n ≤ 32768) × (m ≤ 65535) × (well_formed pool.now ≡ true) × (sources ≤ 65535) × (sources ≤ length references.old)
-        × SourcesKnown text.now pool.now groups.now items.now n m sources × LinesBelow text.now groups.now items.now n lines }
-    ensures { references.new ≡ written
-        (references_in text.now pool.now groups.now items.now n m mode sources) references.old }
+    requires { (definitions.now.n ≤ 32768) × (m ≤ 65535) × (sources ≤ 65535) × (sources ≤ length references.old)
+        × Known definitions.now m sources }
+    ensures { references.new ≡ written (references_of definitions.now m (mode_number mode) sources) references.old }
 {
-    if mode == 0 {
-        order_by_number(sources, references);
-        return;
+    match mode {
+        Mode::Number => order_by_number(sources, references),
+        Mode::AuthorYear => order_by_rank(definitions, m, sources, references),
     }
-    order_by_rank(text, pool, groups, items, n, lines, m, sources, references);
 }
