@@ -1,14 +1,14 @@
 -- An area with a label at some place: the label was copied there, or written into the rest of the area from there on.
 use Prim.Native.Nat.{ℕ, ◌+◌, ◌-◌, ◌≤◌, ◌<◌}
 use native.Mathlib.Omega.{arith}
-use native.Mathlib.Numerals.{add-one}
 use mathlib.Core.Path.{◌≡◌, refl, sym, ◌∙◌, ap}
 use mathlib.Core.Bool.{Bool, true, false}
 use mathlib.Core.List.{List, [], ◌++◌, append_assoc, append-nil}
-use lib.ListN.{length, get_or, take, drop, set, take-append-drop, length-append, length-take, length-drop, drop_of_length-le, get_or-append}
-use lib.Seq.{take_all, take_at, drop_at, drop-drop, take-append-le, drop-append-le, get_or-take, get_or-drop, length-take-le, paste, paste-zero, paste-suc}
+use lib.ListN.{length, take, drop, take-append-drop, length-append, length-take, length-drop, drop_of_length-le}
+use lib.Seq.{take_all, take_at, drop_at, drop-drop, take-append-le, drop-append-le, length-take-le}
 use lib.Dec.{leb}
 use borrow.Author.Tests.{le-leb, lt-leb, leb-true}
+use Rattle.std.specs.List.{copy_within}
 use Rattle.base.specs.Pick.{pick}
 use Rattle.base.specs.Lists.{written}
 use Rattle.base.proofs.Areas.{written_length}
@@ -28,36 +28,14 @@ module _ (s : List ℕ) (from len at : ℕ) (h : from + len ≤ at) (r : at ≤ 
       let e = lt-leb (length label) (length (drop at s)) (rw (label_length, length-drop) l) in
       rw e (sym (take-append-drop at s))
 
-  pub copy_start : s ≡ paste s at (drop from s) 0
-  copy_start = paste-zero s at (drop from s)
+  pub copy_all : {t : List ℕ} → t ≡ copy_within s from (from + len) at → len ≤ length s - at → t ≡ fitted_at label at s
+  unfolding fitted_at written
+  copy_all p l =
+      let z : from + len - from ≡ len = omega arith in
+      let e = le-leb (length label) (length (drop at s)) (rw (label_length, length-drop) l) in
+      rw (p, z, e, label_length, drop-drop len at s) (append_assoc (take at s) label (drop (at + len) s))
 
-  module _ {t : List ℕ} {i : ℕ} (p : t ≡ paste s at (drop from s) i) (l : len ≤ length s - at) where
-    -- what is read was not written
-    read : i < len → get_or t (from + i) 0 ≡ get_or (drop from s) i 0
-    read k =
-        let a : from + i < length (take at s) = rw (length-take-le at s r) (omega arith) in
-        let b : from + i < length (take at s ++ take i (drop from s)) = rw length-append (omega arith) in
-        rw (
-          p,
-          get_or-append (take at s ++ take i (drop from s)) (drop (at + i) s) 0 (from + i) b,
-          get_or-append (take at s) (take i (drop from s)) 0 (from + i) a,
-          get_or-take at s (from + i) 0 (omega arith),
-          get_or-drop from s i 0,
-        )
-
-    pub copy_more : i < len → set t (at + i) (get_or t (from + i) 0) ≡ paste s at (drop from s) (i + 1)
-    copy_more k =
-        let b : i < length (drop from s) = rw length-drop (omega arith) in
-        rw (read k, p, add-one) (paste-suc s at (drop from s) i 0 (omega arith) b)
-
-    pub copy_end : i ≤ len → len ≤ i → t ≡ fitted_at label at s
-    unfolding fitted_at written
-    copy_end a b =
-        let z : i ≡ len = omega arith in
-        let e = le-leb (length label) (length (drop at s)) (rw (label_length, length-drop) l) in
-        rw (p, z, e, label_length, drop-drop len at s) (append_assoc (take at s) label (drop (at + len) s))
-
-pub ruleset copy_label_laws = (copy_none, copy_start, copy_more, copy_end)
+pub ruleset copy_label_laws = (copy_none, copy_all)
 
 -- an area is as long after an answer as before, whether that fit or not
 fitted_length : (out s : List ℕ) → length (fitted out s) ≡ length s

@@ -1,3 +1,4 @@
 pub mod Labels
 pub mod Areas
+pub mod Pieces
 pub mod Cases

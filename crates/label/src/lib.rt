@@ -1,220 +1,200 @@
 // The label of an item, written at the front of the rest of the label bytes. Nothing is written where it does not fit.
 #![tactic(auto)]
 
-ghost use Rattle.std.specs.Prelude.{◌≡◌, [], ◌∷◌, ◌++◌, ◌+◌, ◌<◌, ◌≤◌, length, take, drop};
+ghost use Rattle.std.specs.Prelude.{◌≡◌, [], ◌∷◌, ◌++◌, ◌+◌, ◌<◌, ◌≤◌, length, take, drop, MatchOption};
 ghost use Rattle.std.proofs.Math.Option.{get_or};
-ghost use Rattle.base.specs.Lists.{part, written};
+ghost use Rattle.base.specs.Lists.{written};
+ghost use Rattle.base.specs.Modes.{mode_number};
 ghost use Rattle.text.specs.Trim.{trim_end, trim};
-ghost use Rattle.pool.specs.Numbers.{signed};
 ghost use Rattle.decimal.specs.Decimal.{decimal};
-ghost use Rattle.source.specs.Decimal.{signed_decimal};
-ghost use Rattle.definition.specs.Parts.{author_given, year_bytes};
+ghost use Rattle.pool.specs.Readers.{lent};
+ghost use Rattle.source.specs.Years.{year_bytes, written_year};
 ghost use Rattle.label.specs.Areas.{fitted_at, Fitted};
-ghost use Rattle.label.specs.Labels.{author_year, year_only, label_by};
+ghost use Rattle.label.specs.Labels.{or_number, author_year, label_by};
+ghost use Rattle.label.specs.Pieces.{label_bytes};
 
-use definition::{Author, Year};
+use base::mode::Mode;
+use source::Year;
 
-// Bytes, where they fit. Their length.
-fn write_bytes(label: &[u8], out: &mut [u8]) -> usize
-    ensures { Fitted label.now out.old result out.new }
-{
-    let n = label.len();
-    if out.len() < n {
-        return n;
-    }
-    source::write_bytes(label, out);
-    n
+// What a label is made of: one piece, or an author, a space and a piece. A piece is of the type of a year: a number, or bytes.
+#[derive(Clone, Copy)]
+enum Label<'a> {
+    Piece(Year<'a>),
+    Named(&'a [u8], Year<'a>),
 }
 
-// A number in decimal, where it fits. Its length.
-fn write_number(number: u64, out: &mut [u8]) -> usize
-    ensures { Fitted (decimal number) out.old result out.new }
+// How many bytes a piece is.
+fn piece_len(piece: Year) -> usize
+    ensures { (result ≡ length (year_bytes piece.entry)) × (result < 9223372036854775808) }
 {
-    let n = decimal::digit_count(number);
-    if out.len() < n {
-        return n;
+    match piece {
+        Year::Number(number) => source::signed_len(number),
+        Year::Text(text) => text.len(),
     }
-    decimal::write_decimal(out, number);
-    n
 }
 
-// A number with its sign, where it fits. Its length.
-fn write_signed(negative: bool, magnitude: u64, out: &mut [u8]) -> usize
-    ensures { Fitted (signed_decimal (signed negative magnitude)) out.old result out.new }
+// A piece at the front of `out`.
+fn write_piece(piece: Year, out: &mut [u8])
+    requires { length (year_bytes piece) ≤ length out.old }
+    ensures { out.new ≡ written (year_bytes piece.entry) out.old }
 {
-    let n = source::signed_len(negative, magnitude);
-    if out.len() < n {
-        return n;
+    match piece {
+        Year::Number(number) => source::write_signed(number, out),
+        Year::Text(text) => source::write_bytes(text, out),
     }
-    source::write_signed(negative, magnitude, out);
-    n
 }
 
-// An author and a space, for which there is room.
-fn put_author(author: &[u8], out: &mut [u8])
+// An author and a space at the front of `out`.
+#[tactic(auto, using(crate::proofs::WriteLaws::put_laws))]
+fn write_author(author: &[u8], out: &mut [u8])
     requires { length author.now < length out.old }
     ensures { out.new ≡ written (author.now ++ (32 ∷ [])) out.old }
 {
-    let k = author.len();
     source::write_bytes(author, out);
-    out[k] = b' ';
+    out[author.len()] = b' ';
 }
 
-// An author, a space and a year, where they fit. Their length.
-fn write_both(author: &[u8], year: &[u8], out: &mut [u8]) -> usize
-    ensures { Fitted (author.now ++ (32 ∷ year.now)) out.old result out.new }
-{
-    let k = author.len() + 1;
-    let n = k + year.len();
-    if out.len() < n {
-        return n;
-    }
-    put_author(author, out);
-    source::write_bytes(year, &mut out[k..]);
-    n
-}
-
-// An author, a space and a year that is a number, where they fit. Their length.
-fn write_both_signed(author: &[u8], negative: bool, magnitude: u64, out: &mut [u8]) -> usize
-    ensures { Fitted (author.now ++ (32 ∷ signed_decimal (signed negative magnitude))) out.old result out.new }
-{
-    let k = author.len() + 1;
-    let n = k + source::signed_len(negative, magnitude);
-    if out.len() < n {
-        return n;
-    }
-    put_author(author, out);
-    source::write_signed(negative, magnitude, &mut out[k..]);
-    n
-}
-
-// The bytes from `k` on, trimmed at their end, where they fit. Their length.
-fn write_content(label: &[u8], k: usize, out: &mut [u8]) -> usize
-    requires { k < length label.now }
-    ensures { Fitted (part label.now k (trim_end label.now k (length label.now))) out.old result out.new }
-{
-    let e = text::trim_end(label, k, label.len());
-    write_bytes(&label[k..e], out)
-}
-
-// "author, space, year, trimmed, or the number if nothing is left", where it fits. Its length.
-fn write_author_year(author: &[u8], year: &[u8], number: u16, out: &mut [u8]) -> usize
-    ensures { Fitted (author_year number author.now year.now) out.old result out.new }
-{
-    let k = text::trim_start(author, 0, author.len());
-    if k < author.len() {
-        let e = text::trim_end(year, 0, year.len());
-        if 0 < e {
-            return write_both(&author[k..], &year[..e], out);
+impl Label<'_> {
+    // How many bytes the label is.
+    fn len(self) -> usize
+        ensures { result ≡ length (label_bytes self.entry) }
+    {
+        match self {
+            Label::Piece(piece) => piece_len(piece),
+            Label::Named(author, piece) => author.len() + 1 + piece_len(piece),
         }
-        return write_content(author, k, out);
     }
-    let y = text::trim_start(year, 0, year.len());
-    if y < year.len() {
-        return write_content(year, y, out);
+
+    // The label at the front of `out`.
+    #[tactic(auto, using(crate::proofs::WriteLaws::put_laws))]
+    fn write(self, out: &mut [u8])
+        requires { length (label_bytes self) ≤ length out.old }
+        ensures { out.new ≡ written (label_bytes self.entry) out.old }
+    {
+        match self {
+            Label::Piece(piece) => write_piece(piece, out),
+            Label::Named(author, piece) => {
+                write_author(author, out);
+                write_piece(piece, &mut out[author.len() + 1..]);
+            }
+        }
     }
-    write_number(number as u64, out)
+
+    // The label, where it fits. Its length.
+    #[tactic(auto, using(crate::proofs::WriteLaws::fitted_laws))]
+    fn fit(self, out: &mut [u8]) -> usize
+        ensures { Fitted (label_bytes self.entry) out.old result out.new }
+    {
+        let n = self.len();
+        if n <= out.len() {
+            self.write(out);
+        }
+        n
+    }
 }
 
-// Author, space and a year that is a number, trimmed, where it fits: of these something is always left. Its length.
-fn write_author_signed(author: &[u8], negative: bool, magnitude: u64, out: &mut [u8]) -> usize
-    ensures { Fitted (trim (author.now ++ (32 ∷ signed_decimal (signed negative magnitude)))) out.old result out.new }
+// The label by a number.
+fn number_label<'a>(number: u16) -> Label<'a>
+    ensures { label_bytes result ≡ decimal number }
 {
-    let k = text::trim_start(author, 0, author.len());
-    if k < author.len() {
-        return write_both_signed(&author[k..], negative, magnitude, out);
-    }
-    write_signed(negative, magnitude, out)
+    Label::Piece(Year::Number(i64::from(number)))
 }
 
-// "A suppressed item shows the year even if that is empty, else its number", where it fits. Its length.
-fn write_year<'a>(text: &'a [u8], pool: &'a [u8], number: u16, year: Year, out: &mut [u8]) -> usize
-    ensures { Fitted (year_only number (year_bytes text.now pool.now year)) out.old result out.new }
+// Bytes as a label, or the number where there are none.
+#[tactic(auto, unfolding(crate::specs::Labels::or_number))]
+fn bytes_label<'a>(bytes: &'a [u8], number: u16) -> Label<'a>
+    ensures { label_bytes result ≡ or_number bytes.now number }
+{
+    if bytes.is_empty() {
+        number_label(number)
+    } else {
+        Label::Piece(Year::Text(bytes))
+    }
+}
+
+// Bytes without the white space at their ends.
+#[tactic(auto, unfolding(text::specs::Trim::trim))]
+fn trimmed<'a>(bytes: &'a [u8]) -> &'a [u8]
+    ensures { result.now ≡ trim bytes.now }
+{
+    &bytes[text::trim(bytes, 0, bytes.len())]
+}
+
+// A year without the white space at its end, if something is left of it. A number has none.
+#[tactic(auto, using(crate::proofs::LabelLaws::end_laws))]
+fn end_trimmed<'a>(year: Option<Year<'a>>) -> Option<Year<'a>>
+    ensures { let bytes = get_or (written_year year.entry) [] in let end = trim_end bytes 0 (length bytes) in
+        MatchOption result (end ≡ 0) (λ y. (0 < end) × (year_bytes y ≡ take end bytes)) }
 {
     match year {
-        Year::InText { part: _ } => write_bytes(definition::year_part(text, pool, year), out),
-        Year::InPool { part: _ } => write_bytes(definition::year_part(text, pool, year), out),
-        Year::Number {
-            negative,
-            magnitude,
-        } => write_signed(negative, magnitude, out),
-        Year::Missing => write_number(number as u64, out),
+        Some(Year::Text(text)) => {
+            let end = text::trim_end(text, 0, text.len());
+            (0 < end).then_some(Year::Text(&text[..end]))
+        }
+        Some(Year::Number(number)) => Some(Year::Number(number)),
+        None => None,
     }
 }
 
-// The label by author and year, where it fits. Its length.
-fn write_named<'a>(
-    text: &'a [u8],
-    pool: &'a [u8],
+// "author, space, year, trimmed, or the number if nothing is left"
+#[tactic(auto, using(crate::proofs::LabelLaws::named_laws))]
+fn named_label<'a>(author: &'a [u8], year: Option<Year<'a>>, number: u16) -> Label<'a>
+    ensures { label_bytes result ≡ author_year number author.now (get_or (written_year year.entry) []) }
+{
+    let start = text::trim_start(author, 0, author.len());
+    if start < author.len() {
+        return match end_trimmed(year) {
+            Some(year) => Label::Named(&author[start..], year),
+            None => Label::Piece(Year::Text(trimmed(author))),
+        };
+    }
+    match year {
+        Some(Year::Text(text)) => bytes_label(trimmed(text), number),
+        Some(year) => Label::Piece(year),
+        None => number_label(number),
+    }
+}
+
+// The label of an item. "A suppressed item shows the year even if that is empty, else its number."
+#[tactic(auto, unfolding(crate::specs::Labels::label_by, crate::specs::Labels::year_only))]
+fn label_of<'a>(
+    mode: Mode,
+    suppressed: bool,
     number: u16,
-    author: Author,
-    year: Year,
-    out: &mut [u8],
-) -> usize
-    ensures { Fitted (author_year number (author_given text.now pool.now author) (get_or (year_bytes text.now pool.now year) []))
-        out.old result out.new }
+    author: Option<&'a [u8]>,
+    year: Option<Year<'a>>,
+) -> Label<'a>
+    ensures { label_bytes result ≡ label_by (mode_number mode) suppressed number (get_or (lent author.entry) []) (written_year year.entry) }
 {
-    let name = definition::author_bytes(text, pool, author);
-    match year {
-        Year::Number {
-            negative,
-            magnitude,
-        } => write_author_signed(name, negative, magnitude, out),
-        Year::InText { part: _ } => write_author_year(
-            name,
-            definition::year_part(text, pool, year),
-            number,
-            out,
-        ),
-        Year::InPool { part: _ } => write_author_year(
-            name,
-            definition::year_part(text, pool, year),
-            number,
-            out,
-        ),
-        Year::Missing => write_author_year(
-            name,
-            definition::year_part(text, pool, year),
-            number,
-            out,
-        ),
+    match mode {
+        Mode::Number => number_label(number),
+        Mode::AuthorYear if suppressed => year.map_or(number_label(number), Label::Piece),
+        Mode::AuthorYear => named_label(author.unwrap_or(&[]), year, number),
     }
 }
 
 // The label of an item, where it fits. Its length.
-pub fn write_label<'a>(
-    text: &'a [u8],
-    pool: &'a [u8],
-    mode: u8,
+pub fn write_label(
+    mode: Mode,
     suppressed: bool,
     number: u16,
-    author: Author,
-    year: Year,
+    author: Option<&[u8]>,
+    year: Option<Year>,
     out: &mut [u8],
 ) -> usize
-    ensures { Fitted (label_by mode suppressed number (author_given text.now pool.now author) (year_bytes text.now pool.now year))
+    ensures { Fitted (label_by (mode_number mode) suppressed number (get_or (lent author.entry) []) (written_year year.entry))
         out.old result out.new }
 {
-    if mode == 0 {
-        return write_number(number as u64, out);
-    }
-    if suppressed {
-        return write_year(text, pool, number, year, out);
-    }
-    write_named(text, pool, number, author, year, out)
+    label_of(mode, suppressed, number, author, year).fit(out)
 }
 
 // The `len` bytes from `from` on, copied to `at`, where they fit: the label of an item that has the label of an earlier one.
+#[tactic(auto, using(crate::proofs::AreaLaws::copy_label_laws))]
 pub fn copy_label(from: usize, len: usize, at: usize, labels: &mut [u8])
     requires { (from + len ≤ at) × (at ≤ length labels.old) }
     ensures { labels.new ≡ fitted_at (take len (drop from labels.old)) at labels.old }
 {
-    if labels.len() - at < len {
-        return;
-    }
-    let mut i: usize = 0;
-    while i < len {
-        labels[at + i] = labels[from + i];
-        i += 1;
+    if len <= labels.len() - at {
+        labels.copy_within(from..from + len, at);
     }
 }
