@@ -23,11 +23,12 @@ use Rattle.standing.specs.Swept.{swept_from}
 use Rattle.records.specs.Widths.{group_width}
 use Rattle.definition_line.specs.Lines.{starts_line, colon_after, bare_item, only_key, defines, in_line, group_end, next_open, key_of, defined_key}
 use Rattle.definition.specs.Defs.{Def, line_def, entry_def, defines_key, last_line, first_entry, def_of}
-use Rattle.definition.specs.Lines.{defines_in, defines_key_in, line_in, line_def_in}
-use Rattle.definition.specs.declared.defined.Defined.{Defined}
-use Rattle.definition.specs.declared.defined.Defined.TheVariants.{Line, Entry as EntryOf, Nothing}
+use Rattle.definition.specs.Lines.{defines_in, defines_key_in, line_in, line_def_in, LinesBelow}
+use Rattle.std.specs.Prelude.{Option as Answer, Some, None}
+use Rattle.definition.specs.declared.defined.Definition.{Definition}
+use Rattle.definition.specs.declared.defined.Definition.TheVariants.{Line, Entry}
 use Rattle.definition.specs.Defined.{defined_as, found_in}
-use Rattle.definition.specs.Definitions.{definition_in, LinesBelow}
+use Rattle.definition.specs.Definitions.{definition_in}
 use Rattle.definition.specs.Entries.{entry_in}
 use Rattle.definition.proofs.EntryLaws.{first_entry_lem}
 use Rattle.records.specs.Records.{key_in, suppressed_in, bare_in, close_of_record, next_in}
@@ -74,11 +75,11 @@ module _ (text groups other_groups items other_items : List ℕ) (h : SameGroups
   unfolding line_def_in next_in
   line_same n g = rw (close_same groups other_groups g h, h (g + 1) 0 (omega arith))
 
-  as_same : (n : ℕ) (pool : List ℕ) (d : Defined) → defined_as text groups n pool d ≡ defined_as text other_groups n pool d
+  as_same : (n : ℕ) (pool : List ℕ) (d : Answer Definition) → defined_as text groups n pool d ≡ defined_as text other_groups n pool d
   unfolding defined_as
-  as_same n pool (Line g) = rw (line_same n g) refl
-  as_same n pool (EntryOf i) = refl
-  as_same n pool Nothing = refl
+  as_same n pool (Some (Line g)) = rw (line_same n g) refl
+  as_same n pool (Some (Entry i)) = refl
+  as_same n pool None = refl
 
   pub definition_same : (n : ℕ) (pool key : List ℕ)
       → definition_in text groups items n pool key ≡ definition_in text other_groups other_items n pool key
@@ -264,7 +265,7 @@ definition_placed text groups items ps ga ia pool key l c =
     entry = entry_in pool key
 
     go : (t : Bool) → ltb found n ≡ t → (u : Bool)
-        → defined_as text groups n pool (pick t (Line found) (pick u (EntryOf entry) Nothing))
+        → defined_as text groups n pool (pick t (Some (Line found)) (pick u (Some (Entry entry)) None))
         ≡ or_else (pick (ltb found n) (some (line_def_in text groups n found)) none) (pick u (some (entry_def entry (entry_at pool entry))) none)
     go true q u = rw q
     go false q true = rw q

@@ -3,16 +3,16 @@ use Prim.Native.Nat.{ℕ, ◌+◌, ◌-◌, ◌*◌, ◌≤◌, ◌<◌, min}
 use native.Mathlib.Omega.{arith}
 use mathlib.Core.Path.{◌≡◌, refl, sym, ◌∙◌, ap}
 use mathlib.Core.List.{List}
-use mathlib.Core.Bool.{true, false, not, true≢false}
+use Rattle.std.specs.Prelude.{Option, Some, None, IfSome}
 use lib.ListN.{length, set, length-append}
-use borrow.Author.Tests.{le-leb, lt-leb, leb-false, not-true, not-false}
+use borrow.Author.Tests.{le-leb, lt-leb, leb-false}
 use Rattle.base.specs.Lists.{written}
 use Rattle.pool.specs.Layout.{has_pool}
 use Rattle.label.specs.Areas.{fitted_at}
 use Rattle.label.proofs.AreaLaws.{fitted_at_length, fitted_at_next}
 use Rattle.numbering.specs.declared.Numbering.{Numbering}
 use Rattle.uses.specs.declared.Count.{Count}
-use Rattle.definition.specs.Definitions.{LinesBelow}
+use Rattle.definition.specs.Lines.{LinesBelow}
 use Rattle.numbering.specs.Numbers.{Numbered, record_label, label_in, cite_as, cite_in}
 use Rattle.uses.specs.Uses.{set_last, Counts}
 use Rattle.numbering.specs.Progress.{room_of, numbering_of, Agrees, Holds, Advances}
@@ -21,15 +21,16 @@ use Rattle.numbering.proofs.ByLines.{lines_same}
 use Rattle.records.specs.Widths.{group_width, group_standing}
 
 -- labels that do not fit still do not with more of them
-pub full_more : (t u : Numbered) (room : ℕ) {before before' items groups labels items' groups' labels' : List ℕ} {s r : Numbering}
-    → Holds t room before s items groups labels → s.fits ≡ false → r.fits ≡ false → length t.labels ≤ length u.labels
-    → Holds u room before' r items' groups' labels'
-full_more t u room {s = s} {r = r} h p q l =
-    let k = leb-false (length t.labels) room (sym h.fits ∙ p) in
-    record {
-      fits = q ∙ sym (lt-leb (length u.labels) room (omega arith));
-      agrees = λ e. absurd (true≢false (sym e ∙ q));
-    }
+pub full_more : (t u : Numbered) (room : ℕ) {before before' items groups labels items' groups' labels' : List ℕ}
+    → Holds t room before None items groups labels → length t.labels ≤ length u.labels → Holds u room before' None items' groups' labels'
+full_more t u room h l =
+    let k = leb-false (length t.labels) room (sym h.fits) in
+    record { fits = sym (lt-leb (length u.labels) room (omega arith)); agrees = tt }
+
+-- a fact of what is there, by a weaker one
+pub some_so : {P Q : Numbering → Type 0} (r : Option Numbering) → ((q : Numbering) → P q → Q q) → IfSome r P → IfSome r Q
+some_so None f h = tt
+some_so (Some q) f h = f q h
 
 -- what is written into the records moves no definition line
 module _ (text groups items : List ℕ) {n lines : ℕ} (b : LinesBelow text groups items n lines) where
@@ -43,29 +44,48 @@ module _ (text groups items : List ℕ) {n lines : ℕ} (b : LinesBelow text gro
 
 -- steps one after the other --------------------------------------------------------------------------------------------------------
 
-pub none_yet : (s : Numbering) (items groups labels : List ℕ) → s.label_bytes ≤ room_of labels → Advances 0 (λ t. t) s s items groups labels items groups labels
-none_yet s items groups labels h = record { holds = λ t before k. k; few = omega arith; room = h; long = refl }
+-- a step that changes nothing
+pub kept : (more : ℕ) (step : Numbered → Numbered) (s : Numbering) (items groups labels : List ℕ) → s.label_bytes ≤ room_of labels
+    → ((t : Numbered) → groups ≡ t.groups → items ≡ t.items → step t ≡ t) → Advances more step s (Some s) items groups labels items groups labels
+kept more step s items groups labels h e = record {
+  holds = λ t before a.
+      let l = a.label_bytes in
+      rw (e t a.group_area a.item_area) (record { fits = sym (le-leb (length t.labels) (room_of labels) (omega arith)); agrees = a });
+  few = omega arith;
+  room = h;
+  long = refl;
+}
 
-module _ {a b : ℕ} {f g : Numbered → Numbered} {s r q : Numbering} {i0 g0 l0 i1 g1 l1 i2 g2 l2 : List ℕ}
-    (x : Advances a f s r i0 g0 l0 i1 g1 l1) (y : Advances b g r q i1 g1 l1 i2 g2 l2) where
+module _ {a b : ℕ} {f g : Numbered → Numbered} {s r : Numbering} (q : Option Numbering) {i0 g0 l0 i1 g1 l1 i2 g2 l2 : List ℕ}
+    (x : Advances a f s (Some r) i0 g0 l0 i1 g1 l1) (y : Advances b g r q i1 g1 l1 i2 g2 l2) where
   same_room : room_of l1 ≡ room_of l0
   same_room = ap (min 65535) x.long
 
   pub then : Advances (a + b) (λ t. g (f t)) s q i0 g0 l0 i2 g2 l2
   then = record {
-    holds = λ t before k. rw same_room at (y.holds (f t) before (rw (← same_room) at (x.holds t before k)));
-    few = let m = x.few in let n = y.few in omega arith;
+    holds = λ t before k. rw same_room at (y.holds (f t) before (x.holds t before k).agrees);
+    few = let m = x.few in some_so q (λ z h. omega (arith, h)) y.few;
     room = rw same_room at y.room;
     long = y.long ∙ x.long;
   }
 
 -- the same step by another name, and with a higher bound
-pub as_step : {a b : ℕ} {f g : Numbered → Numbered} {s r : Numbering} {i0 g0 l0 i1 g1 l1 : List ℕ} → Advances a f s r i0 g0 l0 i1 g1 l1
-    → a ≤ b → ((t : Numbered) → f t ≡ g t) → Advances b g s r i0 g0 l0 i1 g1 l1
-as_step x l e = record {
+pub as_step : {a b : ℕ} {f g : Numbered → Numbered} {s : Numbering} (r : Option Numbering) {i0 g0 l0 i1 g1 l1 : List ℕ}
+    → Advances a f s r i0 g0 l0 i1 g1 l1 → a ≤ b → ((t : Numbered) → f t ≡ g t) → Advances b g s r i0 g0 l0 i1 g1 l1
+as_step r x l e = record {
   holds = λ t before k. rw (e t) at (x.holds t before k);
-  few = let m = x.few in omega arith;
+  few = some_so r (λ z h. omega (arith, h)) x.few;
   room = x.room;
+  long = x.long;
+}
+
+-- a step after which the labels do not fit, and more of them
+pub over_more : {a b : ℕ} {f g : Numbered → Numbered} {s : Numbering} {i0 g0 l0 i1 g1 l1 : List ℕ} → Advances a f s None i0 g0 l0 i1 g1 l1
+    → ((t : Numbered) → length (f t).labels ≤ length (g t).labels) → Advances b g s None i0 g0 l0 i1 g1 l1
+over_more {f = f} {g = g} {l0 = l0} x e = record {
+  holds = λ t before k. full_more (f t) (g t) (room_of l0) (x.holds t before k) (e t);
+  few = tt;
+  room = tt;
   long = x.long;
 }
 
@@ -77,16 +97,7 @@ module _ (text : List ℕ) (mode : ℕ) (pool : List ℕ) (n k : ℕ) where
   cite_grows t = simp length-append (omega arith)
 
   module _ (s : Numbering) (items groups labels : List ℕ) where
-    pub cite_full : not s.fits ≡ true → s.label_bytes ≤ room_of labels
-        → Advances 1 (λ t. cite_in text mode pool n t k) s s items groups labels items groups labels
-    cite_full o h = let p = not-true s.fits o in record {
-      holds = λ t before q. full_more t (cite_in text mode pool n t k) (room_of labels) q p p (cite_grows t);
-      few = omega arith;
-      room = h;
-      long = refl;
-    }
-
-    module _ {c : Count} {len : ℕ} {labels' : List ℕ} (o : not s.fits ≡ false) (h : s.label_bytes ≤ room_of labels)
+    module _ {c : Count} {len : ℕ} {labels' : List ℕ} (h : s.label_bytes ≤ room_of labels)
         (q : Counts text items (has_pool pool) s.sources k c)
         (e : len ≡ length (record_label text mode pool groups items n k c.number))
         (w : labels' ≡ fitted_at (record_label text mode pool groups items n k c.number) s.label_bytes labels) where
@@ -103,18 +114,17 @@ module _ (text : List ℕ) (mode : ℕ) (pool : List ℕ) (n k : ℕ) where
       same_long : length labels' ≡ length labels
       same_long = rw w (fitted_at_length (record_label text mode pool groups items n k c.number) labels s.label_bytes)
 
-      over : room_of labels - s.label_bytes < len
-          → Advances 1 (λ t. cite_in text mode pool n t k) s (numbering_of false s.sources s.label_bytes)
-          items groups labels items groups labels'
-      over l = record {
-        holds = λ t before x.
-            let y = longer t before (x.agrees (not-false s.fits o)) in
+      pub cite_over : room_of labels - s.label_bytes < len
+          → Advances 1 (λ t. cite_in text mode pool n t k) s None items groups labels items groups labels'
+      cite_over l = record {
+        holds = λ t before a.
+            let y = longer t before a in
             record {
               fits = sym (lt-leb (length (cite_in text mode pool n t k).labels) (room_of labels) (omega arith));
-              agrees = λ z. absurd (true≢false (sym z));
+              agrees = tt;
             };
-        few = omega arith;
-        room = h;
+        few = tt;
+        room = tt;
         long = same_long;
       }
 
@@ -144,17 +154,16 @@ module _ (text : List ℕ) (mode : ℕ) (pool : List ℕ) (n k : ℕ) where
           (fitted_at_next (record_label text mode pool groups items n k c.number) labels s.label_bytes (fits_there l) before t.labels
           a.label_area a.label_bytes)
 
-      done : {items' : List ℕ} → len ≤ room_of labels - s.label_bytes
+      pub cite_done : {items' : List ℕ} → len ≤ room_of labels - s.label_bytes
           → items' ≡ set_last items k c.number c.use_index s.label_bytes len
-          → Advances 1 (λ t. cite_in text mode pool n t k) s (numbering_of true c.sources (s.label_bytes + len))
+          → Advances 1 (λ t. cite_in text mode pool n t k) s (Some (numbering_of c.sources (s.label_bytes + len)))
           items groups labels items' groups labels'
-      done l i = record {
-        holds = λ t before x.
-            let a = x.agrees (not-false s.fits o) in
+      cite_done l i = record {
+        holds = λ t before a.
             let y = longer t before a in
             record {
               fits = sym (le-leb (length (cite_in text mode pool n t k).labels) (room_of labels) (omega arith));
-              agrees = λ z. record {
+              agrees = record {
                 sources = sources_done t before a;
                 label_bytes = sym y;
                 item_area = i ∙ items_done t before a;
@@ -167,12 +176,3 @@ module _ (text : List ℕ) (mode : ℕ) (pool : List ℕ) (n k : ℕ) where
         room = omega arith;
         long = same_long;
       }
-
-      pub cite_over : {r : Numbering} → r ≡ numbering_of false s.sources s.label_bytes → room_of labels - s.label_bytes < len
-          → Advances 1 (λ t. cite_in text mode pool n t k) s r items groups labels items groups labels'
-      cite_over v l = rw v (over l)
-
-      pub cite_done : {r : Numbering} {items' : List ℕ} → r ≡ numbering_of true c.sources (s.label_bytes + len)
-          → len ≤ room_of labels - s.label_bytes → items' ≡ set_last items k c.number c.use_index s.label_bytes len
-          → Advances 1 (λ t. cite_in text mode pool n t k) s r items groups labels items' groups labels'
-      cite_done v l i = rw v (done l i)

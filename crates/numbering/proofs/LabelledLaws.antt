@@ -3,10 +3,10 @@ use Prim.Native.Nat.{ℕ, zero, suc, ◌+◌, ◌-◌, ◌*◌, ◌≤◌, ◌<�
 use native.Mathlib.Omega.{arith}
 use mathlib.Core.Path.{◌≡◌, refl, sym, ◌∙◌}
 use mathlib.Core.List.{List, [], ◌∷◌, ◌++◌, flat_map, append_assoc}
-use mathlib.Core.Bool.{Bool, true, false, not, true≢false}
+use mathlib.Core.Bool.{Bool, true, false}
 use lib.ListN.{length, set, length-append, length-set}
 use lib.Dec.{eqb, ltb}
-use borrow.Author.Tests.{ltb-true, ltb-false, eqb-true, eqb-false, not-false}
+use borrow.Author.Tests.{ltb-true, ltb-false, eqb-true, eqb-false}
 use Rattle.item.specs.declared.Item.{Item}
 use Rattle.item.specs.Group.{Group}
 use Rattle.records.specs.ItemRecords.{item_record, unnumbered_record, records_in, records_of, records_length}
@@ -74,7 +74,7 @@ module _ (text : List ℕ) (mode : ℕ) (pool : List ℕ) (n m : ℕ) where
 
   -- no labels yet
   pub labelled_start : (s : Numbering) (items groups labels : List ℕ) → Unnumbered m items → Labelled text mode pool n m s items groups labels
-  labelled_start s items groups labels u = record { room = u.room; stands = λ f j l h. absurd (let z = u.none j l in omega arith) }
+  labelled_start s items groups labels u = record { room = u.room; stands = λ j l h. absurd (let z = u.none j l in omega arith) }
 
   module _ {s : Numbering} {items groups labels : List ℕ} (b : Labelled text mode pool n m s items groups labels) where
     -- the standing of a group moves none
@@ -82,21 +82,16 @@ module _ (text : List ℕ) (mode : ℕ) (pool : List ℕ) (n m : ℕ) where
         → Labelled text mode pool n m s items groups' labels
     labelled_stood g standing e = record {
       room = b.room;
-      stands = λ f j l h.
-          let old = b.stands f j l h in
+      stands = λ j l h.
+          let old = b.stands j l h in
           record {
             inside = old.inside;
             is = old.is ∙ sym (rw e (label_same _ groups items items j _ (set_standing_same groups g standing) (λ k c l. refl)));
           };
     }
 
-    -- the labels do not fit any more
-    pub labelled_over : {r : Numbering} {labels' : List ℕ} {sources bytes : ℕ} → r ≡ numbering_of false sources bytes
-        → Labelled text mode pool n m r items groups labels'
-    labelled_over e = record { room = b.room; stands = λ f. absurd (true≢false (sym f ∙ rw e refl)) }
-
     -- the label of record `k` is one more
-    module _ (k number use_as sources : ℕ) {len : ℕ} {items' labels' : List ℕ} (o : not s.fits ≡ false)
+    module _ (k number use_as sources : ℕ) {len : ℕ} {items' labels' : List ℕ}
         (h : s.label_bytes ≤ room_of labels) (q : len ≤ room_of labels - s.label_bytes)
         (e : len ≡ length (record_label text mode pool groups items n k number))
         (w : labels' ≡ fitted_at (record_label text mode pool groups items n k number) s.label_bytes labels)
@@ -131,7 +126,7 @@ module _ (text : List ℕ) (mode : ℕ) (pool : List ℕ) (n m : ℕ) where
           let y = same_field j 12 d (omega arith) in
           let u = same_field j 14 d (omega arith) in
           let v = same_field j 15 d (omega arith) in
-          let old = b.stands (not-false s.fits o) j l (rw y at z) in
+          let old = b.stands j l (rw y at z) in
           let p = old.inside in
           rw (y, u, v) (record {
             inside = omega arith;
@@ -141,12 +136,12 @@ module _ (text : List ℕ) (mode : ℕ) (pool : List ℕ) (n m : ℕ) where
                 ∙ sym (same_label_lem j (item_field items j item_number));
           })
 
-      pub labelled_done : {r : Numbering} → r ≡ numbering_of true sources (s.label_bytes + len) → Labelled text mode pool n m r items' groups labels'
+      pub labelled_done : Labelled text mode pool n m (numbering_of sources (s.label_bytes + len)) items' groups labels'
       unfolding set_last
-      labelled_done x = rw x (record {
+      labelled_done = record {
         room = rw i (simp length-set b.room);
-        stands = λ f j l z. go j l z (eqb j k) refl;
-      })
+        stands = λ j l z. go j l z (eqb j k) refl;
+      }
         where
           go : (j : ℕ) → j < m → 0 < item_field items' j item_number → (t : Bool) → eqb j k ≡ t → Stands j
           go j l z true p = rw (eqb-true j k p) (here (rw (eqb-true j k p) at l))

@@ -1,5 +1,5 @@
 -- Follows the code; nothing to believe: what the code holds on the way through the records.
-use Rattle.std.specs.Prelude.{ℕ, ◌+◌, ◌*◌, ◌<◌, ◌≤◌, min, ◌≡◌, List, Bool, true, length, take, drop, leb}
+use Rattle.std.specs.Prelude.{ℕ, ◌+◌, ◌*◌, ◌<◌, ◌≤◌, min, ◌≡◌, List, length, take, drop, leb, Option, is_some, IfSome}
 use Rattle.base.specs.Lists.{written}
 use Rattle.numbering.specs.declared.Numbering.{Numbering}
 use Rattle.records.specs.Widths.{item_width, item_number, item_label, item_label_length}
@@ -18,9 +18,9 @@ pub record Alike (text items : List ℕ) (k number j : ℕ) : Type 0 where
 abbrev pub room_of : List ℕ → ℕ
 room_of labels = min 65535 (length labels)
 
--- whether the labels fit so far, and the counts of sources and of label bytes
-abbrev pub numbering_of : Bool → ℕ → ℕ → Numbering
-numbering_of fits sources label_bytes = record { fits = fits; sources = sources; label_bytes = label_bytes }
+-- the counts of sources and of label bytes
+abbrev pub numbering_of : ℕ → ℕ → Numbering
+numbering_of sources label_bytes = record { sources = sources; label_bytes = label_bytes }
 
 -- The areas have what `t` says, its labels at the front of an area that held `before`.
 pub record Agrees (t : Numbered) (before : List ℕ) (s : Numbering) (items groups labels : List ℕ) : Type 0 where
@@ -32,16 +32,17 @@ pub record Agrees (t : Numbered) (before : List ℕ) (s : Numbering) (items grou
   pub label_long : length labels ≡ length before
 
 -- They have it where its labels fit. Where those do not, nothing is said of the areas.
-pub record Holds (t : Numbered) (room : ℕ) (before : List ℕ) (s : Numbering) (items groups labels : List ℕ) : Type 0 where
-  pub fits : s.fits ≡ leb (length t.labels) room
-  pub agrees : s.fits ≡ true → Agrees t before s items groups labels
+pub record Holds (t : Numbered) (room : ℕ) (before : List ℕ) (r : Option Numbering) (items groups labels : List ℕ) : Type 0 where
+  pub fits : is_some r ≡ leb (length t.labels) room
+  pub agrees : IfSome r (λ s. Agrees t before s items groups labels)
 
--- Whatever the areas hold, they hold the next numbering_of after a step, which gives `more` sources at most.
-pub record Advances (more : ℕ) (step : Numbered → Numbered) (s r : Numbering) (items groups labels items' groups' labels' : List ℕ) : Type 0 where
-  pub holds : (t : Numbered) (before : List ℕ) → Holds t (room_of labels) before s items groups labels
+-- Whatever the areas hold, they hold the next after a step, which gives `more` sources at most.
+pub record Advances (more : ℕ) (step : Numbered → Numbered) (s : Numbering) (r : Option Numbering)
+    (items groups labels items' groups' labels' : List ℕ) : Type 0 where
+  pub holds : (t : Numbered) (before : List ℕ) → Agrees t before s items groups labels
       → Holds (step t) (room_of labels) before r items' groups' labels'
-  pub few : r.sources ≤ s.sources + more
-  pub room : r.label_bytes ≤ room_of labels
+  pub few : IfSome r (λ q. q.sources ≤ s.sources + more)
+  pub room : IfSome r (λ q. q.label_bytes ≤ room_of labels)
   pub long : length labels' ≡ length labels
 
 -- the `len` bytes at place `at` are this label, and lie among the first `bytes`
@@ -49,11 +50,11 @@ pub record LabelStands (label : List ℕ) (at len bytes : ℕ) (labels : List �
   pub inside : at + len ≤ bytes
   pub is : take len (drop at labels) ≡ label
 
--- While the labels fit, each of the first `m` item records that has a number has its label among the label bytes so far, where its pair
+-- Each of the first `m` item records that has a number has its label among the label bytes so far, where its pair
 -- says: a later record that is alike gets a copy.
 pub record Labelled (text : List ℕ) (mode : ℕ) (pool : List ℕ) (n m : ℕ) (s : Numbering) (items groups labels : List ℕ) : Type 0 where
   pub room : item_width * m ≤ length items
-  pub stands : s.fits ≡ true → (j : ℕ) → j < m → 0 < item_field items j item_number
+  pub stands : (j : ℕ) → j < m → 0 < item_field items j item_number
       → LabelStands (record_label text mode pool groups items n j (item_field items j item_number)) (item_field items j item_label) (item_field items j item_label_length)
       s.label_bytes labels
 
