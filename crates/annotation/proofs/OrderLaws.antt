@@ -10,48 +10,51 @@ use Rattle.numbering.specs.Numbers.{Numbered, number_all}
 use Rattle.order.specs.References.{references_in, SourcesKnown}
 use Rattle.numbering.specs.declared.Numbering.{Numbering}
 use Rattle.numbering.specs.Progress.{room_of, Agrees, Holds}
-use Rattle.std.specs.Prelude.{Result, Ok}
+use Rattle.std.specs.Prelude.{Option, Some, None, Result, Ok}
 use Rattle.base.specs.declared.refusal.Refusal.{Refusal}
 use Rattle.annotation.specs.declared.answer.Counts.{Counts}
 use Rattle.annotation.specs.Values.{counts}
 use Rattle.annotation.specs.Ordering.{room_then, Orderable, Ordered}
 use Rattle.annotation.specs.Halves.{Zeroed}
 
--- `k` is what numbering the records gave
-module _ (text : List ℕ) (mode : ℕ) (pool : List ℕ) (n m : ℕ) (items groups references labels : List ℕ) {k : Numbering}
-    {items' groups' labels' : List ℕ}
-    (h : Holds (number_all text mode pool n items groups) (room_of labels) labels k items' groups' labels') where
+-- from what numbering the records gave
+module _ (text : List ℕ) (mode : ℕ) (pool : List ℕ) (n m : ℕ) (items groups references labels : List ℕ) {items' groups' labels' : List ℕ} where
   abbrev made : Numbered
   made = number_all text mode pool n items groups
 
-  -- the labels fit, and the references have room
-  module _ (f : k.fits ≡ true) (l : k.sources ≤ length references) where
+  -- the labels fit
+  module _ {k : Numbering} (h : Holds made (room_of labels) labels (Some k) items' groups' labels') where
     agreed : Agrees made labels k items' groups' labels'
-    agreed = h.agrees f
+    agreed = h.agrees
 
-    has_room : room_then made references labels ≡ true
+    -- and the references have room
+    has_room : k.sources ≤ length references → room_then made references labels ≡ true
     unfolding room_then
-    has_room = rw (sym h.fits ∙ f, ← agreed.sources) (le-leb k.sources (length references) l)
+    has_room l = rw (sym h.fits, ← agreed.sources) (le-leb k.sources (length references) l)
 
-    pub ordered_room : {references' : List ℕ} → references' ≡ written (references_in text pool groups' items' n m mode k.sources) references
+    pub ordered_room : {references' : List ℕ} → k.sources ≤ length references
+        → references' ≡ written (references_in text pool groups' items' n m mode k.sources) references
         → Ordered text mode pool n m items groups references labels (Ok (counts n m k.sources k.label_bytes)) items' groups' references'
         labels'
-    ordered_room o = record {
-      answer = rw (has_room, agreed.sources, agreed.label_bytes);
-      item_area = agreed.item_area ∙ rw has_room;
-      group_area = agreed.group_area ∙ rw has_room;
-      reference_area = o ∙ rw (has_room, agreed.item_area, agreed.group_area, agreed.sources);
-      label_area = agreed.label_area ∙ rw has_room;
-    }
+    ordered_room l o =
+        let z = has_room l in
+        record {
+          answer = rw (z, agreed.sources, agreed.label_bytes);
+          item_area = agreed.item_area ∙ rw z;
+          group_area = agreed.group_area ∙ rw z;
+          reference_area = o ∙ rw (z, agreed.item_area, agreed.group_area, agreed.sources);
+          label_area = agreed.label_area ∙ rw z;
+        }
 
-  -- one of the two does not
-  no_labels : k.fits ≡ false → room_then made references labels ≡ false
-  unfolding room_then
-  no_labels f = rw (sym h.fits ∙ f)
+    -- or they have not
+    no_references : length references < k.sources → room_then made references labels ≡ false
+    unfolding room_then
+    no_references l = rw (sym h.fits, ← agreed.sources) (lt-leb k.sources (length references) l)
 
-  no_references : k.fits ≡ true → length references < k.sources → room_then made references labels ≡ false
+  -- the labels do not fit
+  no_labels : Holds made (room_of labels) labels None items' groups' labels' → room_then made references labels ≡ false
   unfolding room_then
-  no_references f l = rw (sym h.fits ∙ f, ← (h.agrees f).sources) (lt-leb k.sources (length references) l)
+  no_labels h = rw (sym h.fits)
 
   module _ {r : Result Counts Refusal} {items'' groups'' references'' labels'' : List ℕ}
       (o : Zeroed items' groups' references labels' r items'' groups'' references'' labels'')
@@ -65,18 +68,20 @@ module _ (text : List ℕ) (mode : ℕ) (pool : List ℕ) (n m : ℕ) (items gro
       label_area = o.label_area ∙ rw (z, l);
     }
 
-    pub few_labels : k.fits ≡ false → Ordered text mode pool n m items groups references labels r items'' groups'' references'' labels''
-    few_labels f = few (no_labels f)
+    pub few_labels : Holds made (room_of labels) labels None items' groups' labels'
+        → Ordered text mode pool n m items groups references labels r items'' groups'' references'' labels''
+    few_labels h = few (no_labels h)
 
-    pub few_references : k.fits ≡ true → length references < k.sources → Ordered text mode pool n m items groups references labels r items'' groups'' references'' labels''
-    few_references f l = few (no_references f l)
+    pub few_references : {k : Numbering} → Holds made (room_of labels) labels (Some k) items' groups' labels' → length references < k.sources
+        → Ordered text mode pool n m items groups references labels r items'' groups'' references'' labels''
+    few_references h f = few (no_references h f)
 
 -- the sources are few, and known in the areas as they are then
 module _ (text : List ℕ) (mode : ℕ) (pool : List ℕ) (n m : ℕ) (items groups labels : List ℕ) (k : Numbering) (items' groups' labels' : List ℕ)
-    (h : Holds (number_all text mode pool n items groups) (room_of labels) labels k items' groups' labels')
-    (o : Orderable text pool n m (number_all text mode pool n items groups)) (f : k.fits ≡ true) where
+    (h : Holds (number_all text mode pool n items groups) (room_of labels) labels (Some k) items' groups' labels')
+    (o : Orderable text pool n m (number_all text mode pool n items groups)) where
   all_agreed : Agrees (number_all text mode pool n items groups) labels k items' groups' labels'
-  all_agreed = h.agrees f
+  all_agreed = h.agrees
 
   pub sources_few : k.sources ≤ 65535
   sources_few = rw all_agreed.sources o.few

@@ -10,9 +10,11 @@ ghost use Rattle.annotation.specs.Ordering.{Orderable, Ordered};
 use crate::answer::{Counts, refuse_ten};
 use base::mode::Mode;
 use base::refusal::Refusal;
+use definition::Definitions;
 use definition::lines::lines_end;
-use numbering::number_groups;
+use numbering::Setting;
 use order::order_references;
+use pool::Pool;
 use sweep::group_records::SweepState;
 
 // Numbers the groups of a sweep and orders the references: the counts, or 10 where the labels or the references have no room.
@@ -38,20 +40,36 @@ pub fn number_and_order<'a>(
         items: m,
         ..
     } = swept;
-    let number = u8::from(mode);
+    let pool = Pool { bytes: pool };
     let lines = lines_end(text, groups, items, n);
-    let numbers = number_groups(text, number, pool, n, lines, m, items, groups, labels);
+    let setting = Setting {
+        text,
+        pool,
+        mode,
+        n,
+        m,
+        lines,
+    };
+    let Some(numbers) = setting.number_groups(items, groups, labels) else {
+        return refuse_ten(items, groups, references, labels);
+    };
     let sources = numbers.sources;
-    if numbers.fits && sources <= references.len() {
-        order_references(
-            text, number, pool, n, lines, m, sources, items, groups, references,
-        );
-        return Ok(Counts {
-            groups: n,
-            items: m,
-            sources,
-            label_bytes: numbers.label_bytes,
-        });
+    if references.len() < sources {
+        return refuse_ten(items, groups, references, labels);
     }
-    refuse_ten(items, groups, references, labels)
+    let definitions = Definitions {
+        text,
+        pool,
+        groups,
+        items,
+        n,
+        lines,
+    };
+    order_references(&definitions, mode, m, sources, references);
+    Ok(Counts {
+        groups: n,
+        items: m,
+        sources,
+        label_bytes: numbers.label_bytes,
+    })
 }
