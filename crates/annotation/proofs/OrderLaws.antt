@@ -18,12 +18,12 @@ use Rattle.annotation.specs.Ordering.{room_then, Orderable, Ordered}
 use Rattle.annotation.specs.Halves.{Zeroed}
 
 -- from what numbering the records gave
-module _ (text : List ℕ) (mode : ℕ) (pool : List ℕ) (n m : ℕ) (items groups references labels : List ℕ) {items' groups' labels' : List ℕ} where
+module _ (text : List ℕ) (mode : ℕ) (pool : List ℕ) (n m : ℕ) (items groups references labels : List ℕ) where
   abbrev made : Numbered
   made = number_all text mode pool n items groups
 
   -- the labels fit
-  module _ {k : Numbering} (h : Holds made (room_of labels) labels (Some k) items' groups' labels') where
+  module _ {items' groups' labels' : List ℕ} {k : Numbering} (h : Holds made (room_of labels) labels (Some k) items' groups' labels') where
     agreed : Agrees made labels k items' groups' labels'
     agreed = h.agrees
 
@@ -52,11 +52,11 @@ module _ (text : List ℕ) (mode : ℕ) (pool : List ℕ) (n m : ℕ) (items gro
     no_references l = rw (sym h.fits, ← agreed.sources) (lt-leb k.sources (length references) l)
 
   -- the labels do not fit
-  no_labels : Holds made (room_of labels) labels None items' groups' labels' → room_then made references labels ≡ false
+  no_labels : {items' groups' labels' : List ℕ} → Holds made (room_of labels) labels None items' groups' labels' → room_then made references labels ≡ false
   unfolding room_then
   no_labels h = rw (sym h.fits)
 
-  module _ {r : Result Counts Refusal} {items'' groups'' references'' labels'' : List ℕ}
+  module _ {items' groups' labels' : List ℕ} {r : Result Counts Refusal} {items'' groups'' references'' labels'' : List ℕ}
       (o : Zeroed items' groups' references labels' r items'' groups'' references'' labels'')
       (i : length items' ≡ length items) (g : length groups' ≡ length groups) (l : length labels' ≡ length labels) where
     few : room_then made references labels ≡ false → Ordered text mode pool n m items groups references labels r items'' groups'' references'' labels''

@@ -55,21 +55,22 @@ pub fn number_and_order<'a>(
     };
     let sources = numbers.sources;
     if references.len() < sources {
-        return refuse_ten(items, groups, references, labels);
+        refuse_ten(items, groups, references, labels)
+    } else {
+        let definitions = Definitions {
+            text,
+            pool: setting.pool,
+            groups,
+            items,
+            n,
+            lines,
+        };
+        order_references(&definitions, mode, m, sources, references);
+        Ok(Counts {
+            groups: n,
+            items: m,
+            sources,
+            label_bytes: numbers.label_bytes,
+        })
     }
-    let definitions = Definitions {
-        text,
-        pool,
-        groups,
-        items,
-        n,
-        lines,
-    };
-    order_references(&definitions, mode, m, sources, references);
-    Ok(Counts {
-        groups: n,
-        items: m,
-        sources,
-        label_bytes: numbers.label_bytes,
-    })
 }
