@@ -53,7 +53,8 @@ impl Writer<'_> {
         self.put(&[end]);
     }
 
-    // What a line says of its group.
+    // What a line says of its group. (That `g` is below 65,536 stays a clause, which records::field asks for: with a `u16` in its place each call would
+    // cast the counter of a loop.)
     #[tactic(auto, using(crate::proofs::Lines::group_laws))]
     fn put_group_part(&mut self, groups: &[u16], g: usize)
         requires { (g < 65536) × Room (group_part (drop (group_width * g) groups.now)) self.old }
