@@ -29,7 +29,7 @@ Start c =
     × (Zero c.inner
     × ((c.bad ≡ 0) × ((c.reads.esc ≡ false) × ((c.reads.comma ≡ 0) × ((c.reads.key ≡ 0) × ((c.reads.end ≡ 0) × (c.reads.content ≡ 0))))))))
 
-blank_is : (b : Bracket) → Zero b → b ≡ blank
+pub blank_is : (b : Bracket) → Zero b → b ≡ blank
 blank_is b e = search (e, rules)
 
 start_is : (c : Scan) → Start c → c ≡ start
