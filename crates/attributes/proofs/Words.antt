@@ -11,14 +11,13 @@ use lib.Pointwise.{pointwise}
 use borrow.Author.Tests.{lt-ltb, le-ltb}
 use Rattle.std.specs.Prelude.{None, Some}
 use Rattle.std.specs.Borrow.{Bor}
-use Rattle.base.specs.First.{first, first_of, first_other}
+use Rattle.base.specs.First.{first_of, first_other}
 use Rattle.base.specs.Lists.{byte_at, part, same}
 use Rattle.base.proofs.Searches.{first_from, first_by, first_more}
 use Rattle.base.proofs.Lasts.{last_end_from, last_end_by}
 use Rattle.base.proofs.Sames.{same_pointwise}
-use Rattle.base.proofs.Parts.{part_is, part_length}
+use Rattle.base.proofs.Parts.{part_is}
 use Rattle.white.specs.White.{is_white}
-use Rattle.text.specs.Trim.{trim_start}
 use Rattle.text.proofs.Trims.{start_from, start_plain}
 use Rattle.attributes.specs.Attributes.{word_start, word_end, words_in, words_of, equals_at, end_without, stripped, bare, value_in, attr_value}
 use Rattle.attributes.specs.Values.{value_bytes}
