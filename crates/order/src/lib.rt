@@ -21,16 +21,14 @@ fn insert_definition(definitions: &Definitions, count: usize, d: u16, references
     ensures { references.new ≡ written (insert_by (rank_of definitions.now) (take count references.old) d) references.old }
 {
     let rank = rank_by(definitions, usize::from(d));
-    let place = references[..count].partition_point(|&other| rank_by(
-        definitions,
-        usize::from(other),
-    ) <= rank);
+    let place = references[..count].partition_point(|&other| {
+        rank_by(definitions, usize::from(other)) <= rank
+    });
     references[place..=count].rotate_right(1);
     references[place] = d;
 }
 
 // The numbers of the definitions of the `sources` sources, by their ranks. Each definition is searched for once.
-
 fn order_definitions(definitions: &Definitions, m: usize, sources: usize, references: &mut [u16])
     requires { (definitions.now.n ≤ 32768) × (m < record_bound) × (sources ≤ 65535) × (sources ≤ length references.old)
         × Known definitions.now m sources }
@@ -45,7 +43,6 @@ fn order_definitions(definitions: &Definitions, m: usize, sources: usize, refere
 }
 
 // The numbers of the sources, for those of their definitions at the first `sources` places.
-
 fn number_sources(definitions: &Definitions, m: usize, sources: usize, references: &mut [u16])
     requires { (m < record_bound) × (sources ≤ length references.old) }
     ensures { references.new ≡ written (map (source_of definitions.now m) (take sources references.old)) references.old }
@@ -56,7 +53,6 @@ fn number_sources(definitions: &Definitions, m: usize, sources: usize, reference
 }
 
 // The numbers from 1 on, `sources` of them, by their ranks.
-
 fn order_by_rank(definitions: &Definitions, m: usize, sources: usize, references: &mut [u16])
     requires { (definitions.now.n ≤ 32768) × (m < record_bound) × (sources ≤ 65535) × (sources ≤ length references.old)
         × Known definitions.now m sources }
