@@ -5,7 +5,6 @@ use mathlib.Core.Path.{◌≡◌}
 use mathlib.Core.List.{List, []}
 use mathlib.Core.Bool.{true, false}
 use lib.ListN.{length}
-use Rattle.pool.specs.Layout.{well_formed}
 use Rattle.resolve.specs.Resolve.{note_after, index_after}
 use Rattle.sweep.specs.declared.group_records.SweepState.{SweepState}
 use Rattle.sweep.specs.Recording.{Counted}
@@ -34,22 +33,19 @@ module _ {p : Result Begun Refusal} {begun : Begun} (y : p ≡ Ok begun) where
   built_so text index index₀ i = rw y at i
 
 -- what the first half left
-module _ {text pool : List ℕ} {note : ℕ} {p : Result Begun Refusal} {index items groups : List ℕ}
-    (c : CanFinish text pool note p index items groups) {begun : Begun} (y : p ≡ Ok begun) where
-  swept : SweptBefore text c.mode pool note c.index₀ c.lent c.items₀ c.groups₀ begun items groups
-  swept = swept_so y text c.mode pool note c.index₀ c.lent c.items₀ c.groups₀ items groups c.prepared
+module _ {text : List ℕ} {note : ℕ} {p : Result Begun Refusal} {index items groups : List ℕ}
+    (c : CanFinish text note p index items groups) {begun : Begun} (y : p ≡ Ok begun) where
+  swept : SweptBefore text c.mode c.pool note c.index₀ c.lent c.items₀ c.groups₀ begun items groups
+  swept = swept_so y text c.mode c.pool note c.index₀ c.lent c.items₀ c.groups₀ items groups c.prepared
 
-  goes_on : Unrefused text c.mode pool (length c.index₀) c.lent
-  goes_on = unrefused text c.mode pool (length c.index₀) c.lent swept.passes
+  goes_on : Unrefused text c.mode c.pool (length c.index₀) c.lent
+  goes_on = unrefused text c.mode c.pool (length c.index₀) c.lent swept.passes
 
   built_then : index ≡ index_after begun.swept.wants text c.index₀
   built_then = built_so y text index c.index₀ c.built
 
   pub goes_short : length text ≤ 65535
   goes_short = goes_on.enough.short
-
-  pub goes_layout : well_formed pool ≡ true
-  goes_layout = goes_on.layout
 
   pub goes_counted : Counted text begun.swept (length items) (length groups)
   goes_counted = rw (swept.sweeps.records.item_area, swept.sweeps.records.group_area) swept.sweeps.counted
@@ -73,39 +69,38 @@ module _ {text pool : List ℕ} {note : ℕ} {p : Result Begun Refusal} {index i
     numbers_none q f = items_unnumbered swept [] q built_then t f
 
     pub numbers_known : k ≡ note_after begun.swept.wants note → s.fits ≡ true
-        → Orderable text pool s.groups s.items (number_all text (mode_number begun.mode) pool s.groups items' groups')
-    numbers_known q f = rw swept.mode_is (record { few = sources_short swept [] q built_then t f; known = sources_known swept [] q built_then t f })
+        → Orderable text begun.pool.bytes.now s.groups s.items (number_all text (mode_number begun.mode) begun.pool.bytes.now s.groups items' groups')
+    numbers_known q f = rw (swept.mode_is, swept.pool_is) (record { few = sources_short swept [] q built_then t f; known = sources_known swept [] q built_then t f })
 
-module _ (text pool : List ℕ) (note : ℕ) {p : Result Begun Refusal} (index items groups references labels : List ℕ) where
+module _ (text : List ℕ) (note : ℕ) {p : Result Begun Refusal} (index items groups references labels : List ℕ) where
   pub finished_refused : {refusal : Refusal} → p ≡ Err refusal
-      → Finished text pool note p index items groups references labels (record { counts = Err refusal; note = note }) items groups references labels
+      → Finished text note p index items groups references labels (record { counts = Err refusal; note = note }) items groups references labels
   finished_refused y = record {
-    gives = λ mode index₀ records m items₀ groups₀ b e i. done_refused note (rw y at b) records references labels e;
+    gives = λ mode pool index₀ records m items₀ groups₀ b e i. done_refused note (rw y at b) records references labels e;
   }
 
   module _ {begun : Begun} (y : p ≡ Ok begun) {k : ℕ} (q : k ≡ note_after begun.swept.wants note) {s : SweepState} {items' groups' : List ℕ}
       (t : SweptTo text k index begun.swept items groups s items' groups') {r : Result Counts Refusal} {items'' groups'' references'' labels'' : List ℕ} where
     pub finished_few : s.fits ≡ false → Zeroed items' groups' references labels r items'' groups'' references'' labels''
-        → Finished text pool note p index items groups references labels (record { counts = r; note = k }) items'' groups'' references'' labels''
+        → Finished text note p index items groups references labels (record { counts = r; note = k }) items'' groups'' references'' labels''
     finished_few f o = record {
-      gives = λ mode index₀ records m items₀ groups₀ b e i.
+      gives = λ mode pool index₀ records m items₀ groups₀ b e i.
           done_few (swept_so y text mode pool note index₀ m items₀ groups₀ items groups b) records references labels e q
           (built_so y text index index₀ i) t f o;
     }
 
     pub finished_room : s.fits ≡ true
-        → Ordered text (mode_number begun.mode) pool s.groups s.items items' groups' references labels r items'' groups'' references'' labels''
-        → Finished text pool note p index items groups references labels (record { counts = r; note = k }) items'' groups'' references'' labels''
+        → Ordered text (mode_number begun.mode) begun.pool.bytes.now s.groups s.items items' groups' references labels r items'' groups'' references'' labels''
+        → Finished text note p index items groups references labels (record { counts = r; note = k }) items'' groups'' references'' labels''
     finished_room f o = record {
-      gives = λ mode index₀ records m items₀ groups₀ b e i.
+      gives = λ mode pool index₀ records m items₀ groups₀ b e i.
           let w = swept_so y text mode pool note index₀ m items₀ groups₀ items groups b in
           done_room w records references labels e q
-          (built_so y text index index₀ i) t f (rw w.mode_is at o);
+          (built_so y text index index₀ i) t f (rw (w.mode_is, w.pool_is) at o);
     }
 
 pub ruleset finish_laws = (
   goes_short,
-  goes_layout,
   goes_counted,
   groups_short,
   items_short,

@@ -43,11 +43,12 @@ pub record RefusedBefore (text : List ℕ) (mode : ℕ) (pool index : List ℕ) 
   pub item_area : items' ≡ items
   pub group_area : groups' ≡ groups
 
--- not refused: the mode, the sweep so far, and what it left in the two areas
+-- not refused: the mode, the pool, the sweep so far, and what it left in the two areas
 pub record SweptBefore (text : List ℕ) (mode : ℕ) (pool : List ℕ) (note : ℕ) (index : List ℕ) (m : ℕ) (items groups : List ℕ) (begun : Begun)
     (items' groups' : List ℕ) : Type 0 where
   pub passes : annotate_refusal text mode pool (length index) m ≡ 0
   pub mode_is : mode_number begun.mode ≡ mode
+  pub pool_is : begun.pool.bytes.now ≡ pool
   pub sweeps : SweptTo text note index start_state items groups begun.swept items' groups'
 
 -- before the build: the refusal, or the sweep so far
@@ -62,10 +63,11 @@ unfoldable pub prepared_wants : Result Begun Refusal → Bool
 prepared_wants (Ok begun) = begun.swept.wants
 prepared_wants (Err refusal) = false
 
--- what the second half asks for of the first: it was given some mode, index, areas and count of bracket records, and the index was built where
+-- what the second half asks for of the first: it was given some mode, pool, index, areas and count of bracket records, and the index was built where
 -- it asked for that
-pub record CanFinish (text pool : List ℕ) (note : ℕ) (p : Result Begun Refusal) (index items groups : List ℕ) : Type 0 where
+pub record CanFinish (text : List ℕ) (note : ℕ) (p : Result Begun Refusal) (index items groups : List ℕ) : Type 0 where
   pub mode : ℕ
+  pub pool : List ℕ
   pub index₀ : List ℕ
   pub lent : ℕ
   pub items₀ : List ℕ
@@ -75,9 +77,9 @@ pub record CanFinish (text pool : List ℕ) (note : ℕ) (p : Result Begun Refus
 
 -- After the build: whatever the call was given, the answer is that of the call as run, if the first half prepared it so and the index was
 -- built where that asked for it.
-pub record Finished (text pool : List ℕ) (note : ℕ) (p : Result Begun Refusal) (index items groups references labels : List ℕ)
+pub record Finished (text : List ℕ) (note : ℕ) (p : Result Begun Refusal) (index items groups references labels : List ℕ)
     (r : Annotation) (items' groups' references' labels' : List ℕ) : Type 0 where
-  pub gives : (mode : ℕ) (index₀ : List ℕ) (records : List Bracket) (m : ℕ) (items₀ groups₀ : List ℕ)
+  pub gives : (mode : ℕ) (pool index₀ : List ℕ) (records : List Bracket) (m : ℕ) (items₀ groups₀ : List ℕ)
       → PreparedBy text mode pool note index₀ m items₀ groups₀ p items groups
       → length records ≡ m
       → index ≡ index_after (prepared_wants p) text index₀

@@ -1,8 +1,7 @@
 // An annotation after the whole sweep: numbers, uses, labels and references,
 // or 10 where the labels or the references have no room.
-ghost use Rattle.std.specs.Prelude.{◌≡◌, ◌≤◌, true};
+ghost use Rattle.std.specs.Prelude.{◌≡◌, ◌≤◌};
 ghost use Rattle.base.specs.Modes.{mode_number};
-ghost use Rattle.pool.specs.Layout.{well_formed};
 ghost use Rattle.numbering.specs.Numbers.{number_all};
 ghost use Rattle.numbering.specs.Progress.{Unnumbered};
 ghost use Rattle.annotation.specs.Ordering.{Orderable, Ordered};
@@ -22,17 +21,17 @@ use sweep::group_records::SweepState;
 pub fn number_and_order<'a>(
     text: &'a [u8],
     mode: Mode,
-    pool: &'a [u8],
+    pool: Pool<'a>,
     swept: SweepState,
     items: &mut [u16],
     groups: &mut [u16],
     references: &mut [u16],
     labels: &mut [u8],
 ) -> Result<Counts, Refusal>
-    requires { let numbered = number_all text.now (mode_number mode) pool.now swept.groups items.old groups.old in
-        (swept.groups ≤ 32768) × (swept.items ≤ 65535) × (well_formed pool.now ≡ true) × Unnumbered swept.items items.old
-        × Orderable text.now pool.now swept.groups swept.items numbered }
-    ensures { Ordered text.now (mode_number mode) pool.now swept.groups swept.items items.old
+    requires { let numbered = number_all text.now (mode_number mode) pool.bytes.now swept.groups items.old groups.old in
+        (swept.groups ≤ 32768) × (swept.items ≤ 65535) × Unnumbered swept.items items.old
+        × Orderable text.now pool.bytes.now swept.groups swept.items numbered }
+    ensures { Ordered text.now (mode_number mode) pool.entry.bytes.now swept.groups swept.items items.old
         groups.old references.old labels.old result items.new groups.new references.new labels.new }
 {
     let SweepState {
@@ -40,7 +39,6 @@ pub fn number_and_order<'a>(
         items: m,
         ..
     } = swept;
-    let pool = Pool { bytes: pool };
     let lines = lines_end(text, groups, items, n);
     let setting = Setting {
         text,
@@ -55,22 +53,21 @@ pub fn number_and_order<'a>(
     };
     let sources = numbers.sources;
     if references.len() < sources {
-        refuse_ten(items, groups, references, labels)
-    } else {
-        let definitions = Definitions {
-            text,
-            pool: setting.pool,
-            groups,
-            items,
-            n,
-            lines,
-        };
-        order_references(&definitions, mode, m, sources, references);
-        Ok(Counts {
-            groups: n,
-            items: m,
-            sources,
-            label_bytes: numbers.label_bytes,
-        })
+        return refuse_ten(items, groups, references, labels);
     }
+    let definitions = Definitions {
+        text,
+        pool,
+        groups,
+        items,
+        n,
+        lines,
+    };
+    order_references(&definitions, mode, m, sources, references);
+    Ok(Counts {
+        groups: n,
+        items: m,
+        sources,
+        label_bytes: numbers.label_bytes,
+    })
 }

@@ -15,17 +15,16 @@ use sweep::sweep;
 #[tactic(auto, using(crate::proofs::FinishLaws::finish_laws))]
 pub fn finish<'a>(
     text: &'a [u8],
-    pool: &'a [u8],
     note: u8,
-    prepared: Result<Begun, Refusal>,
+    prepared: Result<Begun<'a>, Refusal>,
     index: &mut [u16],
     items: &mut [u16],
     groups: &mut [u16],
     references: &mut [u16],
     labels: &mut [u8],
 ) -> Annotation
-    requires { CanFinish text.now pool.now note prepared index.old items.old groups.old }
-    ensures { Finished text.now pool.now note prepared index.old items.old groups.old references.old
+    requires { CanFinish text.now note prepared index.old items.old groups.old }
+    ensures { Finished text.now note prepared.entry index.old items.old groups.old references.old
         labels.old result items.new groups.new references.new labels.new
         × (index.new ≡ index.old) }
 {
@@ -40,7 +39,7 @@ pub fn finish<'a>(
     let swept = sweep(text, note, index, begun.swept, items, groups);
     if swept.fits {
         let counts = number_and_order(
-            text, begun.mode, pool, swept, items, groups, references, labels,
+            text, begun.mode, begun.pool, swept, items, groups, references, labels,
         );
         return Annotation { counts, note };
     }

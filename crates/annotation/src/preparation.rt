@@ -9,66 +9,69 @@ ghost use Rattle.annotation.specs.Halves.{PreparedBy, prepared_wants};
 use base::mode::Mode;
 use base::refusal::Refusal;
 use lookup::is_too_few;
-use pool::is_well_formed;
+use pool::Pool;
 use sweep::group_records::SweepState;
 use sweep::{start, sweep};
 use utf8::check_text;
 
-// An annotation that nothing refuses before the sweep: its mode, and the sweep so far.
+// An annotation that nothing refuses before the sweep: its mode, its pool, and the sweep so far.
 #[derive(Clone, Copy)]
-pub struct Begun {
+pub struct Begun<'a> {
     pub mode: Mode,
+    pub pool: Pool<'a>,
     pub swept: SweepState,
 }
 
-// Refuses an annotation before the sweep, or gives its mode; `index` and `records` are how many of these are lent.
+// Refuses an annotation before the sweep, or gives its mode and its pool; `index` and `records` are how many of these are lent.
 #[tactic(auto, using(utf8::proofs::Characters::accepted_after, utf8::proofs::Characters::refused_after), unfolding(crate::specs::Refusal::annotate_refusal))]
-fn check_annotate(
+fn check_annotate<'a>(
     text: &[u8],
     mode: u8,
-    pool: &[u8],
+    pool: &'a [u8],
     index: usize,
     records: usize,
-) -> Result<Mode, Refusal>
+) -> Result<(Mode, Pool<'a>), Refusal>
     ensures { let number = annotate_refusal text.now mode pool.now index records in
-        MatchResult result (λ checked. (number ≡ 0) × (mode_number checked ≡ mode)) (λ refusal. number_of refusal ≡ number) }
+        MatchResult result
+        (λ checked. (number ≡ 0) × (mode_number checked.0 ≡ mode) × (checked.1.bytes.now ≡ pool.now))
+        (λ refusal. number_of refusal ≡ number) }
 {
     check_text(text)?;
     let mode = Mode::try_from(mode)?;
-    if !is_well_formed(pool) {
+    let Some(pool) = Pool::new(pool) else {
         return Err(Refusal::PoolBroken);
-    }
+    };
     if is_too_few(text, index, records) {
         return Err(Refusal::IndexTooShort);
     }
-    Ok(mode)
+    Ok((mode, pool))
 }
 
 // An annotation up to the build: `records` bracket records are lent.
 #[tactic(auto, using(crate::proofs::BeginLaws::prepared_short, crate::proofs::BeginLaws::prepared_counted))]
-pub fn prepare(
+pub fn prepare<'a>(
     text: &[u8],
     mode: u8,
-    pool: &[u8],
+    pool: &'a [u8],
     note: u8,
     index: &mut [u16],
     records: usize,
     items: &mut [u16],
     groups: &mut [u16],
-) -> Result<Begun, Refusal>
+) -> Result<Begun<'a>, Refusal>
     ensures { PreparedBy text.now mode pool.now note index.old records items.old groups.old result
         items.new groups.new
         × (index.new ≡ index.old) }
 {
-    let mode = check_annotate(text, mode, pool, index.len(), records)?;
+    let (mode, pool) = check_annotate(text, mode, pool, index.len(), records)?;
     let swept = sweep(text, note, index, start(), items, groups);
-    Ok(Begun { mode, swept })
+    Ok(Begun { mode, pool, swept })
 }
 
 // Whether the prepared annotation asks for a build.
 #[tactic(auto, unfolding(crate::specs::Halves::prepared_wants))]
 pub fn wants_build(prepared: Result<Begun, Refusal>) -> bool
-    ensures { result ≡ prepared_wants prepared }
+    ensures { result ≡ prepared_wants prepared.entry }
 {
     matches!(prepared, Ok(begun) if begun.swept.wants)
 }

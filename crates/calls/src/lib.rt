@@ -62,7 +62,7 @@ pub fn annotate<'a>(
     let prepared = prepare(text, mode, pool, note, index, n, items, groups);
     index::brackets::build_when(wants_build(prepared), text, index, records);
     finish(
-        text, pool, note, prepared, index, items, groups, references, labels,
+        text, note, prepared, index, items, groups, references, labels,
     )
 }
 

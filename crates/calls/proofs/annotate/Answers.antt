@@ -32,13 +32,13 @@ module _ (s : List ℕ) (mode : ℕ) (pool : List ℕ) (note : ℕ) (index items
     stored : records₂ ≡ records_after (prepared_wants p) s records
     stored = ap (λ (b : Both). b.1) build ∙ rw (rs, wants) refl
 
-    finishes : CanFinish s pool note p index₂ items₁ groups₁
-    finishes = record { mode = mode; index₀ = index; lent = length records; items₀ = items; groups₀ = groups; prepared = prepared; built = after }
+    finishes : CanFinish s note p index₂ items₁ groups₁
+    finishes = record { mode = mode; pool = pool; index₀ = index; lent = length records; items₀ = items; groups₀ = groups; prepared = prepared; built = after }
 
     module _ (references labels : List ℕ) {index₃ items₃ groups₃ references₃ labels₃ : List ℕ} {r : Annotation}
-        (last : Finished s pool note p index₂ items₁ groups₁ references labels r items₃ groups₃ references₃ labels₃) (kept : index₃ ≡ index₂) where
+        (last : Finished s note p index₂ items₁ groups₁ references labels r items₃ groups₃ references₃ labels₃) (kept : index₃ ≡ index₂) where
       done : Done (annotate_run s mode pool note index records (areas items groups references labels)) r items₃ groups₃ references₃ labels₃
-      done = last.gives mode index records (length records) items groups prepared refl after
+      done = last.gives mode pool index records (length records) items groups prepared refl after
 
       promised : AnnotatePromise s mode pool note index records (areas items groups references labels) r index₃ records₂ (areas items₃ groups₃ references₃ labels₃)
       promised = (

@@ -1,11 +1,10 @@
--- The answers of `annotation::after_sweep::number_and_order`: the labels and the references have room, or one of the two has none.
+-- The answers of `annotation::after_sweep::number_and_order`: the labels have no room, the references have none, or both have it.
 use Rattle.annotation.proofs.OrderLaws.{ordered_room, few_labels, few_references}
 use Rattle.annotation.proofs.after_sweep.number_and_order.Goals as goal
 
 pub returns-in_default : goal.returns-in_default
 returns-in_default c =
-    let a = c.number_groups.auto in
-    few_labels _ _ _ _ _ _ _ _ _ c.refuse_ten.ensures a.items a.groups a.labels c.in_default.ensures.holds
+    let a = c.number_groups.auto in few_labels _ _ _ _ _ _ _ _ _ c.refuse_ten.ensures a.items a.groups a.labels c.in_default.ensures.holds
 
 pub returns-then-references-sources : goal.returns-then-references-sources
 returns-then-references-sources c =
@@ -13,5 +12,5 @@ returns-then-references-sources c =
     few_references _ _ _ _ _ _ _ _ _ c.refuse_ten-then-references-sources.ensures a.items a.groups a.labels c.in-Some.ensures.holds
     c.if-references-sources.true
 
-pub returns-else-references-sources : goal.returns-else-references-sources
-returns-else-references-sources c = ordered_room _ _ _ _ _ _ _ _ _ c.in-Some.ensures.holds c.if-references-sources.false c.order_references.ensures
+pub returns : goal.returns
+returns c = ordered_room _ _ _ _ _ _ _ _ _ c.in-Some.ensures.holds c.if-references-sources.false c.order_references.ensures

@@ -2,7 +2,7 @@
 -- and from what they say of the call as run.
 use Rattle.std.proofs.Common.{refl}
 use borrow.Author.Rules.{rules}
-use Rattle.annotation.proofs.FinishLaws.{finish_laws, goes_layout, groups_short, items_short, numbers_none, numbers_known, finished_room}
+use Rattle.annotation.proofs.FinishLaws.{finish_laws, groups_short, items_short, numbers_none, numbers_known, finished_room}
 use Rattle.annotation.proofs.completion.finish.Goals as goal
 
 pub sweep-swept-requires : goal.sweep-swept-requires
@@ -15,11 +15,10 @@ number_and_order-counts-requires c =
     let f = c.if-swept.true in (
       groups_short c.requires y t,
       items_short c.requires y t,
-      goes_layout c.requires y,
       numbers_none c.requires y t c.note_after-note.ensures f,
       numbers_known c.requires y t c.note_after-note.ensures f,
     )
 
 pub returns-then-swept : goal.returns-then-swept
 returns-then-swept c =
-    (finished_room _ _ _ _ _ _ _ _ c.in-Ok.is c.note_after-note.ensures c.sweep-swept.ensures c.if-swept.true c.number_and_order-counts.ensures, refl)
+    (finished_room _ _ _ _ _ _ _ c.in-Ok.is c.note_after-note.ensures c.sweep-swept.ensures c.if-swept.true c.number_and_order-counts.ensures, refl)
