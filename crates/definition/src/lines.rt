@@ -27,10 +27,11 @@ fn defines_key_in(text: &[u8], groups: &[u16], items: &[u16], g: usize, key: &[u
     requires { g < record_bound }
     ensures { result ≡ defines_key_in text.now groups.now items.now key.now g }
 {
-    let close = records::close_of_record(groups, g);
+    if !definition_line::colon_after(text, records::close_of_record(groups, g)) {
+        return false;
+    }
     let first = field::<GROUP_WIDTH>(groups, g, GROUP_FIRST);
-    definition_line::colon_after(text, close)
-        && base::slices::is_same(records::key_in(text, items, first), key)
+    base::slices::is_same(records::key_in(text, items, first), key)
         && defines_in(text, groups, items, g)
 }
 
