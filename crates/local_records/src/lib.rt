@@ -20,7 +20,14 @@ pub fn look_up(text: &[u8], at: usize, note: u8, index: &mut [u16], items: &mut 
         LookUpPromise text.now at note index.old records items.old
         result index.new ran.records items.new }
 {
-    let mut records = [Bracket::default(); 65535];
+    // (`Bracket::default()` in its place was tried, and the proof didn't close.)
+    let b = Bracket {
+        place: 0,
+        seen: 0,
+        good: 0,
+        bad: 0,
+    };
+    let mut records = [b; 65535];
     calls::look_up(text, at, note, index, &mut records, items)
 }
 
@@ -43,7 +50,14 @@ pub fn annotate<'a>(
         AnnotatePromise text.now mode pool.now note index.old records given
         result index.new ran.records left }
 {
-    let mut records = [Bracket::default(); 65535];
+    // (`Bracket::default()` in its place was tried, and the proof didn't close.)
+    let b = Bracket {
+        place: 0,
+        seen: 0,
+        good: 0,
+        bad: 0,
+    };
+    let mut records = [b; 65535];
     calls::annotate(
         text,
         mode,
