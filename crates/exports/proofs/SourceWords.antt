@@ -16,12 +16,13 @@ use Rattle.pool.specs.Numbers.{Signed}
 use Rattle.pool.specs.Fields.{Field, field_end, field_at, fields_in, fields_of}
 use Rattle.pool.specs.Entries.{Entry, field_with, in_name, name_after, name_at, names_in, entry_of, entry_from}
 use Rattle.pool.specs.Layout.{count_of, offset_of, end_of, well_formed, entry_at}
-use Rattle.pool.proofs.PoolLaws.{entry_there}
+use Rattle.pool.proofs.PoolLaws.{laid_out_lem, count_bytes, entry_there}
 use Rattle.decimal.proofs.Laws.{decimal_short}
 use Rattle.decimal.specs.Decimal.{decimal}
 use Rattle.source.specs.Decimal.{signed_decimal}
 use Rattle.source.specs.Entry.{is_empty, year_by, year_of}
-use Rattle.source_text.specs.Text.{beside, add_name, names_of, head_of, ended, body_of, source_text_of}
+use Rattle.source_parts.specs.Joined.{beside}
+use Rattle.source_text.specs.Text.{add_name, names_of, head_of, ended, body_of, source_text_of}
 use Rattle.source_parts.specs.Names.{given_part, family_part, name_by, name_of}
 use Rattle.source_parts.specs.Parens.{in_parens}
 use Rattle.source_text.specs.Call.{source_refused, source_written, source_text_call}
@@ -179,7 +180,7 @@ entry_text_by : (p : List ℕ) (i : ℕ) → well_formed p ≡ true → i < coun
 unfolding entry_at
 entry_text_by p i w h =
     let t = entry_there p i w h in
-    text_by p (offset_of p i) (end_of p i) t.small t.inside
+    text_by p (offset_of p i) (end_of p i) (laid_out_lem p w (count_bytes p w h)).small t.inside
 
 pub source_words : (p : List ℕ) (i : ℕ) (area : List ℕ) → Words (source_text_numbers (source_text_call p i area))
 unfolding source_text_call source_text_numbers source_written Words
