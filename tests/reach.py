@@ -149,13 +149,14 @@ def reached(starts):
     return seen
 
 
-FUNCTION = re.compile(r'^(pub )?(?:unsafe )?(?:extern "C" )?fn (\w+)(.*?)^(\{\}$|\{|\}$)', flags=re.M | re.S)
+# A function, or a method of an impl: the brace of its body stands in the column where it begins.
+FUNCTION = re.compile(r'^( *)(pub )?(?:unsafe )?(?:extern "C" )?fn (\w+)(.*?)^\1(\{\}$|\{|\}$)', flags=re.M | re.S)
 
 
 def headers(path):
     """The parameters and the clauses of each function of a file, by its name, whatever their layout."""
     text = re.sub(r'//.*', '', open(path, encoding='utf-8').read())
-    return {m.group(2): re.sub(r',?\s+\)', ')', re.sub(r'\(\s+', '(', ' '.join(m.group(3).split()))) for m in FUNCTION.finditer(text)}
+    return {m.group(3): re.sub(r',?\s+\)', ')', re.sub(r'\(\s+', '(', ' '.join(m.group(4).split()))) for m in FUNCTION.finditer(text)}
 
 
 def contracts(path):
@@ -163,11 +164,11 @@ def contracts(path):
     The name of a parameter is no citation, even where a definition has it too."""
     text = open(path, encoding='utf-8').read()
     uses = {}
-    for m in re.finditer(r'^ghost use ([^;]*);', text, flags=re.M):
+    for m in re.finditer(r'^ *ghost use ([^;]*);', text, flags=re.M):
         imported(re.sub(r'\s+', ' ', m.group(1)), uses)
     for m in FUNCTION.finditer(text):
-        signature, _, clauses = re.sub(r'(\brequires|\bensures)\b', r'\0\1', m.group(3), count=1).partition('\0')
+        signature, _, clauses = re.sub(r'(\brequires|\bensures)\b', r'\0\1', m.group(4), count=1).partition('\0')
         given = set(re.findall(r'(\w+)\s*:(?!:)', signature))
         known = {name: d for name, d in uses.items() if name not in given}
         cited = [d for d in named_by([re.sub(r'//.*', '', clauses).replace('\n', ' ')], known, {}) if d is not None]
-        yield m.group(2), m.group(4) == '{}', bool(m.group(1)), cited
+        yield m.group(3), m.group(5) == '{}', bool(m.group(2)), cited
