@@ -98,6 +98,7 @@ pub fn sweep(
     ensures { SweptTo text.now note index.now s items.old groups.old result items.new groups.new }
 {
     let mut r = move_to(s, s.at, false);
+    // A `while`: each turn says where the next one begins.
     while r.at < text.len() {
         r = turn(text, note, index, r, items, groups);
         if r.wants {
