@@ -5,7 +5,8 @@ use mathlib.Core.Path.{◌≡◌, refl, ◌∙◌}
 use Rattle.std.specs.Prelude.{Result, Ok, Err}
 use Rattle.base.specs.declared.refusal.Refusal.{Refusal}
 use Rattle.base.specs.declared.refusal.Refusal.TheVariants.{TextTooLong, TextNotUtf8, NoBracket, EscapedBracket, NoGroup, UnknownMode, PoolBroken, NoEntry, IndexTooShort, NoRoom}
-use Rattle.base.specs.Refusals.{number_of, refusal_number, refusal_of, answered}
+use Rattle.base.specs.Refusals.{number_of, refusal_of, answered}
+use Rattle.base.specs.Checks.{refusal_number}
 
 -- the number tells the refusal
 pub refusal_back : (e : Refusal) → refusal_of (number_of e) ≡ e

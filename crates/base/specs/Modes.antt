@@ -1,4 +1,4 @@
--- Document 01, Annotation: the number of each mode.
+-- Follows the code; nothing to believe: the number of each mode.
 use Rattle.std.specs.Prelude.{ℕ}
 use Rattle.base.specs.declared.mode.Mode.{Mode}
 use Rattle.base.specs.declared.mode.Mode.TheVariants.{Number, AuthorYear}

@@ -17,11 +17,6 @@ number_of NoEntry = 8
 number_of IndexTooShort = 9
 number_of NoRoom = 10
 
--- the number that a result says: 0 where it is accepted
-abbrev pub refusal_number : {A : Type 0} → Result A Refusal → ℕ
-refusal_number (Ok x) = 0
-refusal_number (Err e) = number_of e
-
 -- the refusal of a number: 1 to 9, and 10 for any other
 unfoldable pub refusal_of : ℕ → Refusal
 refusal_of n =

@@ -3,7 +3,7 @@
 #![tactic(auto)]
 
 ghost use Rattle.std.specs.Prelude.{◌≡◌};
-ghost use Rattle.base.specs.Refusals.{refusal_number};
+ghost use Rattle.base.specs.Checks.{refusal_number};
 ghost use Rattle.utf8.specs.Facts.{EncodedIsUtf8, Utf8IsEncoded, DecodedIsBack};
 ghost use Rattle.utf8.specs.Refusal.{text_refusal};
 ghost use Rattle.utf8.specs.Utf8.{utf8};
