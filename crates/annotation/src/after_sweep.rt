@@ -49,7 +49,7 @@ pub fn number_and_order<'a>(
         lines,
     };
     let Some(numbers) = setting.number_groups(items, groups, labels) else {
-        return refuse_ten(items, groups, references, labels);
+        return refuse_ten(items, groups, references, labels); // the labels have no room
     };
     let sources = numbers.sources;
     if references.len() < sources {
