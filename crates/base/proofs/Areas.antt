@@ -3,10 +3,9 @@ use Prim.Native.Nat.{ℕ, suc, ◌+◌, ◌-◌, ◌≤◌, ◌<◌}
 use native.Mathlib.Omega.{arith}
 use mathlib.Core.Path.{◌≡◌, refl, sym, ◌∙◌}
 use mathlib.Core.List.{List, [], ◌∷◌, ◌++◌, append_assoc, append-nil}
-use lib.ListN.{length, take, drop, set, take-append-drop, length-append, length-take, length-drop, drop_of_length-le}
+use lib.ListN.{length, take, drop, set, length-append, length-take, length-drop, drop_of_length-le}
 use lib.Seq.{take_all, take-length, take_at, drop_at, drop-drop, drop-append-add, drop-cons, set_at, length-take-le}
-use Rattle.base.specs.Lists.{part, written}
-use Rattle.base.proofs.Parts.{part_is}
+use Rattle.base.specs.Lists.{written}
 
 -- an area that was written is as long as it was
 pub written_length : {A : Type 0} (out s : List A) → length out ≤ length s → length (written out s) ≡ length s
@@ -20,11 +19,6 @@ written_front out s k e = take_at out (drop (length out) s) k (sym e)
 pub written_none : {A : Type 0} (s : List A) → s ≡ written [] s
 unfolding written
 written_none s = refl
-
--- the front of an area is there already
-pub written_kept : {A : Type 0} (s : List A) (k : ℕ) → k ≤ length s → s ≡ written (take k s) s
-unfolding written
-written_kept s k h = rw (length-take-le k s h) (sym (take-append-drop k s))
 
 -- what is written over a shorter front
 pub written_over : {A : Type 0} (a b s : List A) → length a ≤ length b → written b (written a s) ≡ written b s
@@ -46,10 +40,6 @@ written_byte s₀ s out k x e q h =
 pub copied : (b s : List ℕ) {out : List ℕ} → out ≡ take (length b) b ++ drop (length b) s → out ≡ written b s
 unfolding written
 copied b s e = e ∙ rw take-length refl
-
-pub part_copied : (pool s : List ℕ) (a n : ℕ) {out : List ℕ} → a + n ≤ length pool → out ≡ written (take (a + n - a) (drop a pool)) s
-    → out ≡ written (part pool a (a + n)) s
-part_copied pool s a n h e = e ∙ rw (part_is pool a (a + n) (omega arith) h) refl
 
 -- the rest of an area has room for what it and the front have room for together
 pub rest_room : (s : List ℕ) (k n : ℕ) → k + n ≤ length s → n ≤ length (take (length s - k) (drop k s))

@@ -63,22 +63,6 @@ last_alike_lem f g n j h l = record {
 pub none_alike : (f g : ℕ → Bool) (n : ℕ) → ((i : ℕ) → i < n → g i ≡ f i) → LastNone f n → LastNone g n
 none_alike f g n h l = λ d. last_same g f n d h ∙ l d
 
--- at a place, in the form of the needs: `w` is what the loop's invariant speaks of, and the places from `i` on were passed
-module _ (f : ℕ → Bool) (d i : ℕ) {w : ℕ} (p : w ≡ last f i d) where
-  pub last_out : i ≤ 0 → d ≡ w
-  unfolding last
-  last_out h = let z : i ≡ 0 = omega arith in sym (p ∙ rw z)
-
-  last_is : (j : ℕ) → i ≡ suc j → last f i d ≡ pick (f j) j (last f j d)
-  unfolding last
-  last_is j e = rw e refl
-
-  pub last_stop : 0 < i → f (i - 1) ≡ true → i - 1 ≡ w
-  last_stop h t = sym (p ∙ last_is (i - 1) (omega arith) ∙ rw t)
-
-  pub last_more : 0 < i → f (i - 1) ≡ false → w ≡ last f (i - 1) d
-  last_more h t = p ∙ last_is (i - 1) (omega arith) ∙ rw t
-
 -- where it stops before the place that says that there is none, the test holds
 pub last_holds : (f : ℕ → Bool) (n d : ℕ) → n ≤ d → last f n d < d → f (last f n d) ≡ true
 unfolding last

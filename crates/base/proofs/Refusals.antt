@@ -5,22 +5,8 @@ use mathlib.Core.Path.{◌≡◌, refl, ◌∙◌}
 use Rattle.std.specs.Prelude.{Result, Ok, Err}
 use Rattle.base.specs.declared.refusal.Refusal.{Refusal}
 use Rattle.base.specs.declared.refusal.Refusal.TheVariants.{TextTooLong, TextNotUtf8, NoBracket, EscapedBracket, NoGroup, UnknownMode, PoolBroken, NoEntry, IndexTooShort, NoRoom}
-use Rattle.base.specs.Refusals.{number_of, refusal_of, answered}
 use Rattle.base.specs.Checks.{refusal_number}
-
--- the number tells the refusal
-pub refusal_back : (e : Refusal) → refusal_of (number_of e) ≡ e
-unfolding refusal_of
-refusal_back TextTooLong = refl
-refusal_back TextNotUtf8 = refl
-refusal_back NoBracket = refl
-refusal_back EscapedBracket = refl
-refusal_back NoGroup = refl
-refusal_back UnknownMode = refl
-refusal_back PoolBroken = refl
-refusal_back NoEntry = refl
-refusal_back IndexTooShort = refl
-refusal_back NoRoom = refl
+use Rattle.base.specs.Refusals.{number_of, refusal_of, answered}
 
 -- no refusal has the number 0
 pub number_some : (e : Refusal) → number_of e ≡ 0 → ⊥
