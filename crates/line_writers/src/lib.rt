@@ -53,11 +53,11 @@ impl Writer<'_> {
         self.put(&[end]);
     }
 
-    // What a line says of its group. (That `g` is below 65,536 stays a clause, which records::field asks for: with a `u16` in its place each call would
-    // cast the counter of a loop.)
+    // What a line says of its group. (That `g` is below `record_bound` stays a clause, since `records::field` asks for it: with a `u32` in its place each call
+    // would cast the counter of a loop.)
     #[tactic(auto, using(crate::proofs::Lines::group_laws))]
     fn put_group_part(&mut self, groups: &[u16], g: usize)
-        requires { (g < 65536) × Room (group_part (drop (group_width * g) groups.now)) self.old }
+        requires { (g < record_bound) × Room (group_part (drop (group_width * g) groups.now)) self.old }
         ensures { Put (group_part (drop (group_width * g) groups.now)) self.old self.new }
     {
         let offset = field::<GROUP_WIDTH>(groups, g, GROUP_PLACE);
@@ -86,7 +86,7 @@ impl Writer<'_> {
     // The line of item record `i`, in the group of record `g`.
     #[tactic(auto, using(crate::proofs::Lines::line_laws))]
     fn put_line(&mut self, answer: Answer<'_>, g: usize, i: usize)
-        requires { (g < 65536) × (i < record_bound)
+        requires { (g < record_bound) × (i < record_bound)
             × Room (item_line answer.text.now (drop (group_width * g) answer.groups.now) (drop (item_width * i) answer.items.now)) self.old }
         ensures { let a = answer.entry in
             Put (item_line a.text.now (drop (group_width * g) a.groups.now) (drop (item_width * i) a.items.now)) self.old self.new }
@@ -98,7 +98,7 @@ impl Writer<'_> {
     // The lines of the group of record `g`.
     #[tactic(auto, using(crate::proofs::Lines::lines_laws))]
     fn put_lines(&mut self, answer: Answer<'_>, g: usize)
-        requires { (g < 65536) × Room (lines_of answer.text.now (drop (group_width * g) answer.groups.now) answer.items.now) self.old }
+        requires { (g < record_bound) × Room (lines_of answer.text.now (drop (group_width * g) answer.groups.now) answer.items.now) self.old }
         ensures { let a = answer.entry in
             Put (lines_of a.text.now (drop (group_width * g) a.groups.now) a.items.now) self.old self.new }
     {
