@@ -1,4 +1,5 @@
--- THEOREM `BracketTrue`: what an index and a note "as earlier calls on that text left them" give at a bracket.
+-- THEOREM `BracketTrue`: what an index and a note "as earlier calls on that text left them" give at a bracket
+-- is what the unlimited scan gives there.
 use Prim.Native.Nat.{ℕ, ◌-◌, ◌≤◌, ◌<◌}
 use native.Mathlib.Nat.{zero-add}
 use mathlib.Core.Path.{◌≡◌, refl, sym, ◌∙◌, ap}

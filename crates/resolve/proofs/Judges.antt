@@ -1,4 +1,5 @@
--- The group at a bracket by cases: the one place that opens `judge`.
+-- The group at a bracket by cases:
+-- the one file that opens `judge`.
 use Prim.Native.Nat.{ℕ}
 use native.Mathlib.Omega.{arith}
 use mathlib.Core.Path.{◌≡◌, refl, sym, ◌∙◌}
@@ -13,7 +14,9 @@ use Rattle.item.specs.Pieces.{items_of}
 use Rattle.item.specs.Judge.{judged_of}
 use Rattle.item.specs.Group.{good_items, group_of}
 use Rattle.item.proofs.Judge.{JudgedBy, all_good_lem, one_bad, judged_by}
+use Rattle.resolve.specs.declared.Group.{Group as Matched}
 use Rattle.resolve.specs.Groups.{GroupAnswer, Found, NoGroup, barred, group_accepted, judge}
+use Rattle.resolve.specs.Looks.{matched}
 
 -- what holds of a group at `p` with its close at `c`
 pub record Cited (s : List ℕ) (p c : ℕ) : Type 0 where
@@ -51,6 +54,30 @@ judge_either s p P d found none = go (judges s p d) found
     go no_close f = none
     go (follows c b) f = none
     go (bad_item c n b g j) f = none
+
+-- the law read from the match: what is known of the group that it gives, or that it gives none
+module _ (s : List ℕ) (p : ℕ) (d : Option ℕ) where
+  pub matched_is : (g : Matched) → matched (judge s p d) ≡ Some g
+      → (d ≡ Some g.close) × Cited s p g.close × (judge s p d ≡ Found (group_of s p g.close)) × (g.count ≡ length (items_of s p g.close))
+  unfolding matched group_of
+  matched_is g = go (judges s p d)
+    where
+      go : {d : Option ℕ} {j : GroupAnswer} → Judges s p d j → matched j ≡ Some g
+          → (d ≡ Some g.close) × Cited s p g.close × (j ≡ Found (group_of s p g.close)) × (g.count ≡ length (items_of s p g.close))
+      go (cites k f) e =
+          let h : ◌≡◌ {A = Matched} (record { close = k; count = length (items_of s p k) }) g = cc in
+          rw (← h) (refl, f, refl, refl)
+      go no_close e = let y : None ≡ Some g = e in absurd (cc)
+      go (follows k b) e = let y : None ≡ Some g = e in absurd (cc)
+      go (bad_item k i b g' j) e = let y : None ≡ Some g = e in absurd (cc)
+
+  pub unmatched_is : matched (judge s p d) ≡ None → judge s p d ≡ NoGroup
+  unfolding matched
+  unmatched_is = go (judge s p d)
+    where
+      go : (j : GroupAnswer) → matched j ≡ None → j ≡ NoGroup
+      go (Found g) h = absurd (cc)
+      go NoGroup h = refl
 
 -- the law read from left to right
 module _ (s : List ℕ) (p : ℕ) where

@@ -1,4 +1,5 @@
--- The close of a bracket and the group at it, in the form of the code's needs: `r` is what a call gave.
+-- The close of a bracket and the group at it, in the form of the code's goals:
+-- `r` is what a call gave.
 use Prim.Native.Nat.{ℕ, ◌-◌, ◌<◌}
 use mathlib.Core.Path.{◌≡◌, refl, sym, ◌∙◌}
 use mathlib.Core.List.{List}

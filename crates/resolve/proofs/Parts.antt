@@ -1,4 +1,5 @@
--- THEOREM `GroupInOrder`: the parts of each item of a group.
+-- THEOREM `GroupInOrder`: the parts of each item of a group
+-- lie between its bracket and its close, in their order.
 use Prim.Native.Nat.{ℕ, ◌+◌, ◌<◌}
 use native.Mathlib.Omega.{arith}
 use mathlib.Core.Path.{◌≡◌, refl, subst}

@@ -1,4 +1,5 @@
--- The close that the code finds, the build between its two halves, is the close as run.
+-- The close that the code finds, the build between its two halves,
+-- is the close as run.
 use Prim.Native.Nat.{ℕ}
 use mathlib.Core.Path.{◌≡◌, refl}
 use mathlib.Core.List.{List}

@@ -1,4 +1,5 @@
--- Theorems: what the paper claims of the group at a bracket, proved in proofs/.
+-- Theorems: what the paper claims of the group at a bracket:
+-- what an index as left gives there, and the order of its items' parts; proved in proofs/.
 use Rattle.std.specs.Prelude.{ℕ, ◌+◌, ◌≤◌, ◌<◌, ◌≡◌, List, true, length}
 use Rattle.base.specs.Sorted.{Each}
 use Rattle.base.specs.InOrder.{present_of, InOrder}

@@ -1,4 +1,5 @@
--- Document 01, Corners of the Rust: the group at a bracket (`match_citation`).
+-- Document 01, Corners of the Rust: the group at a bracket (`match_citation`),
+-- by its close, and by the close that the unlimited scan finds.
 use Rattle.std.specs.Prelude.{ℕ, ◌+◌, List, Bool, ◌||◌, ◌&&◌, not, eqb, Option, Some, None}
 use Rattle.base.specs.Pick.{pick}
 use Rattle.base.specs.Lists.{byte_at}

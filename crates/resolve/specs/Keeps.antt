@@ -1,4 +1,5 @@
--- Theorems: what a call leaves of the index area.
+-- Theorems: what a call leaves of the index area that it is lent,
+-- whole or with fewer records than the text has bytes.
 use Rattle.std.specs.Prelude.{ℕ, ◌<◌, ◌≡◌, List, length}
 
 -- What a call leaves of the index that it is lent: its length; and, where it is lent fewer records than the text has bytes, index and note

@@ -4,18 +4,30 @@
 
 ghost use Rattle.std.specs.Prelude.{◌≡◌, ◌<◌, length};
 ghost use Rattle.resolve.specs.Groups.{barred, judge};
-ghost use Rattle.resolve.specs.Resolve.{stored_close, look_of, close_after};
+ghost use Rattle.resolve.specs.Resolve.{stored_close, close_after};
 ghost use Rattle.resolve.specs.Looks.{matched, Inside};
 
 use base::slices::byte_at;
 use close::close_bracket;
 use item::judge_items;
 
-// What a bracket gives before any build: the place of its close where it is known, or that the index has to be built first.
+// The note of an index that is built. A note stays a number: C gives any byte, and a call that builds nothing returns that byte.
+pub const BUILT: u8 = 1;
+
+// What a bracket gives before any build: the place of its close where it is known, or that the index has to be built first. (No Option of an
+// Option: a missing close and a close that is not known yet would both be None.)
 #[derive(Clone, Copy)]
 pub enum Look {
     Known(Option<usize>),
     Build,
+}
+
+// A text, its index, and the note that says whether the index is built.
+#[derive(Clone, Copy)]
+pub struct Indexed<'a> {
+    pub text: &'a [u8],
+    pub note: u8,
+    pub index: &'a [u16],
 }
 
 // A group at a bracket, by its close and the count of its items.
@@ -30,7 +42,7 @@ pub struct Group {
 pub fn stored_close(text: &[u8], p: usize, index: &[u16]) -> Option<usize>
     ensures { result ≡ stored_close text.now p index.now }
 {
-    let c = index.get(p).copied().unwrap_or(0) as usize;
+    let c = usize::from(index.get(p).copied().unwrap_or(0));
     if p < c && c < text.len() && text[c] == b']' {
         Some(c)
     } else {
@@ -38,21 +50,25 @@ pub fn stored_close(text: &[u8], p: usize, index: &[u16]) -> Option<usize>
     }
 }
 
-// What the bracket at `p` gives before any build: what the index says, once it is built, and else what the look at 64 bytes says. Where that
-// found no close there is none if it saw the text's end.
-#[tactic(auto, unfolding(crate::specs::Resolve::look_of, crate::specs::Resolve::shortened, crate::specs::Resolve::short_look))]
-pub fn look_at(text: &[u8], p: usize, note: u8, index: &[u16]) -> Look
-    requires { p < length text.now }
-    ensures { result ≡ look_of text.now p note index.now }
-{
-    if note == 1 {
-        return Look::Known(stored_close(text, p, index));
-    }
-    let close = close_bracket(text, p, 64);
-    if close.is_some() || text.len() - p <= 64 {
-        Look::Known(close)
-    } else {
-        Look::Build
+impl<'a> Indexed<'a> {
+    ghost use Rattle.resolve.specs.Resolve.{look_of};
+
+    // What the bracket at `p` gives before any build: what the index says, once it is built, and else what the look at 64 bytes says. Where
+    // that found no close there is none if it saw the text's end.
+    #[tactic(auto, unfolding(crate::specs::Resolve::look_of, crate::specs::Resolve::shortened, crate::specs::Resolve::short_look))]
+    pub fn look_at(self, p: usize) -> Look
+        requires { p < length self.text.now }
+        ensures { result ≡ look_of self.entry.text.now p self.entry.note self.entry.index.now }
+    {
+        if self.note == BUILT {
+            return Look::Known(stored_close(self.text, p, self.index));
+        }
+        let close = close_bracket(self.text, p, 64);
+        if close.is_some() || self.text.len() - p <= 64 {
+            Look::Known(close)
+        } else {
+            Look::Build
+        }
     }
 }
 
