@@ -1,4 +1,5 @@
--- An area with a label at some place: the label was copied there, or written into the rest of the area from there on.
+-- An area with a label at some place:
+-- the label was copied there, or written into the rest of the area from there on.
 use Prim.Native.Nat.{ℕ, ◌+◌, ◌-◌, ◌≤◌, ◌<◌}
 use native.Mathlib.Omega.{arith}
 use mathlib.Core.Path.{◌≡◌, refl, sym, ◌∙◌, ap}

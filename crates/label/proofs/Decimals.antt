@@ -1,4 +1,5 @@
--- A number in decimal has no white byte, so trims leave it as it is.
+-- A number in decimal, with its sign, has no white byte,
+-- so trims leave it as it is.
 use Prim.Native.Nat.{ℕ, zero, suc, ◌+◌, ◌-◌, ◌/◌, ◌%◌, ◌≤◌, ◌<◌}
 use native.Mathlib.Omega.{arith}
 use mathlib.Core.Path.{◌≡◌, refl, sym, ◌∙◌}

@@ -1,4 +1,5 @@
--- Two lists of bytes joined by a space: which bytes are white, and where the whole begins and ends, trimmed.
+-- Two lists of bytes joined by a space:
+-- which bytes are white, and where the whole begins and ends, trimmed.
 use Prim.Native.Nat.{ℕ, zero, suc, ◌+◌, ◌-◌, ◌≤◌, ◌<◌}
 use native.Mathlib.Omega.{arith}
 use mathlib.Core.Path.{◌≡◌, refl, sym, ◌∙◌, ap}

@@ -1,4 +1,5 @@
--- The label by author and year, trimmed piece by piece, in the form of the needs.
+-- The label by author and year, trimmed piece by piece, in the form of the goals,
+-- and that a number has no white space.
 use Prim.Native.Nat.{ℕ, ◌-◌, ◌≤◌, ◌<◌}
 use native.Mathlib.Omega.{arith}
 use mathlib.Core.Path.{◌≡◌, refl, sym, ◌∙◌, ap}
@@ -109,18 +110,26 @@ number_piece n z h e = let f : SFits w64 (pos n) = omega (arith, ints) in rw (e,
 
 -- the trimmed part
 module _ (s : List ℕ) {a b : ℕ} (p : a ≡ trim_start s 0 (length s)) (q : b ≡ trim_end s (trim_start s 0 (length s)) (length s)) where
-  pub trim_bounds : (a ≤ b) × (b ≤ length s)
-  trim_bounds =
+  pub trim_order : a ≤ b
+  trim_order =
       let h = start_by s 0 (length s) in
       let f = end_from s (trim_start s 0 (length s)) (length s) in
+      omega arith
+
+  pub trim_inside : b ≤ length s
+  trim_inside =
+      let h = start_by s 0 (length s) in
       let g = end_by s (trim_start s 0 (length s)) (length s) in
-      (omega arith, omega arith)
+      omega arith
 
   pub trim_is : take (b - a) (drop a s) ≡ trim s
   unfolding trim
   trim_is =
-      let m = trim_bounds in
+      let m = trim_order in
+      let k = trim_inside in
       rw (q, p) (sym (part_is s (trim_start s 0 (length s)) (trim_end s (trim_start s 0 (length s)) (length s)) (omega arith) (omega arith)))
+
+pub ruleset trim_laws = (trim_order, trim_inside, trim_is)
 
 -- a year without the white space at its end
 pub end_part : (s : List ℕ) {e : ℕ} → e ≡ trim_end s 0 (length s) → e ≡ length (take e s)

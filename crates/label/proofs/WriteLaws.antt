@@ -1,4 +1,5 @@
--- The pieces of a label in their area, in the form of the needs.
+-- The pieces of a label in their area, in the form of the goals:
+-- what fits and what does not, and an author, a space and a piece one after the other.
 use Prim.Native.Nat.{ℕ, ◌+◌, ◌-◌, ◌≤◌, ◌<◌}
 use native.Mathlib.Omega.{arith}
 use mathlib.Core.Path.{◌≡◌, refl, sym, ◌∙◌}

@@ -1,4 +1,5 @@
--- Follows the code; nothing to believe: an area that was lent for one answer.
+-- Follows the code; nothing to believe: an area that was lent for one answer,
+-- after bytes were written at its front or at a place of it, where they fit.
 use Rattle.std.specs.Prelude.{ℕ, ◌≡◌, List, ◌++◌, length, take, drop, leb}
 use Rattle.base.specs.Pick.{pick}
 use Rattle.base.specs.Lists.{written}

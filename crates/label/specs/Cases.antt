@@ -1,4 +1,5 @@
--- Cases: labels.
+-- Cases: labels by number, by author and year, and of a suppressed item,
+-- with white space at their ends, and where nothing is left.
 
 use Rattle.std.specs.Prelude.{◌≡◌, refl, [], true, false}
 use Rattle.std.proofs.Math.Option.{none, some}

@@ -1,4 +1,5 @@
--- Document 01, Corners of the Rust: labels (`annotate_citations_inline`).
+-- Document 01, Corners of the Rust: labels (`annotate_citations_inline`),
+-- by a number, or by author and year.
 use Rattle.std.specs.Prelude.{ℕ, List, [], ◌∷◌, ◌++◌, Bool, eqb}
 use Rattle.std.proofs.Math.Option.{Option, get_or}
 use Rattle.base.specs.Pick.{pick}

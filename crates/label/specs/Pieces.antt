@@ -1,4 +1,5 @@
--- Follows the code; nothing to believe: a label by its pieces.
+-- Follows the code; nothing to believe: a label by its pieces,
+-- a year alone, or an author, a space and a year.
 use Rattle.std.specs.Prelude.{ℕ, List, ◌∷◌, ◌++◌}
 use Rattle.source.specs.Years.{year_bytes}
 use Rattle.label.specs.declared.Label.{Label}

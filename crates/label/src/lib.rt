@@ -1,10 +1,10 @@
-// The label of an item, written at the front of the rest of the label bytes. Nothing is written where it does not fit.
+// The label of an item, by its number or by the author and the year of its source, written at the front of the rest of the label bytes.
+// Nothing is written where it does not fit. The label of an earlier item may be copied.
 #![tactic(auto)]
 
 ghost use Rattle.std.specs.Prelude.{◌≡◌, [], ◌∷◌, ◌++◌, ◌+◌, ◌<◌, ◌≤◌, length, take, drop, MatchOption};
 ghost use Rattle.std.proofs.Math.Option.{get_or};
 ghost use Rattle.base.specs.Lists.{written};
-ghost use Rattle.base.specs.Modes.{mode_number};
 ghost use Rattle.text.specs.Trim.{trim_end, trim};
 ghost use Rattle.decimal.specs.Decimal.{decimal};
 ghost use Rattle.pool.specs.Readers.{lent};
@@ -13,7 +13,7 @@ ghost use Rattle.label.specs.Areas.{fitted_at, Fitted};
 ghost use Rattle.label.specs.Labels.{or_number, author_year, label_by};
 ghost use Rattle.label.specs.Pieces.{label_bytes};
 
-use base::mode::Mode;
+use definition::defined::AuthorYear;
 use source::Year;
 
 // What a label is made of: one piece, or an author, a space and a piece. A piece is of the type of a year: a number, or bytes.
@@ -94,6 +94,7 @@ impl Label<'_> {
 }
 
 // The label by a number.
+#[tactic(auto, using(crate::proofs::LabelLaws::number_piece))]
 fn number_label<'a>(number: u16) -> Label<'a>
     ensures { label_bytes result ≡ decimal number }
 {
@@ -113,7 +114,7 @@ fn bytes_label<'a>(bytes: &'a [u8], number: u16) -> Label<'a>
 }
 
 // Bytes without the white space at their ends.
-#[tactic(auto, unfolding(text::specs::Trim::trim))]
+#[tactic(auto, using(crate::proofs::LabelLaws::trim_laws))]
 fn trimmed<'a>(bytes: &'a [u8]) -> &'a [u8]
     ensures { result.now ≡ trim bytes.now }
 {
@@ -131,8 +132,7 @@ fn end_trimmed<'a>(year: Option<Year<'a>>) -> Option<Year<'a>>
             let end = text::trim_end(text, 0, text.len());
             (0 < end).then_some(Year::Text(&text[..end]))
         }
-        Some(Year::Number(number)) => Some(Year::Number(number)),
-        None => None,
+        year => year,
     }
 }
 
@@ -155,40 +155,47 @@ fn named_label<'a>(author: &'a [u8], year: Option<Year<'a>>, number: u16) -> Lab
     }
 }
 
-// The label of an item. "A suppressed item shows the year even if that is empty, else its number."
+// The label by a number, where it fits. Its length.
+pub fn write_number(number: u16, out: &mut [u8]) -> usize
+    ensures { Fitted (decimal number) out.old result out.new }
+{
+    number_label(number).fit(out)
+}
+
+// The label by author and year, where it fits. Its length. "A suppressed item shows the year even if that is empty, else its number."
 #[tactic(auto, unfolding(crate::specs::Labels::label_by, crate::specs::Labels::year_only))]
-fn label_of<'a>(
-    mode: Mode,
+pub fn write_author_year(suppressed: bool, number: u16, given: AuthorYear, out: &mut [u8]) -> usize
+    ensures { Fitted (label_by 1 suppressed number (get_or (lent given.entry.author) []) (written_year given.entry.year))
+        out.old result out.new }
+{
+    let label = if suppressed {
+        given.year.map_or(number_label(number), Label::Piece)
+    } else {
+        named_label(given.author.unwrap_or(&[]), given.year, number)
+    };
+    label.fit(out)
+}
+
+// The label of an item by a mode's number, where it fits. Its length.
+#[tactic(auto, unfolding(crate::specs::Labels::label_by))]
+pub fn write_label(
+    mode: u8,
     suppressed: bool,
     number: u16,
-    author: Option<&'a [u8]>,
-    year: Option<Year<'a>>,
-) -> Label<'a>
-    ensures { label_bytes result ≡ label_by (mode_number mode) suppressed number (get_or (lent author.entry) []) (written_year year.entry) }
+    given: AuthorYear,
+    out: &mut [u8],
+) -> usize
+    ensures { Fitted (label_by mode suppressed number (get_or (lent given.entry.author) []) (written_year given.entry.year))
+        out.old result out.new }
 {
     match mode {
-        Mode::Number => number_label(number),
-        Mode::AuthorYear if suppressed => year.map_or(number_label(number), Label::Piece),
-        Mode::AuthorYear => named_label(author.unwrap_or(&[]), year, number),
+        0 => write_number(number, out),
+        _ => write_author_year(suppressed, number, given, out),
     }
 }
 
-// The label of an item, where it fits. Its length.
-pub fn write_label(
-    mode: Mode,
-    suppressed: bool,
-    number: u16,
-    author: Option<&[u8]>,
-    year: Option<Year>,
-    out: &mut [u8],
-) -> usize
-    ensures { Fitted (label_by (mode_number mode) suppressed number (get_or (lent author.entry) []) (written_year year.entry))
-        out.old result out.new }
-{
-    label_of(mode, suppressed, number, author, year).fit(out)
-}
-
-// The `len` bytes from `from` on, copied to `at`, where they fit: the label of an item that has the label of an earlier one.
+// The `len` bytes from `from` on, copied to `at`, where they fit: the label of an item that has the label of an earlier one. Places and no
+// slices: what is read and what is written would be two parts of one `&mut` area at once.
 #[tactic(auto, using(crate::proofs::AreaLaws::copy_label_laws))]
 pub fn copy_label(from: usize, len: usize, at: usize, labels: &mut [u8])
     requires { (from + len ≤ at) × (at ≤ length labels.old) }
