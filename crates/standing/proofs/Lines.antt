@@ -1,4 +1,5 @@
--- Whether a group stands in a definition line, in the form of the code's needs: `b` and `r` are what calls gave.
+-- Whether a group stands in a definition line, in the form of the code's goals:
+-- `b` and `r` are what calls gave.
 use Prim.Native.Nat.{ℕ, ◌+◌, ◌-◌, ◌*◌, ◌≤◌}
 use native.Mathlib.Omega.{arith}
 use mathlib.Core.Path.{◌≡◌, refl, sym, ◌∙◌, ap}

@@ -1,4 +1,5 @@
--- The groups of a sweep with their standings.
+-- The groups of a sweep with their standings:
+-- the groups alone, and how many they are.
 use Prim.Native.Nat.{ℕ}
 use mathlib.Core.Path.{◌≡◌, refl, sym, ◌∙◌, ap}
 use mathlib.Core.List.{List, [], ◌∷◌, map}

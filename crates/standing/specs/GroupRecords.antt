@@ -1,4 +1,5 @@
--- Document 01, Layouts: the records of a sweep: its groups with their standing, and their items.
+-- Document 01, Layouts: the records of a sweep:
+-- its groups with their standing, and their items.
 use Rattle.std.specs.Prelude.{ℕ, ◌+◌, ◌-◌, Bool, length}
 use mathlib.Core.List.{List, [], ◌∷◌, ◌++◌, flat_map}
 use Rattle.item.specs.Group.{Group}

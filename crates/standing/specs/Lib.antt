@@ -1,3 +1,4 @@
 pub mod GroupRecords
+pub mod Standings
 pub mod Stands
 pub mod Swept

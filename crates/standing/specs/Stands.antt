@@ -1,4 +1,5 @@
--- Follows the code; nothing to believe: a group by its place: the bracket that opens it, its close, and how many items it has.
+-- Follows the code; nothing to believe: a group by its place:
+-- the bracket that opens it, its close, and how many items it has.
 use Rattle.std.specs.Prelude.{ℕ, ◌<◌, ◌≡◌, List, true, length}
 use Rattle.item.specs.Pieces.{items_of}
 use Rattle.resolve.specs.Groups.{group_accepted}

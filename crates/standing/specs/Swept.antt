@@ -1,4 +1,5 @@
--- Follows the code; nothing to believe: the groups of a sweep before their keys are known to be defined.
+-- Follows the code; nothing to believe: the groups of a sweep
+-- before their keys are known to be defined.
 use Rattle.std.specs.Prelude.{ℕ, List, [], ◌∷◌, Bool}
 use Rattle.base.specs.Pick.{pick}
 use Rattle.item.specs.Group.{Group}
