@@ -1,4 +1,5 @@
--- Areas that are written from their front, and whose rest was lent and came back.
+-- Areas that are written from their front,
+-- and whose rest was lent and came back.
 use Prim.Native.Nat.{ℕ, suc, ◌+◌, ◌-◌, ◌≤◌, ◌<◌}
 use native.Mathlib.Omega.{arith}
 use mathlib.Core.Path.{◌≡◌, refl, sym, ◌∙◌}

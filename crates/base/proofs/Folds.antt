@@ -1,4 +1,5 @@
--- A loop over two lists, one after the other.
+-- A fold over two lists, one after the other,
+-- is the fold over both as one list.
 use mathlib.Core.Path.{◌≡◌, refl}
 use mathlib.Core.List.{List, [], ◌∷◌, ◌++◌}
 use Rattle.base.specs.Fold.{fold}

@@ -1,4 +1,5 @@
--- Linear searches from the end: where they end, cut in two, at other places, and at a place of a loop.
+-- Searches from the end: what one finds and where it ends, cut in two, at other places,
+-- and at a place of a loop.
 use Prim.Native.Nat.{ℕ, zero, suc, ◌+◌, ◌-◌, ◌≤◌, ◌<◌}
 use native.Mathlib.Omega.{arith}
 use native.Mathlib.Numerals.{add-one}
@@ -156,7 +157,7 @@ last_end_shift f g k (suc n) i d h = rw (y, h (i + n) (omega arith)) (go (g (i +
     go true r = omega arith
     go false r = r
 
--- at a place, in the form of the needs: `w` is what the loop's invariant speaks of, and the places from `i` on were passed
+-- at a place, in the form of the goals: `w` is what the loop's invariant speaks of, and the places from `i` on were passed
 module _ (f : ℕ → Bool) (a i d : ℕ) {w : ℕ} (p : w ≡ last_end f (i - a) a d) where
   pub last_end_out : i ≤ a → d ≡ w
   unfolding last_end
@@ -176,26 +177,8 @@ module _ (f : ℕ → Bool) (a i d : ℕ) {w : ℕ} (p : w ≡ last_end f (i - a
   pub last_end_more : a < i → f (i - 1) ≡ false → w ≡ last_end f (i - 1 - a) a d
   last_end_more h t = p ∙ last_end_is h ∙ rw t
 
--- a search from the end at a place: it ends there, it goes on, and it has no place left
-module _ (p : ℕ → Bool) (a i : ℕ) where
-  pub end_now : a < i → p (i - 1) ≡ true → last_end p (i - a) a a ≡ i - 1 + 1
-  unfolding last_end
-  end_now l h =
-      let k : i - a ≡ suc (i - 1 - a) = omega arith in
-      let m : a + (i - 1 - a) ≡ i - 1 = omega arith in
-      rw (k, m, h) omega arith
-
-  pub end_next : a < i → p (i - 1) ≡ false → last_end p (i - a) a a ≡ last_end p (i - 1 - a) a a
-  unfolding last_end
-  end_next l h =
-      let k : i - a ≡ suc (i - 1 - a) = omega arith in
-      let m : a + (i - 1 - a) ≡ i - 1 = omega arith in
-      rw (k, m, h) refl
-
-  pub end_none : i ≤ a → last_end p (i - a) a a ≡ a
-  unfolding last_end
-  end_none l = let k : i - a ≡ zero = omega arith in rw k refl
-
+-- a search below `i`: the place before `i` is the last one, it is not, and there is none
+module _ (p : ℕ → Bool) (i : ℕ) where
   pub last_now : 0 < i → p (i - 1) ≡ true → (d : ℕ) → last p i d ≡ i - 1
   unfolding last
   last_now l h d = let k : i ≡ suc (i - 1) = omega arith in subst (λ (z : ℕ). last p z d ≡ i - 1) (sym k) (rw h refl)

@@ -1,4 +1,5 @@
--- Bytes and parts of a list.
+-- Bytes and parts of a list: the bytes of a part, a part of a part,
+-- and what is no part.
 use Prim.Native.Nat.{ℕ, ◌+◌, ◌-◌, ◌≤◌, ◌<◌}
 use native.Mathlib.Omega.{arith}
 use mathlib.Core.Path.{◌≡◌, refl, sym, ◌∙◌, ap}

@@ -1,4 +1,5 @@
--- A choice by the opposite test.
+-- A choice by a test, and the same choice
+-- by the opposite one.
 use Prim.Native.Nat.{ℕ}
 use mathlib.Core.Path.{◌≡◌, refl}
 use mathlib.Core.Bool.{Bool, true, false, not}

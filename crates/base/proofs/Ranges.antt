@@ -1,4 +1,5 @@
--- Ranges of numbers: the test for one, and what every number of one has.
+-- Ranges of numbers: the test for one,
+-- and what every number of one has.
 use Prim.Native.Nat.{ℕ, zero, suc, ◌+◌, ◌≤◌, ◌<◌}
 use native.Mathlib.Omega.{arith}
 use mathlib.Core.Path.{◌≡◌, refl, sym, subst}

@@ -1,4 +1,5 @@
--- The number of a refusal, and the refusal of a number.
+-- The number of a refusal, and the refusal of a number:
+-- each is read back from the other.
 use Prim.Native.Nat.{ℕ, zero, suc, ◌≤◌}
 use native.Mathlib.Omega.{arith}
 use mathlib.Core.Path.{◌≡◌, refl, ◌∙◌}

@@ -1,4 +1,5 @@
--- A span by where it begins and ends.
+-- A span by where it begins and ends: its length is the distance,
+-- and it is missing where that is none.
 use Prim.Native.Nat.{ℕ, ◌-◌, ◌≤◌, ◌<◌}
 use native.Mathlib.Omega.{arith}
 use mathlib.Core.Path.{◌≡◌, refl}

@@ -1,4 +1,5 @@
--- The whole numbers from a number on.
+-- The whole numbers from a number on: how many they are,
+-- and the one at a place.
 use Prim.Native.Nat.{ℕ, zero, suc, ◌+◌, ◌<◌}
 use native.Mathlib.Omega.{arith}
 use mathlib.Core.Path.{◌≡◌, refl, ◌∙◌, ap}

@@ -1,4 +1,5 @@
--- Follows the code; nothing to believe: an area as a writer leaves it.
+-- Follows the code; nothing to believe: an area as a writer leaves it,
+-- and how many bytes were written.
 use Rattle.std.specs.Prelude.{ℕ, ◌≡◌, List, length}
 use Rattle.base.specs.Lists.{written}
 

@@ -1,4 +1,5 @@
--- Follows the code; nothing to believe: the number that the result of a check says.
+-- Follows the code; nothing to believe: the number that the result of a check says,
+-- as the definitions of refusals say it.
 use Rattle.std.specs.Prelude.{ℕ, Result, Ok, Err}
 use Rattle.base.specs.declared.refusal.Refusal.{Refusal}
 use Rattle.base.specs.Refusals.{number_of}

@@ -1,4 +1,5 @@
--- Theorems: what is present of a row of spans, and spans in order.
+-- Theorems: what is present of a row of spans,
+-- and spans in order.
 use Rattle.std.specs.Prelude.{ℕ, ◌+◌, ◌≤◌, List, [], ◌∷◌, eqb}
 use Rattle.base.specs.Pick.{pick}
 use Rattle.base.specs.declared.Span.{Span}

@@ -1,4 +1,5 @@
--- Document 01, throughout: a search from the end.
+-- Document 01, throughout: a search from the end,
+-- for the place after the last one with a property.
 use Rattle.std.specs.Prelude.{ℕ, zero, suc, ◌+◌, Bool}
 use Rattle.base.specs.Pick.{pick}
 

@@ -1,4 +1,5 @@
--- Follows the code; nothing to believe: the last place with a property.
+-- Follows the code; nothing to believe: the last place with a property,
+-- below a number.
 use Rattle.std.specs.Prelude.{ℕ, zero, suc, Bool}
 use Rattle.base.specs.Pick.{pick}
 

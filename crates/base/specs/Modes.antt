@@ -1,4 +1,5 @@
--- Follows the code; nothing to believe: the number of each mode.
+-- Follows the code; nothing to believe: the number of each mode,
+-- which is the number that a caller gives.
 use Rattle.std.specs.Prelude.{ℕ}
 use Rattle.base.specs.declared.mode.Mode.{Mode}
 use Rattle.base.specs.declared.mode.Mode.TheVariants.{Number, AuthorYear}

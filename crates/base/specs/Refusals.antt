@@ -1,4 +1,5 @@
--- Document 01, Refusals: the number of each refusal, and the refusal of each number.
+-- Document 01, Refusals: the number of each refusal, the refusal of each number,
+-- and the answer of a call by its number.
 use Rattle.std.specs.Prelude.{ℕ, Result, Ok, Err, eqb}
 use Rattle.base.specs.Pick.{pick}
 use Rattle.base.specs.declared.refusal.Refusal.{Refusal}

@@ -1,16 +1,31 @@
 // How labels are written and sources are ordered: by number, or by author and year.
-ghost use Rattle.std.specs.Prelude.{◌≡◌, MatchResult, ◌<◌};
+// A mode is read from its number, and gives it.
+ghost use Rattle.std.specs.Prelude.{◌≡◌, MatchResult, ◌<◌, min};
 ghost use Rattle.base.specs.Modes.{mode_number};
 ghost use Rattle.base.specs.declared.refusal.Refusal.TheVariants.{UnknownMode};
 
 use crate::refusal::Refusal;
 
+// The mode of an annotation, with its number.
 #[derive(Clone, Copy, PartialEq, Eq)]
 pub enum Mode {
-    // 0: a label is the source's number, and sources stand in the order of their numbers
-    Number,
-    // 1: a label is author and year, and sources stand in the order of their authors
-    AuthorYear,
+    // a label is the source's number, and sources stand in the order of their numbers
+    Number = 0,
+    // a label is author and year, and sources stand in the order of their authors
+    AuthorYear = 1,
+}
+
+impl Mode {
+    // The mode that a number stands for where none is refused: every number but 0 stands for author and year.
+    pub fn clamped(number: u8) -> Mode
+        ensures { mode_number result ≡ min number 1 }
+    {
+        if number == 0 {
+            Mode::Number
+        } else {
+            Mode::AuthorYear
+        }
+    }
 }
 
 impl TryFrom<u8> for Mode {
@@ -33,9 +48,6 @@ impl From<Mode> for u8 {
 
     // The number of a mode.
     fn from(mode: Mode) -> u8 {
-        match mode {
-            Mode::Number => 0,
-            Mode::AuthorYear => 1,
-        }
+        mode as u8
     }
 }

@@ -1,29 +1,31 @@
 // Why a call is refused: one case for each refusal number of include/citations.h.
+// A refusal gives its number.
 ghost use Rattle.std.specs.Prelude.{◌≡◌};
 ghost use Rattle.base.specs.Refusals.{number_of};
 
+// A refusal, with its number.
 #[derive(Clone, Copy, PartialEq, Eq)]
 pub enum Refusal {
-    // 1: the text has more than 65,535 bytes
-    TextTooLong,
-    // 2: the text is not UTF-8
-    TextNotUtf8,
-    // 3: no `[` stands at the place
-    NoBracket,
-    // 4: the bracket is escaped
-    EscapedBracket,
-    // 5: the bracket is no group
-    NoGroup,
-    // 6: the mode is neither 0 nor 1
-    UnknownMode,
-    // 7: the pool breaks its layout
-    PoolBroken,
-    // 8: the pool has no such entry
-    NoEntry,
-    // 9: index or bracket records are fewer than the text's bytes
-    IndexTooShort,
-    // 10: an answer area has no room
-    NoRoom,
+    // the text has more than 65,535 bytes
+    TextTooLong = 1,
+    // the text is not UTF-8
+    TextNotUtf8 = 2,
+    // no `[` stands at the place
+    NoBracket = 3,
+    // the bracket is escaped
+    EscapedBracket = 4,
+    // the bracket is no group
+    NoGroup = 5,
+    // the mode is neither 0 nor 1
+    UnknownMode = 6,
+    // the pool breaks its layout
+    PoolBroken = 7,
+    // the pool has no such entry
+    NoEntry = 8,
+    // index or bracket records are fewer than the text's bytes
+    IndexTooShort = 9,
+    // an answer area has no room
+    NoRoom = 10,
 }
 
 impl From<Refusal> for u8 {
@@ -31,17 +33,6 @@ impl From<Refusal> for u8 {
 
     // The number of a refusal.
     fn from(refusal: Refusal) -> u8 {
-        match refusal {
-            Refusal::TextTooLong => 1,
-            Refusal::TextNotUtf8 => 2,
-            Refusal::NoBracket => 3,
-            Refusal::EscapedBracket => 4,
-            Refusal::NoGroup => 5,
-            Refusal::UnknownMode => 6,
-            Refusal::PoolBroken => 7,
-            Refusal::NoEntry => 8,
-            Refusal::IndexTooShort => 9,
-            Refusal::NoRoom => 10,
-        }
+        refusal as u8
     }
 }

@@ -1,7 +1,8 @@
-// The byte at a place, searches for a byte, the comparison of two slices, and a part of a slice.
+// What is read of a slice of bytes: the byte at a place, the first place with a byte or without it,
+// and a part.
 ghost use Rattle.std.specs.Prelude.{◌≡◌, ◌+◌, ◌≤◌, length};
 ghost use Rattle.base.specs.First.{first_of, first_other};
-ghost use Rattle.base.specs.Lists.{byte_at, part, same};
+ghost use Rattle.base.specs.Lists.{byte_at, part};
 
 use crate::search::first_place;
 
@@ -26,13 +27,6 @@ pub fn skip_byte(s: &[u8], b: u8, a: usize, e: usize) -> usize
     ensures { result ≡ first_other b s.now a e }
 {
     first_place(a, e, |i| s[i] != b)
-}
-
-// Whether two slices hold the same bytes.
-pub fn is_same(a: &[u8], b: &[u8]) -> bool
-    ensures { result ≡ same a.now b.now }
-{
-    a == b
 }
 
 // The `len` bytes from `at` on, or none where that is no part of `s`.

@@ -1,4 +1,5 @@
--- The invariant of `base::search::after_last`: the places from `i` on hold nothing.
+-- The invariant of `base::search::after_last`: the places from `i` on hold nothing,
+-- so that the whole search is the one up to `i`.
 use Rattle.std.proofs.Common.{◌≡◌, ℕ, Bool, ◌-◌, ◌<◌, ◌≤◌}
 use Rattle.base.specs.Last.{last_end}
 use Rattle.base.proofs.search.after_last.Given as goal

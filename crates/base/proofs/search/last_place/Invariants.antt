@@ -1,4 +1,5 @@
--- The invariant of `base::search::last_place`: the places from `i` on hold nothing.
+-- The invariant of `base::search::last_place`: the places from `i` on hold nothing,
+-- so that the whole search is the one below `i`.
 use Rattle.std.proofs.Common.{◌≡◌, ℕ, Bool, ◌<◌}
 use Rattle.base.specs.LastPlace.{last}
 use Rattle.base.proofs.search.last_place.Given as goal
