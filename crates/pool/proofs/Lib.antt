@@ -1,7 +1,6 @@
 pub mod NumberLaws
 pub mod FieldLaws
 pub mod PartLaws
-pub mod YearLaws
 pub mod PoolLaws
 pub mod LayoutLaws
 pub mod Shapes

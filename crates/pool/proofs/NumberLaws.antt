@@ -19,9 +19,18 @@ unfolding le_at
 two_bytes s i = omega arith
 
 -- eight bytes
-pub eight_bytes : (s : List ℕ) → from_le_bytes w64 s ≡ le_at 8 s 0
+pub eight_bytes : (s : List ℕ) (i : ℕ)
+    → from_le_bytes w64 (byte_at s i ∷ byte_at s (i + 1) ∷ byte_at s (i + 2) ∷ byte_at s (i + 3) ∷ byte_at s (i + 4) ∷ byte_at s (i + 5) ∷ byte_at s (i + 6) ∷ byte_at s (i + 7) ∷ [])
+    ≡ le_at 8 s i
 unfolding le_at
-eight_bytes s = omega arith
+eight_bytes s i =
+    let b : i + 1 + 1 ≡ i + 2 = omega arith in
+    let c : i + 2 + 1 ≡ i + 3 = omega arith in
+    let d : i + 3 + 1 ≡ i + 4 = omega arith in
+    let e : i + 4 + 1 ≡ i + 5 = omega arith in
+    let f : i + 5 + 1 ≡ i + 6 = omega arith in
+    let g : i + 6 + 1 ≡ i + 7 = omega arith in
+    rw (b, c, d, e, f, g) (omega arith)
 
 -- the number in a part
 pub le_part : (w : ℕ) (s : List ℕ) (a e i : ℕ) → a ≤ e → e ≤ length s → i + w ≤ e - a → le_at w (part s a e) i ≡ le_at w s (a + i)

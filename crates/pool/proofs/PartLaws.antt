@@ -1,10 +1,10 @@
 -- The fields of a part of some bytes are those that the bytes have there, and fields are read off the front.
-use Prim.Native.Nat.{ℕ, zero, suc, ◌+◌, ◌-◌, ◌*◌, ◌≤◌, ◌<◌}
+use Prim.Native.Nat.{ℕ, zero, suc, ◌+◌, ◌-◌, ◌≤◌, ◌<◌}
 use native.Mathlib.Omega.{arith}
 use mathlib.Core.Path.{◌≡◌, refl, sym, ◌∙◌, ap}
 use mathlib.Core.List.{List, [], ◌∷◌}
 use mathlib.Core.Bool.{Bool, true, false, ◌&&◌, true≢false}
-use lib.ListN.{length, take, drop, length-take, length-drop}
+use lib.ListN.{length, take, drop, length-drop}
 use native.Mathlib.Nat.{sub-zero}
 use lib.Seq.{take_all}
 use lib.Dec.{eqb, leb, ltb}
@@ -12,10 +12,10 @@ use borrow.Author.Tests.{lt-ltb, leb-true, le-leb, lt-leb, ltb-true, ltb-false, 
 use Rattle.base.specs.Pick.{pick}
 use Rattle.base.specs.Lists.{byte_at, part}
 use Rattle.base.proofs.Bools.{and_left, and_right, and_three, both}
-use Rattle.base.proofs.Parts.{part_is, part_length, part_byte, part_part, take_part, drop_part}
-use Rattle.pool.specs.Numbers.{le_at, u16_at}
+use Rattle.base.proofs.Parts.{part_is, part_length, part_byte, part_part}
+use Rattle.pool.specs.Numbers.{u16_at}
 use Rattle.pool.specs.Fields.{Field, field_end, field_at, fields_in, fill_in, fields_of, fill, fields_good, good_from, entry_good, content_good, follows}
-use Rattle.pool.specs.Readers.{all_fields, contents_good, are_fields}
+use Rattle.pool.specs.Readers.{all_fields, are_fields}
 use Rattle.pool.specs.Steps.{has_field, Split, good_rest}
 use Rattle.pool.proofs.NumberLaws.{le_part}
 use Rattle.pool.proofs.FieldLaws.{field_long, fields_next, fill_next, fields_end}
@@ -97,21 +97,10 @@ module _ (s : List ℕ) (a e : ℕ) (l : a ≤ e) (h : e ≤ length s) where
       let u : fill_in (e - a) s (a + 0) e ≡ true = ap (λ (j : ℕ). fill_in (e - a) s j e) z ∙ g in
       rw (part_length s a e l h, sub-zero) (fields_part (e - a) 0 u ∙ ap (λ (j : ℕ). fields_in (e - a) s j e) z)
 
--- good fields have good contents
-contents_of : (last : ℕ) (fs : List Field) → fields_good last fs ≡ true → contents_good fs ≡ true
-unfolding fields_good contents_good
-contents_of last [] g = refl
-contents_of last (f ∷ fs) g =
-    let t = and_three (follows last f.tag) (content_good f.tag f.bytes) (fields_good f.tag fs) g in
-    rw (t.1, contents_of f.tag fs t.2) refl
-
 -- the bytes of an entry are fields
 pub entry_fields : (s : List ℕ) (a e : ℕ) → a ≤ e → e ≤ length s → entry_good s a e ≡ true → are_fields (take (e - a) (drop a s)) ≡ true
-unfolding good_from are_fields
-entry_fields s a e l h g =
-    let p = and_left (fill s a e) (fields_good 0 (fields_of s a e)) g in
-    let q = and_right (fill s a e) (fields_good 0 (fields_of s a e)) g in
-    rw (← part_is s a e l h, fill_of_part s a e l h, fields_of_part s a e l h p, p, contents_of 0 (fields_of s a e) q) refl
+unfolding good_from
+entry_fields s a e l h g = rw (← part_is s a e l h, fill_of_part s a e l h) (and_left (fill s a e) (fields_good 0 (fields_of s a e)) g)
 
 -- and are those that stand there
 pub entry_same : (s : List ℕ) (a e : ℕ) → a ≤ e → e ≤ length s → entry_good s a e ≡ true → all_fields (take (e - a) (drop a s)) ≡ fields_of s a e
@@ -121,45 +110,36 @@ entry_same s a e l h g = rw (← part_is s a e l h) (fields_of_part s a e l h (a
 rest_is : (s : List ℕ) (k : ℕ) → k ≤ length s → part s k (length s) ≡ drop k s
 rest_is s k h = part_is s k (length s) h (omega arith) ∙ take_all (length s - k) (drop k s) (rw length-drop (omega arith))
 
--- a field at the front of some bytes: where it ends, and what there is of it
-module _ (s : List ℕ) (n : ℕ) (v : n ≡ byte_at s 1 + byte_at s 2 * 256) where
-  end_is : field_end s 0 ≡ 3 + n
-  unfolding field_end le_at
-  end_is = omega arith
-
-  pub split_past : 3 ≤ length s → length (take (length s - 3) (drop 3 s)) < n → has_field s ≡ false
-  unfolding has_field
-  split_past l h =
-      let m : length s - 3 < n = omega (arith, simp (length-take, length-drop) at h) in
-      rw (le-leb 3 (length s) l, end_is, lt-leb (3 + n) (length s) (omega arith)) refl
-
-  pub split_is : {b r : List ℕ} → 3 ≤ length s → n ≤ length (take (length s - 3) (drop 3 s)) → b ≡ take n (take (length s - 3) (drop 3 s))
-      → r ≡ drop n (take (length s - 3) (drop 3 s)) → Split s (record { tag = byte_at s 0; bytes = b }) r
-  unfolding has_field field_at
-  split_is {b} {r} l h p q =
-      let m : n ≤ length s - 3 = omega (arith, simp (length-take, length-drop) at h) in
-      let z : 3 + n ≤ length s = omega arith in
-      let u = part_is s 3 (length s) l (omega arith) in
-      let x : b ≡ part s 3 (3 + n) = p ∙ ap (take n) (sym u) ∙ take_part s 3 (length s) l (omega arith) n z in
-      let y : r ≡ drop (3 + n) s = q ∙ ap (drop n) (sym u) ∙ drop_part s 3 (length s) l (omega arith) n z ∙ rest_is s (3 + n) z in
-      record {
-        room = rw (le-leb 3 (length s) l, end_is, le-leb (3 + n) (length s) z) refl;
-        field = rw (end_is, x) refl;
-        rest = rw end_is y;
-      }
-
+-- a field at the front of some bytes, that ends at `e`
 pub split_short : (s : List ℕ) → length s < 3 → has_field s ≡ false
 unfolding has_field
 split_short s h = rw (lt-leb 3 (length s) h) refl
 
+module _ (s : List ℕ) {e : ℕ} (v : e ≡ field_end s 0) (l : 3 ≤ length s) where
+  pub split_past : length s < e → has_field s ≡ false
+  unfolding has_field
+  split_past h = rw (le-leb 3 (length s) l, ← v, lt-leb e (length s) h) refl
+
+  module _ (h : e ≤ length s) where
+    pub split_long : 3 ≤ e
+    split_long = let m = field_long s 0 in omega arith
+
+    pub split_is : {b r : List ℕ} → b ≡ take (e - 3) (drop 3 s) → r ≡ take (length s - e) (drop e s) → Split s (record { tag = byte_at s 0; bytes = b }) r
+    unfolding has_field field_at
+    split_is p q =
+        record {
+          room = rw (le-leb 3 (length s) l, ← v, le-leb e (length s) h) refl;
+          field = rw (p, ← v, part_is s 3 e split_long h) refl;
+          rest = q ∙ take_all (length s - e) (drop e s) (rw length-drop (omega arith)) ∙ rw v refl;
+        }
+
+pub ruleset split_laws = (split_short, split_past, split_long, split_is)
+
 -- no bytes are no fields, and others begin with one
 pub fields_none : (s : List ℕ) → are_fields s ≡ true → has_field s ≡ false → all_fields s ≡ []
-unfolding are_fields has_field
-fields_none s g h = fields_end s 0 (length s) (go (ltb 0 (length s)) refl)
+unfolding has_field
+fields_none s filled h = fields_end s 0 (length s) (go (ltb 0 (length s)) refl)
   where
-    filled : fill s 0 (length s) ≡ true
-    filled = and_left (fill s 0 (length s)) (contents_good (all_fields s)) g
-
     go : (t : Bool) → ltb 0 (length s) ≡ t → length s ≤ 0
     go true q =
         absurd
@@ -204,17 +184,10 @@ module _ (s : List ℕ) (f : Field) (r : List ℕ) (x : Split s f r) where
 
   -- what is left are fields again
   pub split_others : are_fields s ≡ true → are_fields r ≡ true
-  unfolding are_fields contents_good
-  split_others g =
-      let p = and_left (fill s 0 (length s)) (contents_good (all_fields s)) g in
-      let c = and_right (fill s 0 (length s)) (contents_good (all_fields s)) g in
-      let q = split_fields p in
-      let d : contents_good (all_fields r) ≡ true = and_right (content_good f.tag f.bytes) (contents_good (all_fields r)) (rw q at c) in
-      rw (sym split_fill ∙ p, d) refl
+  split_others g = sym split_fill ∙ g
 
   pub split_reads : are_fields s ≡ true → all_fields s ≡ f ∷ all_fields r
-  unfolding are_fields
-  split_reads g = split_fields (and_left (fill s 0 (length s)) (contents_good (all_fields s)) g)
+  split_reads g = split_fields g
 
   -- the check of an entry goes on behind it
   pub good_next : (last : ℕ) → good_rest last s ≡ (follows last f.tag && content_good f.tag f.bytes && good_rest f.tag r)

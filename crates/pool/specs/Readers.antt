@@ -1,23 +1,18 @@
 -- Follows the code; nothing to believe: the fields of some bytes, and what the readers answer with, as the layout's values.
-use Rattle.std.specs.Prelude.{ℕ, ℤ, pos, negsuc, suc, List, [], ◌∷◌, Bool, true, false, ◌&&◌, length}
+use Rattle.std.specs.Prelude.{ℕ, ℤ, pos, negsuc, suc, List, Bool, true, false, length}
 use Rattle.std.specs.Prelude.{Option as Answer, Some, None}
 use Rattle.std.specs.Borrow.{Bor}
 use Rattle.std.proofs.Math.Option.{Option, none, some}
 use Rattle.pool.specs.Numbers.{Signed, signed}
-use Rattle.pool.specs.Fields.{Field, fields_of, fill, content_good}
+use Rattle.pool.specs.Fields.{Field, fields_of, fill}
 
 -- the fields of some bytes
 abbrev pub all_fields : List ℕ → List Field
 all_fields s = fields_of s 0 (length s)
 
--- each of the fields has a good content
-unfoldable pub contents_good : List Field → Bool
-contents_good [] = true
-contents_good (f ∷ fs) = content_good f.tag f.bytes && contents_good fs
-
--- the bytes are fields, each with a good content
-unfoldable pub are_fields : List ℕ → Bool
-are_fields s = fill s 0 (length s) && contents_good (all_fields s)
+-- the bytes are fields, the last one ending where they do
+abbrev pub are_fields : List ℕ → Bool
+are_fields s = fill s 0 (length s)
 
 -- the bytes that a slice lends, if there is one
 abbrev pub lent : Answer (Bor (List ℕ)) → Option (List ℕ)

@@ -1,10 +1,12 @@
-// The fields of an entry, read one after the other.
+// The fields of an entry, read one after the other: by an iterator,
+// by a tag, and the year.
 ghost use Rattle.std.specs.Prelude.{◌≡◌, true};
 ghost use Rattle.pool.specs.Readers.{are_fields};
 
 use crate::field::{Field, split_field};
+use crate::numbers::signed_at;
 
-// The tags of the fields.
+// The tags of the fields: numbers and no enum, since any byte may stand there.
 pub mod tag {
     pub const ID: u8 = 1;
 
@@ -41,6 +43,7 @@ impl<'a> Iterator for Fields<'a> {
 
     ghost remaining = { item_count fields_left };
 
+    // The next field, if one is left.
     fn next(&mut self) -> Option<Field<'a>> {
         let (field, rest) = split_field(self.bytes)?;
         self.bytes = rest;
@@ -66,11 +69,11 @@ impl<'a> Fields<'a> {
         None
     }
 
-    // The number of the field 6.
+    // The year, the number of the field YEAR.
+    #[tactic(auto, unfolding(crate::specs::Entries::year_in))]
     pub fn year(self) -> Option<i64>
         ensures { read_number result ≡ year_in (field_with 6 (fields_left self.entry)) }
     {
-        let bytes = self.field(tag::YEAR)?.first_chunk()?;
-        Some(u64::from_le_bytes(*bytes).cast_signed())
+        Some(signed_at(self.field(tag::YEAR)?, 0))
     }
 }

@@ -67,7 +67,7 @@ fn name_field<'a>(fields: Fields<'a>, tag: u8) -> Option<&'a [u8]>
 
 // The name whose field 2 stands before these fields.
 #[tactic(auto, unfolding(crate::specs::Entries::name_after))]
-fn name_after<'a>(fields: Fields<'a>) -> NameParts<'a>
+pub fn name_after<'a>(fields: Fields<'a>) -> NameParts<'a>
     ensures { name_lent result ≡ name_after (fields_left fields.entry) }
 {
     NameParts {
