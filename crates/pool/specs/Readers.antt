@@ -1,7 +1,6 @@
 -- Follows the code; nothing to believe: the fields of some bytes, and what the readers answer with, as the layout's values.
 use Rattle.std.specs.Prelude.{ℕ, ℤ, pos, negsuc, suc, List, Bool, true, false, length}
 use Rattle.std.specs.Prelude.{Option as Answer, Some, None}
-use Rattle.std.specs.Borrow.{Bor}
 use Rattle.std.proofs.Math.Option.{Option, none, some}
 use Rattle.pool.specs.Numbers.{Signed, signed}
 use Rattle.pool.specs.Fields.{Field, fields_of, fill}
@@ -13,11 +12,6 @@ all_fields s = fields_of s 0 (length s)
 -- the bytes are fields, the last one ending where they do
 abbrev pub are_fields : List ℕ → Bool
 are_fields s = fill s 0 (length s)
-
--- the bytes that a slice lends, if there is one
-abbrev pub lent : Answer (Bor (List ℕ)) → Option (List ℕ)
-lent None = none
-lent (Some bytes) = some bytes.now
 
 -- a signed number by its sign and magnitude
 abbrev pub sign_of : ℤ → Signed

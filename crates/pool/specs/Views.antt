@@ -1,12 +1,13 @@
 -- Follows the code; nothing to believe: the readers' types, as the layout's values.
 use Rattle.std.specs.Prelude.{List}
+use Rattle.base.specs.Lent.{lent}
 use Rattle.pool.specs.declared.field.Field.{Field as FieldPart}
 use Rattle.pool.specs.declared.fields.Fields.{Fields}
 use Rattle.pool.specs.declared.names.NameParts.{NameParts}
 use Rattle.pool.specs.declared.names.Names.{Names}
 use Rattle.pool.specs.Fields.{Field}
 use Rattle.pool.specs.Entries.{Name, names_in}
-use Rattle.pool.specs.Readers.{all_fields, lent}
+use Rattle.pool.specs.Readers.{all_fields}
 
 -- a field that is lent
 abbrev pub field_lent : FieldPart → Field

@@ -52,8 +52,9 @@ impl<'a> Iterator for Fields<'a> {
 }
 
 impl<'a> Fields<'a> {
+    ghost use Rattle.base.specs.Lent.{lent};
     ghost use Rattle.pool.specs.Entries.{field_with, year_in};
-    ghost use Rattle.pool.specs.Readers.{lent, read_number};
+    ghost use Rattle.pool.specs.Readers.{read_number};
     ghost use Rattle.pool.specs.Views.{fields_left};
 
     // The bytes of the first field with the tag `tag`.

@@ -1,7 +1,7 @@
 // The names of an entry.
 ghost use Rattle.std.specs.Prelude.{◌≡◌};
+ghost use Rattle.base.specs.Lent.{lent};
 ghost use Rattle.pool.specs.Entries.{in_name, name_after, names_in};
-ghost use Rattle.pool.specs.Readers.{lent};
 ghost use Rattle.pool.specs.Views.{fields_left, name_lent, names_left};
 
 use crate::fields::{Fields, tag};
