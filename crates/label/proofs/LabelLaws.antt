@@ -4,15 +4,10 @@ use Prim.Native.Nat.{ℕ, ◌-◌, ◌≤◌, ◌<◌}
 use native.Mathlib.Omega.{arith}
 use mathlib.Core.Path.{◌≡◌, refl, sym, ◌∙◌, ap}
 use mathlib.Core.List.{List, [], ◌∷◌, ◌++◌}
-use mathlib.Core.Bool.{Bool, true, false}
+use mathlib.Core.Bool.{Bool, false}
 use lib.ListN.{length, take, drop, length-append, length-drop}
 use lib.Seq.{take_all, take-length, length-take-le}
-use mir.Syntax.{w64}
-use mir.Val.{SFits, to_z, of_z}
-use Rattle.std.proofs.lemmas.Int.{to_z-of_z}
-use Rattle.std.proofs.lemmas.Int.{ints}
 use Rattle.base.specs.First.{first}
-use Rattle.std.specs.Prelude.{ℤ, pos, negsuc, suc}
 use Rattle.base.specs.Lists.{part}
 use Rattle.base.specs.Last.{last_end}
 use Rattle.base.proofs.Parts.{part_is, part_length}
@@ -20,7 +15,6 @@ use Rattle.text.specs.Trim.{trim_start, trim_end, trim}
 use Rattle.text.proofs.Trims.{start_by, start_plain, end_from, end_by, end_behind}
 use Rattle.decimal.specs.Decimal.{decimal}
 use Rattle.pool.specs.Numbers.{signed}
-use Rattle.pool.specs.Readers.{sign_of}
 use Rattle.source.specs.Decimal.{signed_decimal}
 use Rattle.source.specs.Entry.{is_empty}
 use Rattle.label.specs.Labels.{or_number, author_year}
@@ -68,31 +62,20 @@ trim_signed b m =
     let s = signed_decimal (signed b m) in
     rw (signed_start b m, signed_end b m) (part_is s 0 (length s) (omega arith) (omega arith) ∙ take_all (length s - 0) s (omega arith))
 
-trim_number : (z : ℤ) → trim (signed_decimal (sign_of z)) ≡ signed_decimal (sign_of z)
-trim_number (pos m) = trim_signed false m
-trim_number (negsuc m) = trim_signed true (suc m)
+pub number_ends : (b : Bool) (m : ℕ) → 0 < trim_end (signed_decimal (signed b m)) 0 (length (signed_decimal (signed b m)))
+number_ends b m = rw (signed_end b m) (signed_some b m)
 
-number_some : (z : ℤ) → 0 < length (signed_decimal (sign_of z))
-number_some (pos m) = signed_some false m
-number_some (negsuc m) = signed_some true (suc m)
+pub number_whole : (b : Bool) (m : ℕ)
+    → signed_decimal (signed b m) ≡ take (trim_end (signed_decimal (signed b m)) 0 (length (signed_decimal (signed b m)))) (signed_decimal (signed b m))
+number_whole b m = rw (signed_end b m, take-length) refl
 
-pub number_end : (z : ℤ) → trim_end (signed_decimal (sign_of z)) 0 (length (signed_decimal (sign_of z))) ≡ length (signed_decimal (sign_of z))
-number_end (pos m) = signed_end false m
-number_end (negsuc m) = signed_end true (suc m)
-
-pub number_ends : (z : ℤ) → 0 < trim_end (signed_decimal (sign_of z)) 0 (length (signed_decimal (sign_of z)))
-number_ends z = rw (number_end z) (number_some z)
-
-pub number_whole : (z : ℤ) → signed_decimal (sign_of z) ≡ take (trim_end (signed_decimal (sign_of z)) 0 (length (signed_decimal (sign_of z)))) (signed_decimal (sign_of z))
-number_whole z = rw (number_end z, take-length) refl
-
-pub number_left : (n : ℕ) (A : List ℕ) (z : ℤ) {k : ℕ} → k ≡ trim_start A 0 (length A) → length A ≤ k
-    → signed_decimal (sign_of z) ≡ author_year n A (signed_decimal (sign_of z))
+pub number_left : (n : ℕ) (A : List ℕ) (b : Bool) (m : ℕ) {k : ℕ} → k ≡ trim_start A 0 (length A) → length A ≤ k
+    → signed_decimal (signed b m) ≡ author_year n A (signed_decimal (signed b m))
 unfolding or_number
-number_left n A z p h =
-    let e = trim_number z in
-    let l = some_left (signed_decimal (sign_of z)) (number_some z) in
-    rw (e, l) at (year_left n A (signed_decimal (sign_of z)) p h)
+number_left n A b m p h =
+    let e = trim_signed b m in
+    let l = some_left (signed_decimal (signed b m)) (signed_some b m) in
+    rw (e, l) at (year_left n A (signed_decimal (signed b m)) p h)
 
 pub nothing_left : (n : ℕ) (A : List ℕ) {k : ℕ} → k ≡ trim_start A 0 (length A) → length A ≤ k → decimal n ≡ author_year n A []
 unfolding or_number trim trim_start trim_end last_end part decimal first
@@ -102,11 +85,6 @@ nothing_left n A p h = year_left n A [] p h
 pub nothing_ends : trim_end [] 0 0 ≡ 0
 unfolding trim_end last_end
 nothing_ends = refl
-
--- a number of a source is a piece
-pub number_piece : (n : ℕ) (z : ℤ) → n < 65536 → z ≡ pos n → signed_decimal (sign_of (to_z w64 (of_z w64 z))) ≡ decimal n
-unfolding signed_decimal
-number_piece n z h e = let f : SFits w64 (pos n) = omega (arith, ints) in rw (e, to_z-of_z w64 (pos n) f) refl
 
 -- the trimmed part
 module _ (s : List ℕ) {a b : ℕ} (p : a ≡ trim_start s 0 (length s)) (q : b ≡ trim_end s (trim_start s 0 (length s)) (length s)) where

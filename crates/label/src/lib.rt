@@ -23,27 +23,6 @@ enum Label<'a> {
     Named(&'a [u8], Year<'a>),
 }
 
-// How many bytes a piece is.
-fn piece_len(piece: Year) -> usize
-    ensures { (result ≡ length (year_bytes piece.entry)) × (result < 9223372036854775808) }
-{
-    match piece {
-        Year::Number(number) => source::signed_len(number),
-        Year::Text(text) => text.len(),
-    }
-}
-
-// A piece at the front of `out`.
-fn write_piece(piece: Year, out: &mut [u8])
-    requires { length (year_bytes piece) ≤ length out.old }
-    ensures { out.new ≡ written (year_bytes piece.entry) out.old }
-{
-    match piece {
-        Year::Number(number) => source::write_signed(number, out),
-        Year::Text(text) => source::write_bytes(text, out),
-    }
-}
-
 // An author and a space at the front of `out`.
 #[tactic(auto, using(crate::proofs::WriteLaws::put_laws))]
 fn write_author(author: &[u8], out: &mut [u8])
@@ -60,8 +39,8 @@ impl Label<'_> {
         ensures { result ≡ length (label_bytes self.entry) }
     {
         match self {
-            Label::Piece(piece) => piece_len(piece),
-            Label::Named(author, piece) => author.len() + 1 + piece_len(piece),
+            Label::Piece(piece) => piece.len(),
+            Label::Named(author, piece) => author.len() + 1 + piece.len(),
         }
     }
 
@@ -72,10 +51,10 @@ impl Label<'_> {
         ensures { out.new ≡ written (label_bytes self.entry) out.old }
     {
         match self {
-            Label::Piece(piece) => write_piece(piece, out),
+            Label::Piece(piece) => piece.write(out),
             Label::Named(author, piece) => {
                 write_author(author, out);
-                write_piece(piece, &mut out[author.len() + 1..]);
+                piece.write(&mut out[author.len() + 1..]);
             }
         }
     }
@@ -94,11 +73,14 @@ impl Label<'_> {
 }
 
 // The label by a number.
-#[tactic(auto, using(crate::proofs::LabelLaws::number_piece))]
+#[tactic(auto, unfolding(source::specs::Decimal::signed_decimal))]
 fn number_label<'a>(number: u16) -> Label<'a>
     ensures { label_bytes result ≡ decimal number }
 {
-    Label::Piece(Year::Number(i64::from(number)))
+    Label::Piece(Year::Number {
+        negative: false,
+        magnitude: u64::from(number),
+    })
 }
 
 // Bytes as a label, or the number where there are none.
