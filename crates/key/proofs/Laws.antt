@@ -1,4 +1,5 @@
--- Keys: where a key ends (`b` is what a call of a test gave, `e` what one of `run_end` gave), and of which bytes it is.
+-- Keys: where a key ends, and of which bytes it is. (In the laws of `parse_key` `b` is what a call of a test gave,
+-- `e` what one of `run_end` gave.)
 use Prim.Native.Nat.{ℕ, ◌+◌, ◌-◌, ◌≤◌, ◌<◌}
 use native.Mathlib.Omega.{arith}
 use mathlib.Core.Path.{◌≡◌, refl, sym, ◌∙◌, ap, subst}
@@ -18,11 +19,11 @@ use Rattle.key.specs.Keys.{is_first, is_mark, is_key, run_end, starts_key, witho
 use Rattle.key.specs.Facts.{KeyEnds, OldKeys}
 
 module _ (s : List ℕ) (i : ℕ) where
-  pub key_out : length s ≤ i → i ≡ key_end s i
+  pub key_out : length s ≤ i → key_end s i ≡ i
   unfolding key_end
   key_out h = rw (le-ltb _ _ h)
 
-  pub key_not : {b : Bool} → i < length s → b ≡ is_first (byte_at s i) → b ≡ false → i ≡ key_end s i
+  pub key_not : {b : Bool} → i < length s → b ≡ is_first (byte_at s i) → b ≡ false → key_end s i ≡ i
   unfolding key_end
   key_not h q f = rw (lt-ltb _ _ h, sym q ∙ f)
 
@@ -40,7 +41,14 @@ module _ (s : List ℕ) (i : ℕ) where
   unfolding run_end
   run_by p h = omega (arith, first_by (λ j. not (is_key (byte_at s j))) (length s - (i + 1)) (i + 1))
 
-pub ruleset laws = (key_out, key_not, key_yes, run_from, run_by)
+  -- a key has its first byte
+  pub key_there : {b : Bool} {e r : ℕ} → b ≡ is_first (byte_at s i) → b ≡ true → e ≡ run_end s (i + 1) → r ≡ without_marks s i e → i < r
+  unfolding without_marks
+  key_there {e} q t p g =
+      let l = run_from p in
+      rw g (last_end_behind (λ j. is_first (byte_at s j)) (e - i) i i i (omega arith) (omega arith) (sym q ∙ t))
+
+pub ruleset laws = (key_out, key_not, key_yes, key_there, run_from, run_by)
 
 -- where a key ends ---------------------------------------------------------------------------------------------------------------
 

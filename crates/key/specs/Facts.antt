@@ -1,4 +1,5 @@
--- Theorems: what document 02 claims of where a key ends, proved in proofs/.
+-- Theorems: what document 02 claims of where a key ends,
+-- proved in proofs/.
 use Rattle.std.specs.Prelude.{ℕ, ◌+◌, ◌-◌, ◌≤◌, ◌<◌, ◌≡◌, List, true, false}
 use Rattle.base.specs.Lists.{byte_at}
 use Rattle.key.specs.Keys.{is_first, is_mark, is_key, run_end, starts_key, key_end}

@@ -1,4 +1,5 @@
--- The answers of `key::theorems`: the theorems of proofs/Laws.
+-- The answers of `key::theorems`:
+-- the theorems of proofs/Laws.
 use Rattle.key.proofs.Laws.{key_ends, old_keys}
 use Rattle.key.proofs.theorems.Goals as goal
 
