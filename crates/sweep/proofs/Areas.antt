@@ -1,4 +1,5 @@
--- Areas that are written from some place on.
+-- Areas that are written from some place on:
+-- nothing, one list after another, and parts that were lent.
 use Prim.Native.Nat.{ℕ, ◌+◌, ◌-◌, ◌≤◌}
 use native.Mathlib.Omega.{arith}
 use mathlib.Core.Path.{◌≡◌, refl, sym, ◌∙◌, ap}

@@ -1,4 +1,5 @@
--- The records of a sweep, over lists of groups that follow each other.
+-- The records of a sweep,
+-- over lists of groups that follow each other.
 use Prim.Native.Nat.{ℕ, ◌+◌, ◌*◌, ◌≤◌}
 use native.Mathlib.Omega.{arith}
 use mathlib.Core.Path.{◌≡◌, refl, sym, ◌∙◌, ap}

@@ -1,4 +1,5 @@
--- One group recorded, in the form of the code's needs.
+-- One group recorded, in the form of the code's goals:
+-- its records have room, and the state and the areas after it.
 use Prim.Native.Nat.{ℕ, ◌+◌, ◌-◌, ◌*◌, ◌≤◌}
 use native.Mathlib.Omega.{arith}
 use mathlib.Core.Path.{◌≡◌, refl, sym, ◌∙◌, ap}
@@ -80,10 +81,10 @@ module _ (text : List ℕ) (at close count : ℕ) (s : SweepState) (items groups
   pub count_few : count ≤ 65535
   count_few = let z = items_few in omega arith
 
-  -- the tests: `b` says that the records fit
-  module _ {b : Bool} (q : b ≡ records_fit (s.items + count) (s.groups + 1) items groups) (t : (s.fits && b) ≡ true) where
+  -- the test: `b` says that the records fit
+  module _ {b : Bool} (q : b ≡ (s.fits && records_fit (s.items + count) (s.groups + 1) items groups)) (t : b ≡ true) where
     fit : records_fit (s.items + count) (s.groups + 1) items groups ≡ true
-    fit = sym q ∙ and_right s.fits b t
+    fit = and_right s.fits _ (sym q ∙ t)
 
     pub items_room : item_width * (s.items + length (items_of text at close)) ≤ items
     items_room =
@@ -108,9 +109,9 @@ record_alone text n at close count before from e = rw (← e)
 module _ (text : List ℕ) (at close count : ℕ) (s : SweepState) (items groups : List ℕ)
     (h : Recordable text at close count s (length items) (length groups)) {inside b : Bool}
     (l : inside ≡ in_line text s.inside s.from (group_of text at close))
-    (q : b ≡ records_fit (s.items + count) (s.groups + 1) (length items) (length groups)) where
+    (q : b ≡ (s.fits && records_fit (s.items + count) (s.groups + 1) (length items) (length groups))) where
   -- the state after it
-  after_counted : (t : Bool) → (s.fits && b) ≡ t → Counted text (after_group s close count inside t) (length items) (length groups)
+  after_counted : (t : Bool) → b ≡ t → Counted text (after_group s close count inside t) (length items) (length groups)
   after_counted t e =
       let z = count_by text at close count s (length items) (length groups) h in
       let i = h.counted.items_by in
@@ -119,7 +120,7 @@ module _ (text : List ℕ) (at close count : ℕ) (s : SweepState) (items groups
         at_by = omega (arith, h.stands.inside);
         items_by = omega (arith, h.stands.after, h.later);
         groups_by = omega (arith, h.stands.after, h.later);
-        room = λ f. sym q ∙ and_right s.fits b (e ∙ f);
+        room = λ f. and_right s.fits _ (sym q ∙ e ∙ f);
       }
 
   counts_items : s.items + count ≡ s.items + item_count (group_of text at close ∷ [])
@@ -142,7 +143,7 @@ module _ (text : List ℕ) (at close count : ℕ) (s : SweepState) (items groups
   unfolding records_length group_of
   records_count = records_length_lem (group_of text at close)
 
-  pub recorded_not : {r : SweepState} → (s.fits && b) ≡ false → r ≡ after_group s close count inside false
+  pub recorded_not : {r : SweepState} → b ≡ false → r ≡ after_group s close count inside false
       → RecordedOne text at close s items groups r items groups
   recorded_not {r} f e = rw e
       record {
@@ -153,7 +154,7 @@ module _ (text : List ℕ) (at close count : ℕ) (s : SweepState) (items groups
           items_counted = counts_items;
           line = after_line;
           end = after_end;
-          fitted = rw (← q) (sym f);
+          fitted = sym f ∙ q;
           item_area = refl;
           group_area = refl;
           items_recorded = λ z. absurd (true≢false (sym z));
@@ -162,7 +163,7 @@ module _ (text : List ℕ) (at close count : ℕ) (s : SweepState) (items groups
         counted = after_counted false f;
       }
 
-  pub recorded_fits : {r : SweepState} {standing : ℕ} {items' groups' : List ℕ} → (s.fits && b) ≡ true → standing ≡ pick inside 0 1
+  pub recorded_fits : {r : SweepState} {standing : ℕ} {items' groups' : List ℕ} → b ≡ true → standing ≡ pick inside 0 1
       → items' ≡ written_at (item_width * s.items) (records_of (group_of text at close)) items
       → groups' ≡ written_at (group_width * s.groups) (at ∷ (close + 1 - at) ∷ s.items ∷ count ∷ standing ∷ []) groups
       → r ≡ after_group s close count inside true
@@ -180,7 +181,7 @@ module _ (text : List ℕ) (at close count : ℕ) (s : SweepState) (items groups
           items_counted = counts_items;
           line = after_line;
           end = after_end;
-          fitted = rw (← q) (sym t);
+          fitted = sym t ∙ q;
           item_area = ap length i ∙ written_length (item_width * s.items) items (records_of (group_of text at close)) (omega arith);
           group_area = ap length g ∙ written_length (group_width * s.groups) groups (at ∷ (close + 1 - at) ∷ s.items ∷ count ∷ standing ∷ []) k;
           items_recorded = λ z. i ∙ rw items_alone refl;

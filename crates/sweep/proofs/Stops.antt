@@ -1,4 +1,5 @@
--- THEOREM `SweepInTwo`: the sweep up to a bracket that wants a build, and on from there, is the sweep as run.
+-- THEOREM `SweepInTwo`: the sweep up to a bracket that wants a build, and on from there,
+-- is the sweep as run.
 use Prim.Native.Nat.{ℕ, zero, suc, ◌-◌, ◌≤◌, ◌<◌}
 use native.Mathlib.Omega.{arith}
 use mathlib.Core.Path.{◌≡◌, refl, sym, ◌∙◌, ap}

@@ -1,4 +1,5 @@
--- The sweep as run, with an index as left, finds the groups of the plain sweep, and leaves such an index.
+-- The sweep as run, with an index as left, finds the groups of the plain sweep,
+-- and leaves such an index.
 use Prim.Native.Nat.{ℕ, zero, suc, ◌≤◌}
 use native.Mathlib.Omega.{arith}
 use mathlib.Core.Path.{◌≡◌, refl, sym, ◌∙◌, ap}

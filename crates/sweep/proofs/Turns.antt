@@ -1,4 +1,5 @@
--- One turn of the sweep, and turns one after the other, in the form of the code's needs.
+-- One turn of the sweep, and turns one after the other,
+-- in the form of the code's goals.
 use Prim.Native.Nat.{ℕ, zero, suc, ◌+◌, ◌-◌, ◌≤◌, ◌<◌}
 use native.Mathlib.Omega.{arith}
 use mathlib.Core.Path.{◌≡◌, refl, sym, ◌∙◌, ap}
@@ -8,22 +9,20 @@ use lib.ListN.{length}
 use lib.Dec.{eqb}
 use borrow.Author.Tests.{lt-ltb, eqb-true}
 use Rattle.std.specs.Prelude.{Option, Some, None}
-use Rattle.std.proofs.lemmas.Option.{same_Some}
 use Rattle.base.specs.Pick.{pick}
 use Rattle.base.specs.First.{first, first_of}
 use Rattle.base.specs.Lists.{byte_at}
 use Rattle.base.proofs.Searches.{first_from, first_by, first_holds}
-use Rattle.item.specs.Pieces.{items_of}
 use Rattle.index.specs.Entries.{opens_at}
-use Rattle.resolve.specs.Groups.{GroupAnswer, Found, NoGroup, group_accepted, judge}
+use Rattle.resolve.specs.Groups.{Found, NoGroup, judge}
 use Rattle.item.specs.Group.{Group, group_of}
-use Rattle.resolve.specs.Resolve.{close_as_run, group_as_run}
+use Rattle.resolve.specs.Resolve.{is_build}
 use Rattle.resolve.specs.declared.Group.{Group as Matched}
-use Rattle.resolve.specs.Looks.{matched, Inside}
-use Rattle.resolve.proofs.Judges.{Judges, cites, no_close, follows, bad_item, judges}
-use Rattle.resolve.proofs.Runs.{run_inside}
+use Rattle.resolve.specs.declared.Look.TheVariants.{Known, Build}
+use Rattle.resolve.specs.Looks.{matched}
+use Rattle.resolve.proofs.Judges.{matched_is, unmatched_is}
+use Rattle.resolve.proofs.Laws.{at_after, at_inside}
 use Rattle.sweep.specs.declared.group_records.SweepState.{SweepState}
-use Rattle.sweep.specs.declared.Step.TheVariants.{Seen, Build}
 use Rattle.sweep.specs.Sweep.{found_groups, next_at, found_with, wants_at}
 use Rattle.sweep.specs.Stops.{stop, after, stop_in, stop_from, SweptTo}
 use Rattle.sweep.specs.Recording.{Counted, Recorded, Recordable, RecordedOne}
@@ -31,7 +30,7 @@ use Rattle.sweep.specs.Steps.{step_at, moved_to, Onward, Turned}
 use Rattle.standing.specs.Stands.{GroupFrom}
 use Rattle.sweep.proofs.Stops.{stop_end, stop_enough}
 use Rattle.sweep.proofs.Laws.{recorded_none, recorded_both}
-use Rattle.sweep.proofs.Steps.{none_wants, none_found}
+use Rattle.sweep.proofs.Steps.{none_wants, none_found, step_wants, found_inside, no_build, found_is}
 
 -- the sweep from a place on --------------------------------------------------------------------------------------------------------
 
@@ -78,75 +77,24 @@ module _ (text : List ℕ) (note : ℕ) (index : List ℕ) where
           let o : opens_at text at ≡ false = rw (lt-ltb at (length text) b, e) in
           stop_none at b (none_wants text note index at o) (none_found text note index at o) ∙ rest
 
--- what a step says of the place ----------------------------------------------------------------------------------------------------
+-- what is found at the place -------------------------------------------------------------------------------------------------------
 
 record StepFound (text : List ℕ) (note : ℕ) (index : List ℕ) (at close count : ℕ) : Type 0 where
-  no_build : wants_at text note at ≡ false
   found : found_with text note index at ≡ Found (group_of text at close)
   stands : GroupFrom text at close count
 
-module _ (text : List ℕ) (note : ℕ) (index : List ℕ) (at : ℕ) where
-  step_wants : step_at text note index at ≡ Build → wants_at text note at ≡ true
-  unfolding step_at
-  step_wants = go (wants_at text note at) (matched (found_with text note index at))
-    where
-      go : (w : Bool) (m : Option Matched) → pick w Build (Seen m) ≡ Build → w ≡ true
-      go true m e = refl
-      go false m e = let z : ◌≡◌ {A = ℕ} 0 1 = cc in absurd (omega (arith, z))
+module _ (text : List ℕ) (note : ℕ) (index : List ℕ) (at : ℕ) {d : Option ℕ} (k : Known d ≡ step_at text note index at) where
+  step_none : None ≡ matched (judge text at d) → found_with text note index at ≡ NoGroup
+  step_none e = found_is text note index at k ∙ unmatched_is text at d (sym e)
 
-  next_wants : step_at text note index at ≡ Seen None → wants_at text note at ≡ false
-  unfolding step_at
-  next_wants = go (wants_at text note at) (matched (found_with text note index at))
-    where
-      go : (w : Bool) (m : Option Matched) → pick w Build (Seen m) ≡ Seen None → w ≡ false
-      go true m e = let z : ◌≡◌ {A = ℕ} 0 1 = cc in absurd (omega (arith, z))
-      go false m e = refl
-
-  next_none : step_at text note index at ≡ Seen None → found_with text note index at ≡ NoGroup
-  unfolding step_at matched
-  next_none = go (wants_at text note at) (found_with text note index at)
-    where
-      go : (w : Bool) (f : GroupAnswer) → pick w Build (Seen (matched f)) ≡ Seen None → f ≡ NoGroup
-      go true f e = let z : ◌≡◌ {A = ℕ} 0 1 = cc in absurd (omega (arith, z))
-      go false (Found g) e = let z : ◌≡◌ {A = ℕ} 0 1 = cc in absurd (omega (arith, z))
-      go false NoGroup e = refl
-
-  step_found : (m : Matched) → step_at text note index at ≡ Seen (Some m) → StepFound text note index at m.close m.count
-  unfolding step_at found_with group_as_run group_of matched
-  step_found m = go (wants_at text note at) refl
-    where
-      closed : {c : Option ℕ} {g : GroupAnswer} → Judges text at c g → Inside text at c → wants_at text note at ≡ false
-          → found_with text note index at ≡ g → Seen (matched g) ≡ Seen (Some m) → StepFound text note index at m.close m.count
-      closed (cites c k) i w f e =
-          let r : matched (Found (group_of text at c)) ≡ Some m = cc in
-          let q : record { close = c; count = length (items_of text at c) } ≡ m = same_Some _ _ r in
-          let x : c ≡ m.close = ap (λ (k : Matched). k.close) q in
-          let y : length (items_of text at c) ≡ m.count = ap (λ (k : Matched). k.count) q in
-          record {
-            no_build = w;
-            found = f ∙ ap (λ (k : ℕ). Found (group_of text at k)) x;
-            stands = record {
-              after = omega (arith, i.0);
-              inside = omega (arith, i.1);
-              good = ap (group_accepted text at) (sym x) ∙ k.accepted;
-              counts = sym y ∙ ap (λ (k : ℕ). length (items_of text at k)) x;
-            };
-          }
-      closed no_close i w f e = let z : ◌≡◌ {A = ℕ} 0 1 = cc in absurd (omega (arith, z))
-      closed (follows c b) i w f e = let z : ◌≡◌ {A = ℕ} 0 1 = cc in absurd (omega (arith, z))
-      closed (bad_item c n b g j) i w f e = let z : ◌≡◌ {A = ℕ} 0 1 = cc in absurd (omega (arith, z))
-
-      opened : (o : Bool) → opens_at text at ≡ o → wants_at text note at ≡ false
-          → found_with text note index at ≡ pick o (judge text at (close_as_run text at note index)) NoGroup
-          → Seen (matched (pick o (judge text at (close_as_run text at note index)) NoGroup)) ≡ Seen (Some m)
-          → StepFound text note index at m.close m.count
-      opened true q w f e = closed (judges text at (close_as_run text at note index)) (run_inside text at note index) w f e
-      opened false q w f e = let z : ◌≡◌ {A = ℕ} 0 1 = cc in absurd (omega (arith, z))
-
-      go : (w : Bool) → wants_at text note at ≡ w
-          → pick w Build (Seen (matched (found_with text note index at))) ≡ Seen (Some m) → StepFound text note index at m.close m.count
-      go true q e = let z : ◌≡◌ {A = ℕ} 0 1 = cc in absurd (omega (arith, z))
-      go false q e = opened (opens_at text at) refl q refl e
+  step_found : {g : Matched} → Some g ≡ matched (judge text at d) → StepFound text note index at g.close g.count
+  step_found {g} e =
+      let i = matched_is text at d g (sym e) in
+      let h = found_inside text note index at k in
+      record {
+        found = found_is text note index at k ∙ i.2;
+        stands = record { after = at_after text at i.0 h; inside = at_inside text at i.0 h; good = i.1.accepted; counts = i.3 };
+      }
 
 -- one turn: it comes to the place `at` -----------------------------------------------------------------------------------------------
 
@@ -214,54 +162,52 @@ module _ (text : List ℕ) (note : ℕ) (index : List ℕ) (s : SweepState) (ite
       }
 
   module _ (b : at < length text) where
-    pub turned_next : {f : Option Matched} {r : SweepState} → Seen f ≡ step_at text note index at → f ≡ None → r ≡ moved_to s (at + 1) false → Turned text note index s items groups r items groups
-    turned_next n k e =
-        let z = from_here in
-        let f = sym n ∙ ap Seen k in
-        rw e
-        record {
-          onward = moved_on (at + 1) false (omega arith) (omega arith)
-              (stop_none text note index at b (next_wants text note index at f) (next_none text note index at f));
-          stops = λ w. absurd (true≢false (sym w));
-          moves = λ w. omega arith;
-        }
-
     pub turned_build : {r : SweepState} → Build ≡ step_at text note index at → r ≡ moved_to s at true → Turned text note index s items groups r items groups
-    turned_build n e =
+    turned_build k e =
         rw e
         record {
           onward = moved_on at true (omega arith) by_end refl;
-          stops = λ w. stop_build text note index at b (step_wants text note index at (sym n));
+          stops = λ w. stop_build text note index at b (sym (step_wants text note index at) ∙ ap is_build (sym k));
           moves = λ w. absurd (true≢false w);
         }
 
-    module _ {f : Option Matched} {m : Matched} (n : Seen f ≡ step_at text note index at) (o : f ≡ Some m) where
-      step_is : StepFound text note index at m.close m.count
-      step_is = step_found text note index at m (sym n ∙ ap Seen o)
-
-      pub turn_recordable : length text ≤ 65535 → Recordable text at m.close m.count s (length items) (length groups)
-      turn_recordable k = record { stands = step_is.stands; short = k; later = from_here; counted = counts }
-
-      pub turned_group : {r : SweepState} {items' groups' : List ℕ} → RecordedOne text at m.close s items groups r items' groups'
-          → Turned text note index s items groups r items' groups'
-      unfolding group_of
-      turned_group {r} d =
-          let z = from_here in
-          let f = step_is.found in
-          let e : r.at ≡ m.close + 1 = d.next in
-          let a = step_is.stands.after in
+    module _ {d : Option ℕ} (k : Known d ≡ step_at text note index at) where
+      pub turned_next : {r : SweepState} → None ≡ matched (judge text at d) → r ≡ moved_to s (at + 1) false → Turned text note index s items groups r items groups
+      turned_next o e =
+          let y = from_here in
+          rw e
           record {
-            onward = record {
-              found = group_of text at m.close ∷ [];
-              goes_on = skipped ∙ stop_on text note index at b step_is.no_build ∙ rw (f, e);
-              recorded = d.recorded;
-              counted = d.counted;
-            };
-            stops = λ w. absurd (true≢false (sym w ∙ d.no_build));
+            onward = moved_on (at + 1) false (omega arith) (omega arith)
+                (stop_none text note index at b (no_build text note index at k) (step_none text note index at k o));
+            stops = λ w. absurd (true≢false (sym w));
             moves = λ w. omega arith;
           }
 
-pub ruleset turn_laws = (bracket_there, turned_end, turned_next, turned_build, turn_recordable, turned_group)
+      module _ {g : Matched} (o : Some g ≡ matched (judge text at d)) where
+        pub turn_recordable : length text ≤ 65535 → Recordable text at g.close g.count s (length items) (length groups)
+        turn_recordable n = record { stands = (step_found text note index at k o).stands; short = n; later = from_here; counted = counts }
+
+        pub turned_group : {r : SweepState} {items' groups' : List ℕ} → RecordedOne text at g.close s items groups r items' groups'
+            → Turned text note index s items groups r items' groups'
+        unfolding group_of
+        turned_group {r} y =
+            let x = from_here in
+            let i = step_found text note index at k o in
+            let f = i.found in
+            let e : r.at ≡ g.close + 1 = y.next in
+            let a = i.stands.after in
+            record {
+              onward = record {
+                found = group_of text at g.close ∷ [];
+                goes_on = skipped ∙ stop_on text note index at b (no_build text note index at k) ∙ rw (f, e);
+                recorded = y.recorded;
+                counted = y.counted;
+              };
+              stops = λ w. absurd (true≢false (sym w ∙ y.no_build));
+              moves = λ w. omega arith;
+            }
+
+pub ruleset turn_laws = (bracket_there, found_inside, turned_end)
 
 -- turns one after the other ----------------------------------------------------------------------------------------------------------
 
@@ -353,8 +299,6 @@ pub ruleset sweep_laws = (
   turn_less,
   items_length,
   groups_length,
-  swept_end,
-  swept_build,
   begin_counted,
   begin_wants,
 )

@@ -1,4 +1,5 @@
--- Follows the code; nothing to believe: areas that are written from some place on.
+-- Follows the code; nothing to believe: areas that are written
+-- from some place on.
 use Rattle.std.specs.Prelude.{ℕ, ◌+◌, List, ◌++◌, length, take, drop}
 
 -- an area after `out` was written from place `n` on

@@ -1,4 +1,5 @@
--- Theorems: what the paper claims of sweeps, proved in proofs/.
+-- Theorems: what the paper claims of sweeps: how many items they have, and that they run in two stretches;
+-- proved in proofs/.
 use Rattle.std.specs.Prelude.{ℕ, ◌/◌, ◌≤◌, List, [], ◌++◌, ◌≡◌, length}
 use Rattle.item.specs.Group.{Group}
 use Rattle.sweep.specs.Sweep.{Lent, Swept, swept, lent_after, sweep_of, sweep_run}

@@ -1,4 +1,5 @@
--- Follows the code; nothing to believe: groups recorded: the states of a sweep, and what the two areas are then.
+-- Follows the code; nothing to believe: groups recorded:
+-- the states of a sweep, and what the two areas are then.
 use Rattle.std.specs.Prelude.{ℕ, ◌+◌, ◌*◌, ◌≤◌, ◌≡◌, List, [], ◌∷◌, Bool, true, false, ◌&&◌, length, leb}
 use Rattle.item.specs.Pieces.{items_of}
 use Rattle.item.specs.Group.{Group, group_of}

@@ -1,18 +1,19 @@
--- Follows the code; nothing to believe: one turn of the sweep, as the code takes it.
-use Rattle.std.specs.Prelude.{ℕ, ◌<◌, ◌≡◌, List, [], Bool, true, false, length}
+-- Follows the code; nothing to believe: one turn of the sweep,
+-- as the code takes it.
+use Rattle.std.specs.Prelude.{ℕ, ◌<◌, ◌≡◌, List, [], Bool, true, false, length, None}
 use Rattle.base.specs.Pick.{pick}
 use Rattle.item.specs.Group.{Group}
 use Rattle.sweep.specs.declared.group_records.SweepState.{SweepState}
-use Rattle.sweep.specs.declared.Step.{Step}
-use Rattle.sweep.specs.declared.Step.TheVariants.{Seen, Build}
-use Rattle.resolve.specs.Looks.{matched}
-use Rattle.sweep.specs.Sweep.{found_with, wants_at}
+use Rattle.index.specs.Entries.{opens_at}
+use Rattle.resolve.specs.declared.Look.{Look}
+use Rattle.resolve.specs.declared.Look.TheVariants.{Known}
+use Rattle.resolve.specs.Resolve.{look_of}
 use Rattle.sweep.specs.Stops.{stop, after, stop_from}
 use Rattle.sweep.specs.Recording.{Counted, Recorded}
 
--- what the place `at` gives: a group by its close and the count of its items
-unfoldable pub step_at : List ℕ → ℕ → List ℕ → ℕ → Step
-step_at text note index at = pick (wants_at text note at) Build (Seen (matched (found_with text note index at)))
+-- what the place `at` gives before any build: no close where no unescaped `[` stands
+unfoldable pub step_at : List ℕ → ℕ → List ℕ → ℕ → Look
+step_at text note index at = pick (opens_at text at) (look_of text at note index) (Known None)
 
 -- a state of the sweep at another place
 abbrev pub moved_to : SweepState → ℕ → Bool → SweepState

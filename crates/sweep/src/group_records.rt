@@ -1,15 +1,17 @@
 // The records of one group of the sweep: written where they fit,
 // and the state of the sweep after it.
-ghost use Rattle.std.specs.Prelude.{◌≡◌, ◌+◌, ◌*◌, ◌≤◌, ◌<◌, length, [], ◌∷◌};
+ghost use Rattle.std.specs.Prelude.{◌≡◌, ◌+◌, ◌*◌, ◌≤◌, ◌<◌, ◌&&◌, length, [], ◌∷◌};
 ghost use Rattle.item.specs.Group.{group_of};
 ghost use Rattle.records.specs.ItemRecords.{records_of};
+ghost use Rattle.standing.specs.Standings.{standing_number};
 ghost use Rattle.sweep.specs.Areas.{written_at};
 ghost use Rattle.sweep.specs.Recording.{records_fit, ItemsRoom, Recordable, RecordedOne, after_group};
 ghost use Rattle.records.specs.Widths.{item_width, group_width};
 
 use records::item_records::write_records;
 use records::{GROUP_WIDTH, ITEM_WIDTH};
-use standing::{GroupAt, standing_of};
+use resolve::Group;
+use standing::{GroupAt, Standing, standing_of};
 
 // Where a sweep stands: its place, the counts of the groups and items so far, whether the last group stands in a definition line and
 // where it ended, whether all records so far fitted, and whether the bracket at its place wants a build. `fits` and `wants` stay flags: each
@@ -25,15 +27,16 @@ pub struct SweepState {
     pub wants: bool,
 }
 
-// Whether areas of `items` and `groups` numbers have room for `n` item and `g` group records.
-fn has_room(n: usize, g: usize, items: usize, groups: usize) -> bool
-    requires { (n ≤ 65535) × (g ≤ 65535) }
-    ensures { result ≡ records_fit n g items groups }
+// Whether all records so far fitted, and areas of `items` and `groups` numbers have room for those of one more group, of `count` items.
+fn has_room(s: SweepState, count: usize, items: usize, groups: usize) -> bool
+    requires { (s.items + count ≤ 65535) × (s.groups < 65535) }
+    ensures { result ≡ (s.fits && records_fit (s.items + count) (s.groups + 1) items groups) }
 {
-    ITEM_WIDTH * n <= items && GROUP_WIDTH * g <= groups
+    s.fits && ITEM_WIDTH * (s.items + count) <= items && GROUP_WIDTH * (s.groups + 1) <= groups
 }
 
 // Writes the item records of the group from `at` to `close`, from item record `n` on.
+#[tactic(auto, using(crate::proofs::Recording::item_laws))]
 fn write_items(text: &[u8], at: usize, close: usize, n: usize, items: &mut [u16])
     requires { ItemsRoom text.now at close n items.old }
     ensures { items.new ≡ written_at (item_width * n) (records_of (group_of text.now at close)) items.old }
@@ -41,7 +44,9 @@ fn write_items(text: &[u8], at: usize, close: usize, n: usize, items: &mut [u16]
     write_records(text, at, close, &mut items[ITEM_WIDTH * n..]);
 }
 
-// Writes group record `g`: the group's place and length, its first item, the count of its items, its standing.
+// Writes group record `g`: the group's place and length, its first item, the count of its items, its standing. (`as`, since the check proves
+// that each number fits; `try_from` would answer a refusal that cannot come.)
+#[tactic(auto, using(crate::proofs::Areas::part_written))]
 fn write_group(
     groups: &mut [u16],
     g: usize,
@@ -49,10 +54,10 @@ fn write_group(
     len: usize,
     first: usize,
     count: usize,
-    standing: u16,
+    standing: Standing,
 )
     requires { (group_width * g + group_width ≤ length groups.old) × (at ≤ 65535) × (len ≤ 65535) × (first ≤ 65535) × (count ≤ 65535) }
-    ensures { groups.new ≡ written_at (group_width * g) (at ∷ len ∷ first ∷ count ∷ standing ∷ []) groups.old }
+    ensures { groups.new ≡ written_at (group_width * g) (at ∷ len ∷ first ∷ count ∷ standing_number standing ∷ []) groups.old }
 {
     let k = GROUP_WIDTH * g;
     groups[k..k + GROUP_WIDTH].copy_from_slice(&[
@@ -60,7 +65,7 @@ fn write_group(
         len as u16,
         first as u16,
         count as u16,
-        standing,
+        u16::from(standing),
     ]);
 }
 
@@ -80,33 +85,34 @@ fn after_group(s: SweepState, close: usize, count: usize, inside: bool, fits: bo
     }
 }
 
-// Records the group from `at` to `close`: writes its records if they fit, and otherwise only counts it. Where they do not fit, nothing is
-// promised of the two areas.
+// Records the group at `at`: writes its records if they fit, and otherwise only counts it. Where they do not fit, nothing is promised of the
+// two areas.
+#[tactic(auto, using(crate::proofs::Recording::room_laws, crate::proofs::Recording::record_laws))]
 pub fn record_group(
     text: &[u8],
     s: SweepState,
     at: usize,
-    close: usize,
-    count: usize,
+    group: Group,
     items: &mut [u16],
     groups: &mut [u16],
 ) -> SweepState
-    requires { Recordable text.now at close count s (length items.old) (length groups.old) }
-    ensures { RecordedOne text.now at close s items.old groups.old result items.new groups.new }
+    requires { Recordable text.now at group.close group.count s (length items.old) (length groups.old) }
+    ensures { RecordedOne text.now at group.close s items.old groups.old result items.new groups.new }
 {
-    let group = GroupAt {
-        text,
-        at,
-        close,
-        count,
-    };
-    let inside = group.is_in_line(s.inside, s.from);
-    let n = s.items;
-    let g = s.groups;
-    let fits = s.fits & has_room(n + count, g + 1, items.len(), groups.len());
-    if fits {
-        write_items(text, at, close, n, items);
-        write_group(groups, g, at, close + 1 - at, n, count, standing_of(inside));
+    let Group { close, count } = group;
+    let place = GroupAt { text, at, group };
+    let inside = place.is_in_line(s.inside, s.from);
+    if has_room(s, count, items.len(), groups.len()) {
+        write_items(text, at, close, s.items, items);
+        write_group(
+            groups,
+            s.groups,
+            at,
+            close + 1 - at,
+            s.items,
+            count,
+            standing_of(inside),
+        );
         return after_group(s, close, count, inside, true);
     }
     after_group(s, close, count, inside, false)

@@ -1,4 +1,5 @@
-// The sweep: left to right, each unescaped `[`; the records of the groups found.
+// The sweep: left to right, each unescaped `[`,
+// and the records of the groups found.
 #![tactic(auto)]
 
 pub mod group_records;
@@ -12,15 +13,8 @@ ghost use Rattle.sweep.specs.Facts.{SizeEnough, SizeEnoughRun, SweepInTwo};
 
 use crate::group_records::{SweepState, record_group};
 use base::slices::find_byte;
-use resolve::{Group, Look, look_at, match_citation};
+use resolve::{Indexed, Look, match_citation};
 use text::is_escaped_at;
-
-// What a place gives: a group or none, or that the index has to be built first.
-#[derive(Clone, Copy)]
-enum Step {
-    Seen(Option<Group>),
-    Build,
-}
 
 // The state before the first group.
 pub fn start() -> SweepState
@@ -37,18 +31,16 @@ pub fn start() -> SweepState
     }
 }
 
-// What the `[` at `at` gives.
-#[tactic(auto, using(crate::proofs::Steps::found_inside, crate::proofs::Steps::step_laws))]
-fn step_at(text: &[u8], note: u8, index: &[u16], at: usize) -> Step
-    requires { (at < length text.now) × (byte_at text.now at ≡ 91) }
-    ensures { result ≡ step_at text.now note index.now at }
+// What the `[` at `at` gives before any build; an escaped one has no close.
+#[tactic(auto, unfolding(crate::specs::Steps::step_at, index::specs::Entries::opens_at))]
+fn step_at(indexed: Indexed, at: usize) -> Look
+    requires { (at < length indexed.text.now) × (byte_at indexed.text.now at ≡ 91) }
+    ensures { result ≡ step_at indexed.entry.text.now indexed.entry.note indexed.entry.index.now at }
 {
-    if is_escaped_at(text, at) {
-        return Step::Seen(None);
-    }
-    match look_at(text, at, note, index) {
-        Look::Known(close) => Step::Seen(match_citation(text, at, close)),
-        Look::Build => Step::Build,
+    if is_escaped_at(indexed.text, at) {
+        Look::Known(None)
+    } else {
+        indexed.look_at(at)
     }
 }
 
@@ -60,25 +52,19 @@ fn move_to(s: SweepState, at: usize, wants: bool) -> SweepState
 }
 
 // One turn: at the next `[` from the state's place on, or at the text's end.
-fn turn(
-    text: &[u8],
-    note: u8,
-    index: &[u16],
-    s: SweepState,
-    items: &mut [u16],
-    groups: &mut [u16],
-) -> SweepState
-    requires { (length text.now ≤ 65535) × (s.at < length text.now) × Counted text.now s (length items.old) (length groups.old) }
-    ensures { Turned text.now note index.now s items.old groups.old result items.new groups.new }
+#[tactic(auto, using(crate::proofs::Turns::turn_laws))]
+fn turn(indexed: Indexed, s: SweepState, items: &mut [u16], groups: &mut [u16]) -> SweepState
+    requires { (length indexed.text.now ≤ 65535) × (s.at < length indexed.text.now) × Counted indexed.text.now s (length items.old) (length groups.old) }
+    ensures { Turned indexed.entry.text.now indexed.entry.note indexed.entry.index.now s items.old groups.old result items.new groups.new }
 {
-    let at = find_byte(text, b'[', s.at, text.len());
-    if text.len() <= at {
+    let at = find_byte(indexed.text, b'[', s.at, indexed.text.len());
+    if indexed.text.len() <= at {
         return move_to(s, at, false);
     }
-    match step_at(text, note, index, at) {
-        Step::Build => move_to(s, at, true),
-        Step::Seen(found) => match found {
-            Some(group) => record_group(text, s, at, group.close, group.count, items, groups),
+    match step_at(indexed, at) {
+        Look::Build => move_to(s, at, true),
+        Look::Known(close) => match match_citation(indexed.text, at, close) {
+            Some(group) => record_group(indexed.text, s, at, group, items, groups),
             None => move_to(s, at + 1, false),
         },
     }
@@ -86,21 +72,15 @@ fn turn(
 
 // The sweep from the state `s` on, up to the text's end or to a bracket that wants a build. Where a record did not fit, nothing is promised
 // of the two areas.
-pub fn sweep(
-    text: &[u8],
-    note: u8,
-    index: &[u16],
-    s: SweepState,
-    items: &mut [u16],
-    groups: &mut [u16],
-) -> SweepState
-    requires { (length text.now ≤ 65535) × Counted text.now s (length items.old) (length groups.old) }
-    ensures { SweptTo text.now note index.now s items.old groups.old result items.new groups.new }
+#[tactic(auto, using(crate::proofs::Turns::sweep_laws))]
+pub fn sweep(indexed: Indexed, s: SweepState, items: &mut [u16], groups: &mut [u16]) -> SweepState
+    requires { (length indexed.text.now ≤ 65535) × Counted indexed.text.now s (length items.old) (length groups.old) }
+    ensures { SweptTo indexed.entry.text.now indexed.entry.note indexed.entry.index.now s items.old groups.old result items.new groups.new }
 {
     let mut r = move_to(s, s.at, false);
     // A `while`: each turn says where the next one begins.
-    while r.at < text.len() {
-        r = turn(text, note, index, r, items, groups);
+    while r.at < indexed.text.len() {
+        r = turn(indexed, r, items, groups);
         if r.wants {
             return r;
         }
@@ -109,6 +89,7 @@ pub fn sweep(
 }
 
 // The theorems of specs/Facts. The function does nothing; its contract states them.
+#[tactic(auto, using(crate::proofs::Sizes::size_enough, crate::proofs::Sizes::size_enough_run, crate::proofs::Stops::sweep_in_two))]
 pub fn theorems()
     ensures size_enough { SizeEnough }
     ensures size_enough_run { SizeEnoughRun }

@@ -1,28 +1,12 @@
--- The answers of `sweep::group_records::record_group`: what the state and the group leave room for, and the two states after it.
-use Rattle.std.proofs.Common.{rules}
-use Rattle.sweep.proofs.Recording.{room_laws, record_laws}
+-- The answers of `sweep::group_records::record_group`:
+-- the two states after the group.
+use Rattle.sweep.proofs.Recording.{recorded_fits, recorded_not}
 use Rattle.sweep.proofs.group_records.record_group.Goals as goal
 
-pub overflow_add-n : goal.overflow_add-n
-overflow_add-n c = search (room_laws, rules)
-
-pub has_room-requires : goal.has_room-requires
-has_room-requires c = search (room_laws, rules)
-
-pub write_items-requires : goal.write_items-requires
-write_items-requires c = search (room_laws, rules)
-
-pub write_group-requires : goal.write_group-requires
-write_group-requires c = search (room_laws, rules)
-
-pub after_group-requires : goal.after_group-requires
-after_group-requires c = search (room_laws, rules)
-
-pub returns-then-fits : goal.returns-then-fits
-returns-then-fits c = search (record_laws, rules)
-
-pub after_group-requires-2 : goal.after_group-requires-2
-after_group-requires-2 c = search (room_laws, rules)
+pub returns-then-has_room : goal.returns-then-has_room
+returns-then-has_room c =
+    recorded_fits _ _ _ _ _ _ _ c.requires c.is_in_line-inside.ensures c.has_room.ensures c.if-has_room.true c.standing_of.ensures
+    c.write_items.ensures c.write_group.ensures c.after_group.ensures
 
 pub returns : goal.returns
-returns c = search (record_laws, rules)
+returns c = recorded_not _ _ _ _ _ _ _ c.requires c.is_in_line-inside.ensures c.has_room.ensures c.if-has_room.false c.after_group-2.ensures
