@@ -1,4 +1,5 @@
--- Document 01, Layouts, from C: how many numbers the answer of each call has, its number first.
+-- Document 01, Layouts, from C: how many numbers the answer of each call has,
+-- its number first.
 use Rattle.std.specs.Prelude.{ℕ}
 
 -- the number, "the place of the close, the item count and the note"

@@ -1,4 +1,5 @@
--- Follows the code; nothing to believe: numbers that `answer` can hold.
+-- Follows the code; nothing to believe: numbers that `answer` can hold,
+-- which are those of a `u32`.
 use Rattle.std.specs.Prelude.{ℕ, ◌<◌, List}
 use Rattle.base.specs.Sorted.{Each}
 

@@ -2,10 +2,11 @@
 // `has_room` says whether an area can hold them; the writers ask for that, and that each number fits.
 #![tactic(auto)]
 
-ghost use Rattle.std.specs.Prelude.{[], ◌∷◌, ◌≡◌, ◌≤◌, leb, length};
+// The casts are by `as`, since the check proves that each number fits: `try_from` would answer a refusal that cannot come.
+
+ghost use Rattle.std.specs.Prelude.{[], ◌∷◌, ◌++◌, ◌≡◌, ◌≤◌, ◌-◌, leb, length, replicate};
 ghost use Rattle.annotation.specs.Values.{annotation_values};
 ghost use Rattle.base.specs.Lists.{written};
-ghost use Rattle.base.specs.Refusals.{number_of};
 ghost use Rattle.lookup.specs.Values.{look_up_values, locator_values, size_values};
 ghost use Rattle.source_text.specs.Values.{source_text_values};
 ghost use Rattle.answers.specs.Words.{Words};
@@ -35,7 +36,6 @@ pub fn has_room(answer: &[u32], n: usize) -> bool
 }
 
 // Numbers, at the front of `answer`.
-#[tactic(auto, using(base::proofs::Areas::copied))]
 fn put<const N: usize>(answer: &mut [u32], numbers: [u32; N])
     requires { N ≤ length answer.old }
     ensures { answer.new ≡ written numbers.entry answer.old }
@@ -43,11 +43,16 @@ fn put<const N: usize>(answer: &mut [u32], numbers: [u32; N])
     answer[..N].copy_from_slice(&numbers);
 }
 
-// The number of a refusal.
-fn number(refusal: Refusal) -> u32
-    ensures { result ≡ number_of refusal }
+// A refused answer of `N` numbers, by the number of its refusal: zeros after that, and `last` at the end, which is the note where the answer has one.
+#[tactic(auto, using(crate::proofs::Refused::refused))]
+pub fn write_refused<const N: usize>(number: u8, last: u8, answer: &mut [u32])
+    requires { (2 ≤ N) × (N ≤ length answer.old) }
+    ensures { answer.new ≡ written (number ∷ (replicate (N - 2) 0 ++ (last ∷ []))) answer.old }
 {
-    u32::from(u8::from(refusal))
+    let mut numbers = [0; N];
+    numbers[0] = u32::from(number);
+    numbers[N - 1] = u32::from(last);
+    put(answer, numbers);
 }
 
 // Number, close, item count, note.
@@ -56,10 +61,12 @@ pub fn write_look_up(a: LookUp, answer: &mut [u32])
     requires { (look_up_answer_length ≤ length answer.old) × Words (look_up_values a) }
     ensures { answer.new ≡ written (look_up_values a) answer.old }
 {
-    let note = u32::from(a.note);
     match a.group {
-        Ok(group) => put(answer, [0, group.close as u32, group.count as u32, note]),
-        Err(refusal) => put(answer, [number(refusal), 0, 0, note]),
+        Ok(group) => put(
+            answer,
+            [0, group.close as u32, group.count as u32, u32::from(a.note)],
+        ),
+        Err(refusal) => write_refused::<LOOK_UP_ANSWER>(u8::from(refusal), a.note, answer),
     }
 }
 
@@ -69,7 +76,6 @@ pub fn write_annotation(a: Annotation, answer: &mut [u32])
     requires { (annotation_answer_length ≤ length answer.old) × Words (annotation_values a) }
     ensures { answer.new ≡ written (annotation_values a) answer.old }
 {
-    let note = u32::from(a.note);
     match a.counts {
         Ok(counts) => put(
             answer,
@@ -79,10 +85,10 @@ pub fn write_annotation(a: Annotation, answer: &mut [u32])
                 counts.items as u32,
                 counts.sources as u32,
                 counts.label_bytes as u32,
-                note,
+                u32::from(a.note),
             ],
         ),
-        Err(refusal) => put(answer, [number(refusal), 0, 0, 0, 0, note]),
+        Err(refusal) => write_refused::<ANNOTATION_ANSWER>(u8::from(refusal), a.note, answer),
     }
 }
 
@@ -95,7 +101,7 @@ pub fn write_count(a: Result<usize, Refusal>, answer: &mut [u32])
 {
     match a {
         Ok(count) => put(answer, [0, count as u32]),
-        Err(refusal) => put(answer, [number(refusal), 0]),
+        Err(refusal) => write_refused::<SIZE_ANSWER>(u8::from(refusal), 0, answer),
     }
 }
 
@@ -114,7 +120,7 @@ pub fn write_locator(a: Result<Locator, Refusal>, answer: &mut [u32])
                 answer,
                 [
                     0,
-                    code as u32,
+                    u32::from(code),
                     value.at as u32,
                     value.len as u32,
                     suffix.at as u32,
@@ -122,6 +128,6 @@ pub fn write_locator(a: Result<Locator, Refusal>, answer: &mut [u32])
                 ],
             )
         }
-        Err(refusal) => put(answer, [number(refusal), 0, 0, 0, 0, 0]),
+        Err(refusal) => write_refused::<LOCATOR_ANSWER>(u8::from(refusal), 0, answer),
     }
 }

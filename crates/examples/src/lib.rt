@@ -1,4 +1,5 @@
-// The examples that document 01 marks [P], as one table. The function does nothing; its contract states the theorem.
+// The examples that document 01 marks [P], as one table.
+// The function does nothing; its contract states the theorem.
 #![tactic(auto)]
 
 ghost use Rattle.examples.specs.Examples.{Examples};

@@ -1,4 +1,5 @@
--- `answer` has room, and the numbers of an answer fit it.
+-- The room of `answer`:
+-- it is there where `has_room` says so, and the numbers of an answer fit it.
 use Prim.Native.Nat.{ℕ, ◌<◌, ◌≤◌}
 use mathlib.Core.Path.{◌≡◌, refl, sym, ◌∙◌}
 use mathlib.Core.List.{List}

@@ -1,4 +1,5 @@
--- The bytes of a source text fit `answer`: an entry of a pool of at most 32,768 bytes has no more fields than that, and no field is longer.
+-- The bytes of a source text fit `answer`:
+-- an entry of a pool of at most 32,768 bytes has no more fields than that, and no field is longer.
 use Prim.Native.Nat.{ℕ, zero, suc, ◌+◌, ◌-◌, ◌*◌, ◌≤◌, ◌<◌}
 use native.Mathlib.Omega.{arith}
 use mathlib.Core.Path.{◌≡◌, refl}

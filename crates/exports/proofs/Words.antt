@@ -1,4 +1,5 @@
--- The numbers of an answer fit `answer`: places and counts are no more than a text has bytes.
+-- The numbers of an answer fit `answer`:
+-- places and counts are no more than a text has bytes.
 use Prim.Native.Nat.{ℕ, zero, suc, ◌+◌, ◌/◌, ◌≤◌, ◌<◌}
 use native.Mathlib.Omega.{arith}
 use mathlib.Core.Path.{◌≡◌, refl, ap}

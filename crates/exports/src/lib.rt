@@ -1,5 +1,5 @@
 // The public calls as C and Rust see them, under the names of include/citations.h; the crate `exports_c` exports them.
-// A slice is a pointer and a length in elements. `answer` gets the number (0 accepted), then the values in the paper's order; a call with a shorter one does nothing.
+// `answer` gets the number (0 accepted), then the values in the paper's order; a call with a shorter one does nothing.
 #![tactic(auto)]
 
 ghost use Rattle.std.specs.Prelude.{◌≡◌};
@@ -11,6 +11,9 @@ use answers::{
     write_annotation, write_count, write_locator, write_look_up,
 };
 use index::Bracket;
+
+// A slice is a pointer and a length in elements. `mode` and `note` are numbers and no enums: C gives any byte, `Mode::try_from` refuses what is no
+// mode, and each note but 1 says that the index is not built.
 
 // The test for room, which all five calls begin with, stays in each of them: a function that takes the call as a closure would be no plainer,
 // since its contract would have to say of every closure what it leaves in up to seven areas.

@@ -1,6 +1,5 @@
 // The archive that C and Rust link, under the names of include/citations.h: each call of exports once more, with its clauses, since a crate is
-// a library or a static library and never both (the C interface). A slice is a pointer and a length in elements. `answer` gets the number
-// (0 accepted), then the values in the paper's order; a call with a shorter one does nothing.
+// a library or a static library and never both (the C interface).
 #![tactic(auto)]
 
 ghost use Rattle.std.specs.Prelude.{◌≡◌};
@@ -8,6 +7,10 @@ ghost use Rattle.annotation.specs.Content.{areas};
 ghost use Rattle.exports.specs.Areas.{look_up_areas, after_look_up, annotate_areas, after_annotate, after_size, after_locator, source_areas, after_source_text};
 
 use index::Bracket;
+
+// A slice is a pointer and a length in elements. `answer` gets the number (0 accepted), then the values in the paper's order; a call with a shorter
+// one does nothing. `mode` and `note` are numbers and no enums: C gives any byte, `Mode::try_from` refuses what is no mode, and each note but 1
+// says that the index is not built.
 
 // exports::citations_look_up; answer: number, close, item count, note.
 #[unsafe(no_mangle)]

@@ -1,4 +1,5 @@
--- Document 01, Examples: the lines of the listing: what each says, by the records of an answer.
+-- Document 01, Examples: the lines of the listing:
+-- what each says, by the records of an answer.
 use Rattle.std.specs.Prelude.{ℕ, zero, suc, ◌+◌, ◌*◌, List, [], ◌++◌, get_or, drop, eqb}
 use Rattle.base.specs.Pick.{pick}
 use Rattle.base.specs.Lists.{part}

@@ -1,4 +1,5 @@
--- The answer of the annotation, and the listing by it, in the form of the needs.
+-- The answer of the annotation, and the listing by it,
+-- in the form of the goals.
 use Prim.Native.Nat.{ℕ, ◌*◌, ◌≤◌}
 use native.Mathlib.Omega.{arith}
 use mathlib.Core.Path.{◌≡◌, refl, ◌∙◌, ap}

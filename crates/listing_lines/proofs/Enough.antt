@@ -1,4 +1,5 @@
--- THEOREM `TextRefusalsOnly`: the areas of the listing have room for what is said of any text of at most 4,096 bytes.
+-- THEOREM `TextRefusalsOnly`: the areas of the listing have room for what is said
+-- of any text of at most 4,096 bytes.
 use Prim.Native.Nat.{ℕ, zero, suc, ◌+◌, ◌*◌, ◌/◌, ◌≤◌, ◌<◌}
 use native.Mathlib.Omega.{arith}
 use mathlib.Core.Path.{◌≡◌, refl, sym, ap}

@@ -1,4 +1,5 @@
--- The areas that `list` makes, and its two answers, in the form of the needs.
+-- The areas that `list` makes, and its two answers,
+-- in the form of the goals.
 use Prim.Native.Nat.{ℕ, ◌+◌, ◌-◌, ◌*◌, ◌≤◌, ◌<◌}
 use native.Mathlib.Omega.{arith}
 use mathlib.Core.Path.{◌≡◌, refl, sym, ◌∙◌, ap}

@@ -1,4 +1,5 @@
--- Follows the code; nothing to believe: what `list` makes ready for the call.
+-- Follows the code; nothing to believe: what `list` makes ready for the call:
+-- areas of zeros, and room for the listing.
 use Rattle.std.specs.Prelude.{ℕ, ◌*◌, ◌≤◌, ◌≡◌, List, length, replicate}
 use Rattle.listing_lines.specs.Listing.{listing_of}
 use Rattle.records.specs.Widths.{item_width, group_width}

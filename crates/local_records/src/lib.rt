@@ -13,6 +13,16 @@ use annotation::answer::Annotation;
 use index::Bracket;
 use lookup::LookUp;
 
+// A bracket record before any call. (`Bracket::default()` in its place was tried, and the proof didn't close.)
+const BLANK: Bracket = Bracket {
+    place: 0,
+    seen: 0,
+    good: 0,
+    bad: 0,
+};
+
+// `mode` and `note` are numbers and no enums, as in `calls`: C gives any byte, and `Mode::try_from` refuses what is no mode.
+
 // `calls::look_up`.
 pub fn look_up(text: &[u8], at: usize, note: u8, index: &mut [u16], items: &mut [u16]) -> LookUp
     ensures { let records = replicate 65535 blank in
@@ -20,14 +30,7 @@ pub fn look_up(text: &[u8], at: usize, note: u8, index: &mut [u16], items: &mut 
         LookUpPromise text.now at note index.old records items.old
         result index.new ran.records items.new }
 {
-    // (`Bracket::default()` in its place was tried, and the proof didn't close.)
-    let b = Bracket {
-        place: 0,
-        seen: 0,
-        good: 0,
-        bad: 0,
-    };
-    let mut records = [b; 65535];
+    let mut records = [BLANK; 65535];
     calls::look_up(text, at, note, index, &mut records, items)
 }
 
@@ -50,14 +53,7 @@ pub fn annotate<'a>(
         AnnotatePromise text.now mode pool.now note index.old records given
         result index.new ran.records left }
 {
-    // (`Bracket::default()` in its place was tried, and the proof didn't close.)
-    let b = Bracket {
-        place: 0,
-        seen: 0,
-        good: 0,
-        bad: 0,
-    };
-    let mut records = [b; 65535];
+    let mut records = [BLANK; 65535];
     calls::annotate(
         text,
         mode,

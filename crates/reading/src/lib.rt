@@ -1,4 +1,5 @@
-// Reads a block of bytes, for the programs.
+// Reads a block of bytes, for the programs:
+// as many as the input has, up to the block's length.
 #![tactic(auto)]
 
 ghost use Rattle.std.specs.Prelude.{◌≡◌, ◌<◌, IfOk, length, take};

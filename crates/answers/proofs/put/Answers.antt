@@ -1,4 +1,5 @@
--- The answers of `answers::put`: the numbers are as many as the front that they are copied to.
+-- The answers of `answers::put`:
+-- the numbers are as many as the front that they are copied to.
 use Rattle.std.proofs.Common.{ℕ, ◌≤◌, ◌≡◌, refl, sym, ◌∙◌, ap, List, ◌++◌, length, take, drop}
 use lib.Seq.{length-take-le}
 use Rattle.base.specs.Lists.{written}

@@ -1,4 +1,5 @@
--- The answer of `examples::examples_hold`: the theorem of proofs/Table.
+-- The answer of `examples::examples_hold`:
+-- the theorem of proofs/Table.
 use Rattle.examples.proofs.Table.{examples}
 use Rattle.examples.proofs.examples_hold.Goals as goal
 

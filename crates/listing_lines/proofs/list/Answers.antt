@@ -1,4 +1,5 @@
--- `listing_lines::list` meets its contract: the areas are as long as the text asks for, and zero.
+-- `listing_lines::list` meets its contract:
+-- the areas are as long as the text asks for, and zero.
 use Rattle.std.proofs.Common.{refl, arith}
 use Rattle.listing_lines.proofs.Whole.{said, long_room, long_is, all_ready}
 use Rattle.listing_lines.proofs.list.Goals as goal

@@ -1,4 +1,5 @@
 -- `listing_lines::list_in`: the listing of the annotation that was made.
+-- (With the laws in a `using` on the function and no answers here, the check did not find them.)
 use Rattle.std.proofs.Common.{rules}
 use Rattle.listing_lines.proofs.Answers.{in_laws}
 use Rattle.listing_lines.proofs.list_in.Goals as goal

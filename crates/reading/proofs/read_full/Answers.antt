@@ -1,4 +1,5 @@
--- What a turn reads stands behind what the turns before it read.
+-- The answer of `reading::read_full`:
+-- what a turn reads stands behind what the turns before it read.
 use Rattle.std.proofs.Common.{◌≡◌, ℕ, ◌+◌, ◌-◌, ◌≤◌, List, ◌++◌, rules, length, take, drop, sym, ap, ◌∙◌, subst, drop_at, length-take-le}
 use Rattle.std.specs.Io.KnownBytes.{Consumes}
 use Rattle.std.proofs.KnownBytes.{Consumes-trans}

@@ -1,4 +1,5 @@
--- `reading::read_full` ends since each turn fills more of the buffer, and what it filled is what it consumed.
+-- `reading::read_full` ends since each turn fills more of the buffer,
+-- and what it filled is what it consumed.
 use Rattle.std.proofs.Common.{length, ◌-◌, ◌≡◌, ◌≤◌, take}
 use Rattle.std.specs.Io.KnownBytes.{Consumes}
 use Rattle.reading.proofs.read_full.Given as goal

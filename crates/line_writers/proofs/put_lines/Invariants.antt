@@ -1,12 +1,13 @@
--- The lines of the first items are written, and those of the other items are left.
+-- The lines of the first items are added,
+-- and those of the other items are left.
 use Rattle.std.proofs.Common.{◌+◌, ◌-◌, ◌*◌, drop}
 use Rattle.line_writers.specs.Lines.{item_lines, lines_of}
-use Rattle.line_writers.proofs.Puts.{Along}
+use Rattle.line_writers.proofs.Adds.{Along}
 use Rattle.records.specs.Widths.{item_width, group_width}
-use Rattle.line_writers.proofs.Writer.put_lines.Given as goal
+use Rattle.line_writers.proofs.put_lines.Given as goal
 
 abbrev pub invariant-loop-j : goal.invariant-loop-j
 invariant-loop-j l =
     Along (lines_of l.answer.text.now (drop (group_width * l.g) l.answer.groups.now) l.answer.items.now)
     (item_lines (l.count - l.j) l.answer.text.now (drop (group_width * l.g) l.answer.groups.now) (drop (item_width * (l.first + l.j)) l.answer.items.now))
-    l.fn.self l.self
+    l.fn.out l.out
