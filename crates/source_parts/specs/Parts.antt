@@ -1,12 +1,14 @@
--- Follows the code; nothing to believe: a part of a text in pieces, and a text in an area that may have no room for it.
+-- Follows the code; nothing to believe: a part of a text in pieces,
+-- and a text in an area that may have no room for it.
 use Rattle.std.specs.Prelude.{ℕ, ◌≤◌, ◌≡◌, List, ◌++◌, length, min}
 use Rattle.base.specs.Lists.{written}
+use Rattle.source.specs.Years.{year_bytes}
 use Rattle.source_parts.specs.declared.Part.{Part}
 use Rattle.source_parts.specs.declared.Text.{Text}
 
 -- the pieces of a part, one after the other
 abbrev pub part_text : Part → List ℕ
-part_text p = p.opening.now ++ (p.inner.now ++ p.closing.now)
+part_text p = p.opening.now ++ (year_bytes p.inner ++ p.closing.now)
 
 -- a text stands at the front of an area that was `before`, if it has room there; its bytes are counted up to the largest number
 pub record Holds (text before : List ℕ) (t : Text) : Type 0 where

@@ -1,23 +1,24 @@
-// The parts of a source's text, and how they are joined: a name, the year in parentheses, and what else the pool lends.
+// The parts of a source's text, and how they are joined: a name, the year in parentheses, and what else the pool lends. A text is put
+// together at the front of an area.
 #![tactic(auto)]
 
-ghost use Rattle.std.specs.Prelude.{◌≡◌, ◌++◌, List, ℕ, Some};
+ghost use Rattle.std.specs.Prelude.{◌≡◌, ◌++◌, ◌≤◌, List, ℕ, length, min};
 ghost use Rattle.base.specs.Lists.{written};
-ghost use Rattle.pool.specs.Readers.{lent};
 ghost use Rattle.pool.specs.Views.{name_lent};
-ghost use Rattle.source.specs.Entry.{is_empty};
+ghost use Rattle.source.specs.Years.{written_year};
 ghost use Rattle.source_parts.specs.Joined.{beside};
 ghost use Rattle.source_parts.specs.Names.{name_of};
 ghost use Rattle.source_parts.specs.Parens.{in_parens};
 ghost use Rattle.source_parts.specs.Parts.{part_text, Holds};
 
 use pool::names::NameParts;
+use source::Year;
 
-// A part of a text, in three pieces.
+// A part of a text, in three pieces. The middle one is of the type of a year: a number, or bytes.
 #[derive(Clone, Copy)]
 pub struct Part<'a> {
     opening: &'a [u8],
-    inner: &'a [u8],
+    inner: Year<'a>,
     closing: &'a [u8],
 }
 
@@ -28,7 +29,7 @@ impl<'a> Part<'a> {
     {
         Part {
             opening: &[],
-            inner: bytes,
+            inner: Year::Text(bytes),
             closing: &[],
         }
     }
@@ -49,16 +50,19 @@ impl<'a> Part<'a> {
         };
         Part {
             opening: family,
-            inner: b", ",
+            inner: Year::Text(b", "),
             closing: given,
         }
     }
 
-    // A year in parentheses.
+    // A year in parentheses; no bytes where there is none.
     #[tactic(auto, unfolding(crate::specs::Parens::in_parens))]
-    pub fn in_parens(year: &'a [u8]) -> Part<'a>
-        ensures { part_text result ≡ in_parens (lent (Some year.entry)) }
+    pub fn in_parens(year: Option<Year<'a>>) -> Part<'a>
+        ensures { part_text result ≡ in_parens (written_year year.entry) }
     {
+        let Some(year) = year else {
+            return Part::plain(&[]);
+        };
         Part {
             opening: b"(",
             inner: year,
@@ -66,11 +70,26 @@ impl<'a> Part<'a> {
         }
     }
 
-    // Whether the part has no bytes.
-    fn is_empty(self) -> bool
-        ensures { result ≡ is_empty (part_text self.entry) }
+    // How many bytes the part is, up to the largest number.
+    pub fn len(self) -> usize
+        ensures { result ≡ min (length (part_text self.entry)) usize.MAX }
     {
-        self.opening.is_empty() && self.inner.is_empty() && self.closing.is_empty()
+        self.opening
+            .len()
+            .saturating_add(self.inner.len())
+            .saturating_add(self.closing.len())
+    }
+
+    // The part at the front of `out`.
+    pub fn write(self, out: &mut [u8])
+        requires { length (part_text self) ≤ length out.old }
+        ensures { out.new ≡ written (part_text self.entry) out.old }
+    {
+        let start = self.opening.len();
+        let end = start + self.inner.len();
+        source::write_bytes(self.opening, out);
+        self.inner.write(&mut out[start..]);
+        source::write_bytes(self.closing, &mut out[end..]);
     }
 }
 
@@ -87,21 +106,19 @@ impl Text<'_> {
         ensures pushed { (text before : List ℕ) → Holds text before self.old → Holds (text ++ bytes.now) before self.new }
         ensures same_area { self.new.area.ghost_name ≡ self.old.area.ghost_name }
     {
-        let start = self.len;
-        self.len = start.saturating_add(bytes.len());
-        if self.len <= self.area.len() {
-            source::write_bytes(bytes, &mut self.area[start..]);
-        }
+        self.push_part(Part::plain(bytes));
     }
 
-    // Adds the pieces of a part.
-    fn push_part(&mut self, part: Part)
+    // Adds a part.
+    pub fn push_part(&mut self, part: Part)
         ensures pushed { (text before : List ℕ) → Holds text before self.old → Holds (text ++ part_text part.entry) before self.new }
         ensures same_area { self.new.area.ghost_name ≡ self.old.area.ghost_name }
     {
-        self.push(part.opening);
-        self.push(part.inner);
-        self.push(part.closing);
+        let start = self.len;
+        self.len = start.saturating_add(part.len());
+        if self.len <= self.area.len() {
+            part.write(&mut self.area[start..]);
+        }
     }
 
     // Adds a part with `separator` before it; an empty one falls out together with that.
@@ -110,14 +127,12 @@ impl Text<'_> {
             → Holds (beside separator.now text (part_text part.entry)) before self.new }
         ensures same_area { self.new.area.ghost_name ≡ self.old.area.ghost_name }
     {
-        if part.is_empty() {
+        if part.len() == 0 {
             return;
         }
-        if self.len == 0 {
-            self.push_part(part);
-            return;
+        if self.len != 0 {
+            self.push(separator);
         }
-        self.push(separator);
         self.push_part(part);
     }
 }

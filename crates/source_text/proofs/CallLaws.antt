@@ -1,4 +1,5 @@
--- The source text call, by its refusals and its answer.
+-- The source text call,
+-- by its refusals and its answer.
 use Prim.Native.Nat.{ℕ, ◌≤◌, ◌<◌, min}
 use native.Mathlib.Omega.{arith}
 use mathlib.Core.Path.{◌≡◌, refl, ◌∙◌}
@@ -6,12 +7,21 @@ use mathlib.Core.List.{List}
 use mathlib.Core.Bool.{true, false}
 use lib.ListN.{length}
 use borrow.Author.Tests.{lt-ltb, le-ltb}
+use Rattle.std.specs.Prelude.{Result, Ok, Err}
+use Rattle.std.specs.Result.{IsErrAnd}
+use Rattle.base.specs.declared.refusal.Refusal.{Refusal}
+use Rattle.base.specs.declared.refusal.Refusal.TheVariants.{PoolBroken}
 use Rattle.base.specs.Lists.{written}
 use Rattle.pool.specs.Fields.{Field}
 use Rattle.pool.specs.Entries.{entry_of}
 use Rattle.pool.specs.Layout.{count_of, well_formed, entry_at}
 use Rattle.source_text.specs.Text.{source_text_of}
 use Rattle.source_text.specs.Call.{source_refused, source_written, source_text_call}
+
+-- the refusal of a broken pool, as it is handed on
+pub broken_result : (r : Result ℕ Refusal) {e : Refusal} → e ≡ PoolBroken → IsErrAnd r (λ x. x ≡ e) → r ≡ Err PoolBroken
+broken_result (Ok x) p q = absurd q
+broken_result (Err x) p q = rw (q, p) refl
 
 module _ (p : List ℕ) (i : ℕ) (area : List ℕ) where
   -- 7

@@ -1,51 +1,34 @@
--- The text of an entry, a part after the other.
+-- The text of an entry, a part after the other,
+-- and what of it the area holds.
 use Prim.Native.Nat.{ℕ, ◌≤◌}
 use native.Mathlib.Omega.{arith}
 use mathlib.Core.Path.{◌≡◌, refl, sym, ◌∙◌}
 use mathlib.Core.List.{List, [], ◌∷◌, ◌++◌}
-use mathlib.Core.Option.{none, some}
-use lib.ListN.{length, take}
-use Rattle.std.specs.Prelude.{ℤ, FitsSigned}
+use mathlib.Core.Option.{Option}
+use lib.ListN.{length}
 use Rattle.std.specs.Prelude.{Option as Answer, Some, None}
 use Rattle.std.specs.Option.{unwrap_or}
 use Rattle.std.specs.Borrow.{Bor}
-use Rattle.std.specs.Int.{w64, cast_signed, cast_unsigned}
-use Rattle.std.proofs.lemmas.Int.{to_z-of_z}
 use Rattle.base.specs.Pick.{pick}
+use Rattle.base.specs.Lent.{lent}
 use Rattle.base.specs.Fold.{fold}
 use Rattle.base.specs.Lists.{written}
-use Rattle.base.proofs.Areas.{written_none, written_front}
+use Rattle.base.proofs.Areas.{written_none}
 use Rattle.pool.specs.Fields.{Field}
 use Rattle.pool.specs.Entries.{Name, Entry, field_with, names_in, entry_of}
-use Rattle.pool.specs.Readers.{lent, sign_of}
-use Rattle.source.specs.Decimal.{signed_decimal}
 use Rattle.source.specs.Entry.{is_empty, year_of}
 use Rattle.source_parts.specs.declared.Text.{Text}
 use Rattle.source_parts.specs.Joined.{beside}
 use Rattle.source_parts.specs.Names.{name_of}
 use Rattle.source_parts.specs.Parens.{in_parens}
 use Rattle.source_parts.specs.Parts.{Holds}
-use Rattle.source_parts.proofs.PartLaws.{beside_none}
 use Rattle.source_text.specs.Text.{add_name, names_of, head_of, ended, body_of, source_text_of}
 
 -- the year beside the names
 module _ (e : Entry) where
-  pub head_none : none ≡ year_of e → names_of e ≡ head_of e
-  unfolding head_of in_parens
-  head_none y = rw (← y) (beside_none (32 ∷ []) (names_of e) [] refl)
-
-  pub head_text : (t u : List ℕ) → some u ≡ year_of e → t ≡ in_parens (some u) → beside (32 ∷ []) (names_of e) t ≡ head_of e
+  pub head_year : {t : List ℕ} {y : Option (List ℕ)} → y ≡ year_of e → t ≡ in_parens y → beside (32 ∷ []) (names_of e) t ≡ head_of e
   unfolding head_of
-  head_text t u y p = rw (p, y) refl
-
-  pub head_number : (t area out : List ℕ) (n : ℤ) (k : ℕ) → FitsSigned w64 n → some (signed_decimal (sign_of n)) ≡ year_of e
-      → k ≡ length (signed_decimal (sign_of (cast_signed w64 (cast_unsigned w64 n))))
-      → out ≡ written (signed_decimal (sign_of (cast_signed w64 (cast_unsigned w64 n)))) area
-      → t ≡ in_parens (some (take k out)) → beside (32 ∷ []) (names_of e) t ≡ head_of e
-  head_number t area out n k f y l w p =
-      let z = to_z-of_z w64 n f in
-      let u : take k out ≡ signed_decimal (sign_of n) = rw w (written_front (signed_decimal (sign_of (cast_signed w64 (cast_unsigned w64 n)))) area k l ∙ rw z refl) in
-      head_text t (signed_decimal (sign_of n)) y (p ∙ rw u refl)
+  head_year y p = rw (p, y) refl
 
   -- and the stop
   pub text_none : {before : List ℕ} {t : Text} → Holds (body_of e) before t → t.len ≡ 0 → Holds (source_text_of e) before t

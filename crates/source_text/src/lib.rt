@@ -1,4 +1,5 @@
-// The text of a source: names, year and title of an entry of the pool.
+// The text of a source: names, year and title of an entry of the pool,
+// and the call that writes it into an area.
 #![tactic(auto)]
 
 ghost use Rattle.std.specs.Prelude.{◌≡◌, ◌≤◌, [], List, ℕ, length, min};
@@ -7,13 +8,12 @@ ghost use Rattle.pool.specs.Entries.{entry_of};
 ghost use Rattle.pool.specs.Views.{fields_left};
 ghost use Rattle.source_parts.specs.Parts.{Holds};
 ghost use Rattle.source_text.specs.Call.{source_text_call};
-ghost use Rattle.source_text.specs.Text.{names_of, head_of, source_text_of};
+ghost use Rattle.source_text.specs.Text.{names_of, source_text_of};
 ghost use Rattle.source_text.specs.Values.{source_text_values, source_text_numbers, source_text_answer};
 
 use base::refusal::Refusal;
 use pool::Pool;
 use pool::fields::{Fields, tag};
-use source::Year;
 use source_parts::{Part, Text};
 
 // Adds the names of an entry, joined, to an empty text.
@@ -27,24 +27,6 @@ fn add_names(fields: Fields, text: &mut Text)
     }
 }
 
-// Adds the year in parentheses to the names.
-fn add_year(fields: Fields, text: &mut Text)
-    ensures head { (before : List ℕ) → Holds (names_of (entry_of (fields_left fields.entry))) before text.old
-        → Holds (head_of (entry_of (fields_left fields.entry))) before text.new }
-    ensures same_area { text.new.area.ghost_name ≡ text.old.area.ghost_name }
-{
-    match source::csl_year(fields) {
-        None => {}
-        Some(Year::Text(year)) => text.join(b" ", Part::in_parens(year)),
-        Some(Year::Number(number)) => {
-            let mut digits = [0; 21];
-            let n = source::signed_len(number);
-            source::write_signed(number, &mut digits);
-            text.join(b" ", Part::in_parens(&digits[..n]));
-        }
-    }
-}
-
 // The text of an entry at the front of `area`, if it has room there (`csl_to_def`). How many bytes it is, up to the largest number.
 fn write_text(fields: Fields, area: &mut [u8]) -> usize
     ensures count { result ≡ min (length (source_text_of (entry_of (fields_left fields.entry)))) usize.MAX }
@@ -53,7 +35,7 @@ fn write_text(fields: Fields, area: &mut [u8]) -> usize
 {
     let mut text = Text { area, len: 0 };
     add_names(fields, &mut text);
-    add_year(fields, &mut text);
+    text.join(b" ", Part::in_parens(source::csl_year(fields)));
     text.join(b". ", Part::plain(fields.field(tag::TITLE).unwrap_or(&[])));
     if text.len == 0 {
         return 0;
@@ -68,9 +50,7 @@ pub fn source_text(pool: &[u8], entry: usize, area: &mut [u8]) -> Result<usize, 
     ensures result_value { source_text_values result ≡ source_text_numbers (source_text_call pool.now entry area.old) }
     ensures area_after { area.new ≡ (source_text_call pool.now entry area.old).area }
 {
-    let Some(pool) = Pool::new(pool) else {
-        return Err(Refusal::PoolBroken);
-    };
+    let pool = Pool::try_from(pool)?;
     if pool.count() <= entry {
         return Err(Refusal::NoEntry);
     }

@@ -1,11 +1,12 @@
--- `Text::push_part`: three pieces, one after the other.
-use Rattle.std.proofs.Common.{◌≡◌, ◌++◌, append_assoc}
-use Rattle.source_parts.proofs.PartLaws.{holds_as}
+-- `Text::push_part`: a part that has room
+-- stands after the text.
+use Rattle.std.proofs.Common.{refl, arith}
+use Rattle.source_parts.specs.Parts.{part_text}
+use Rattle.source_parts.proofs.PartLaws.{push_room}
 use Rattle.source_parts.proofs.Text.push_part.Goals as goal
 
-pub returns-clause-pushed : goal.returns-clause-pushed
-returns-clause-pushed c =
+pub returns-then-self-clause-pushed : goal.returns-then-self-clause-pushed
+returns-then-self-clause-pushed c =
     λ text before h.
-    let e : text ++ c.args.part.opening.now ++ c.args.part.inner.now ++ c.args.part.closing.now
-    ≡ text ++ (c.args.part.opening.now ++ (c.args.part.inner.now ++ c.args.part.closing.now)) = simp append_assoc in
-    holds_as e (c.push-3.ensures.pushed _ before (c.push-2.ensures.pushed _ before (c.push.ensures.pushed text before h)))
+    push_room text before (part_text c.args.part) c.write.new.out c.args.self.now _ h c.len.ensures c.saturating_add-self.ensures (omega arith) (omega arith)
+    c.write.ensures refl
