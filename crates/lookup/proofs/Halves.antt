@@ -1,4 +1,5 @@
--- The two halves of a look-up together, with the build between them: the call as run.
+-- The two halves of a look-up together, with the build between them:
+-- the call as run.
 use Prim.Native.Nat.{ℕ, ◌≤◌}
 use native.Mathlib.Omega.{arith}
 use mathlib.Core.Path.{◌≡◌, refl, sym, ◌∙◌, ap}

@@ -1,9 +1,10 @@
--- What the caller of `match_citation` knows of the group that it found, and the answer that it makes of it.
+-- The answer that a look-up makes of what `match_citation` gave,
+-- in the form of the code's goals.
 use Prim.Native.Nat.{ℕ, ◌*◌, ◌/◌, ◌≤◌, ◌<◌}
 use native.Mathlib.Omega.{arith}
 use mathlib.Core.Path.{◌≡◌, refl, sym, ◌∙◌, ap}
 use mathlib.Core.List.{List}
-use mathlib.Core.Bool.{true, false}
+use mathlib.Core.Bool.{Bool, true, false}
 use lib.ListN.{length}
 use lib.Dec.{ltb}
 use borrow.Author.Tests.{lt-ltb, le-ltb}
@@ -16,38 +17,19 @@ use Rattle.base.specs.declared.refusal.Refusal.TheVariants.{NoGroup as NoGroupHe
 use Rattle.item.specs.Pieces.{items_of}
 use Rattle.item.specs.Group.{group_of}
 use Rattle.resolve.specs.declared.Group.{Group}
-use Rattle.resolve.specs.Groups.{GroupAnswer, Found, NoGroup, judge}
+use Rattle.resolve.specs.Groups.{Found, NoGroup, judge}
 use Rattle.resolve.specs.Looks.{matched, Inside}
-use Rattle.resolve.proofs.Judges.{Cited, Judges, cites, no_close, follows, bad_item, judges}
-use Rattle.resolve.proofs.Laws.{at_after, at_inside}
+use Rattle.resolve.specs.declared.Look.{Look}
+use Rattle.resolve.specs.Resolve.{close_after, note_after}
+use Rattle.resolve.proofs.Judges.{Cited, matched_is, unmatched_is}
+use Rattle.resolve.proofs.Laws.{at_after, at_inside, after_inside}
 use Rattle.records.specs.ItemRecords.{records_of, records_length}
 use Rattle.records.specs.Writing.{Writable}
 use Rattle.records.specs.Widths.{item_width}
 use Rattle.lookup.specs.LookUps.{look_up_refused, look_up_gives, look_up_answers}
-use Rattle.lookup.specs.Values.{look_up_group}
-
-module _ (s : List ℕ) (p : ℕ) (d : Option ℕ) where
-  matched_is : (g : Group) → matched (judge s p d) ≡ Some g
-      → (d ≡ Some g.close) × Cited s p g.close × (judge s p d ≡ Found (group_of s p g.close)) × (g.count ≡ length (items_of s p g.close))
-  unfolding matched group_of
-  matched_is g = go (judges s p d)
-    where
-      go : {d : Option ℕ} {j : GroupAnswer} → Judges s p d j → matched j ≡ Some g
-          → (d ≡ Some g.close) × Cited s p g.close × (j ≡ Found (group_of s p g.close)) × (g.count ≡ length (items_of s p g.close))
-      go (cites k f) e =
-          let h : ◌≡◌ {A = Group} (record { close = k; count = length (items_of s p k) }) g = cc in
-          rw (← h) (refl, f, refl, refl)
-      go no_close e = let y : None ≡ Some g = e in absurd (cc)
-      go (follows k b) e = let y : None ≡ Some g = e in absurd (cc)
-      go (bad_item k i b g' j) e = let y : None ≡ Some g = e in absurd (cc)
-
-  none_is : matched (judge s p d) ≡ None → judge s p d ≡ NoGroup
-  unfolding matched
-  none_is = go (judge s p d)
-    where
-      go : (j : GroupAnswer) → matched j ≡ None → j ≡ NoGroup
-      go (Found g) h = absurd (cc)
-      go NoGroup h = refl
+use Rattle.lookup.specs.Values.{look_up_group, look_up_returns}
+use Rattle.lookup.specs.Halves.{prepared_wants, CanFinish, finished_of, finished_items}
+use Rattle.lookup.specs.declared.LookUp.{LookUp}
 
 -- the answer of a bracket: `m` is what the match gave, and `r` the group or the refusal
 module _ (s : List ℕ) (at : ℕ) (d : Option ℕ) (items : List ℕ) {m : Option Group} {r : Result Group Refusal}
@@ -64,7 +46,7 @@ module _ (s : List ℕ) (at : ℕ) (d : Option ℕ) (items : List ℕ) {m : Opti
     where
       go : (m : Option Group) → matched (judge s at d) ≡ m → ok_or m NoGroupHere ≡ Err e → (e ≡ NoGroupHere) × (judge s at d ≡ NoGroup)
       go (Some x) p h = absurd (cc)
-      go None p h = (cc, none_is s at d p)
+      go None p h = (cc, unmatched_is s at d p)
 
   module _ {e : Refusal} (h : r ≡ Err e) where
     pub answer_none : Err e ≡ look_up_group (look_up_answers (judge s at d) items)
@@ -103,9 +85,9 @@ module _ (s : List ℕ) (at : ℕ) (d : Option ℕ) (items : List ℕ) {m : Opti
       unfolding look_up_group look_up_answers look_up_gives group_of
       answer_found = rw (is.2, enough, ← is.3)
 
-      pub items_found : {after : List ℕ} → after ≡ written (records_of (group_of s at g.close)) items → after ≡ (look_up_answers (judge s at d) items).items
+      pub items_found : written (records_of (group_of s at g.close)) items ≡ (look_up_answers (judge s at d) items).items
       unfolding look_up_answers look_up_gives
-      items_found o = o ∙ rw (is.2, enough)
+      items_found = rw (is.2, enough)
 
       pub matched_writable : length s ≤ 65535 → Inside s at d → Writable s at g.close items
       matched_writable k i = record {
@@ -117,3 +99,44 @@ module _ (s : List ℕ) (at : ℕ) (d : Option ℕ) (items : List ℕ) {m : Opti
       }
 
 pub ruleset answer_laws = (answer_none, items_none, answer_few, items_few, answer_found, items_found, matched_writable)
+
+-- the second half of a look-up: `p` is what the first half prepared
+module _ (s : List ℕ) (at : ℕ) {p : Result Look Refusal} (index items : List ℕ) where
+  module _ {e : Refusal} (q : p ≡ Err e) where
+    pub finished_refused : (note : ℕ) → ◌≡◌ {A = LookUp} (record { group = Err e; note = note }) (finished_of s at note p index items)
+    unfolding finished_of
+    finished_refused note = rw q
+
+    pub finished_as_it_was : items ≡ finished_items s at p index items
+    unfolding finished_items
+    finished_as_it_was = rw q
+
+  module _ {l : Look} (q : p ≡ Ok l) where
+    pub finish_short : CanFinish s at p → length s ≤ 65535
+    finish_short h = (rw q at h).0
+
+    pub finish_there : CanFinish s at p → at < length s
+    finish_there h = (rw q at h).1
+
+    module _ {d : Option ℕ} (k : d ≡ close_after s at index l) where
+      pub finish_inside : CanFinish s at p → Inside s at d
+      finish_inside h = rw k (after_inside s at index l (rw q at h).2)
+
+      pub finished_answered : (note : ℕ) {r : Result Group Refusal} {b : Bool} {n : ℕ} → r ≡ look_up_group (look_up_answers (judge s at d) items) → b ≡ prepared_wants p
+          → n ≡ note_after b note → ◌≡◌ {A = LookUp} (record { group = r; note = n }) (finished_of s at note p index items)
+      unfolding finished_of look_up_returns prepared_wants
+      finished_answered note r b n = rw (r, n, b, q, k)
+
+      pub finished_left : (look_up_answers (judge s at d) items).items ≡ finished_items s at p index items
+      unfolding finished_items
+      finished_left = rw (q, k)
+
+pub ruleset finish_laws = (
+  finished_refused,
+  finished_as_it_was,
+  finish_short,
+  finish_there,
+  finish_inside,
+  finished_answered,
+  finished_left,
+)

@@ -1,4 +1,5 @@
--- What holds where nothing refuses a look-up before its bracket is resolved.
+-- What holds where nothing refuses a look-up before its bracket is resolved;
+-- the answers of the size and the locator call.
 use Prim.Native.Nat.{ℕ, ◌/◌, ◌≤◌, ◌<◌}
 use native.Mathlib.Omega.{arith}
 use mathlib.Core.Path.{◌≡◌, refl, sym}

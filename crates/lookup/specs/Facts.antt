@@ -1,4 +1,5 @@
--- Theorems: what the paper claims of look-ups, proved in proofs/.
+-- Theorems: what the paper claims of look-ups: the plain answer, the index that they leave, and its length;
+-- proved in proofs/.
 use Rattle.std.specs.Prelude.{ℕ, ◌≡◌, List, length}
 use Rattle.index.specs.declared.Bracket.{Bracket}
 use Rattle.lookup.specs.LookUps.{look_up_plain, look_up_run}

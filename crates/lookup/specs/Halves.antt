@@ -1,4 +1,5 @@
--- Follows the code; nothing to believe: a look-up in two halves around the build.
+-- Follows the code; nothing to believe: a look-up in two halves
+-- around the build of the index.
 use Rattle.std.specs.Prelude.{ℕ, ◌≤◌, ◌<◌, List, Bool, false, length, Result, Ok, Err}
 use Rattle.base.specs.Refusals.{answered}
 use Rattle.base.specs.declared.refusal.Refusal.{Refusal}
