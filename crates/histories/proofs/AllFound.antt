@@ -1,4 +1,5 @@
--- The groups of the sweep are all that the rules admit, save those that begin inside one of them.
+-- The groups of the sweep are all that the rules admit,
+-- save those that begin inside one of them.
 use Prim.Native.Nat.{ℕ, zero, suc, ◌+◌, ◌≤◌, ◌<◌}
 use native.Mathlib.Omega.{arith}
 use native.Mathlib.Decide.{dec_le}

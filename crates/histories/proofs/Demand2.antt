@@ -1,4 +1,5 @@
--- THEOREM `EveryGroup`: demand 2, for the definitions that the contracts of the public calls cite.
+-- THEOREM `EveryGroup`: demand 2,
+-- for the definitions that the contracts of the public calls cite.
 use Prim.Native.Nat.{ℕ, ◌≤◌, ◌<◌}
 use native.Mathlib.Omega.{arith}
 use mathlib.Core.Path.{◌≡◌, refl, sym, ◌∙◌, subst}

@@ -1,4 +1,5 @@
--- THEOREM `Histories`: demand 3, for the definitions that the contracts of the public calls cite.
+-- THEOREM `Histories`: demand 3,
+-- for the definitions that the contracts of the public calls cite.
 use Rattle.annotation.proofs.Truth.{annotate_true, annotate_leaves, annotate_keeps}
 use Rattle.lookup.proofs.LooksUp.{look_up_true, look_up_leaves, look_up_keeps}
 use Rattle.histories.specs.Histories.{Histories}

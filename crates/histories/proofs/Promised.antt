@@ -1,8 +1,9 @@
--- THEOREM `PromisedHistories`: calls that meet their promises answer as `answers_of` says, and so by `Histories` plainly.
+-- THEOREM `PromisedHistories`: calls that meet their promises answer as `answers_of` says,
+-- and so by `Histories` plainly.
 use Prim.Native.Nat.{ℕ}
 use mathlib.Core.Path.{◌≡◌, refl, ◌∙◌, ap}
 use mathlib.Core.List.{List, [], ◌∷◌, map, map-map}
-use lib.ListN.{length, get_or, take}
+use lib.ListN.{length, take}
 use Rattle.std.specs.Prelude.{Result, Ok, Err}
 use Rattle.base.specs.declared.refusal.Refusal.{Refusal}
 use Rattle.lookup.specs.declared.LookUp.{LookUp}
@@ -19,27 +20,20 @@ use Rattle.histories.specs.Promises.{RanCall, LookedUpOnce, AnnotatedOnce, call_
 use Rattle.histories.proofs.FromCalls.{both}
 use Rattle.histories.proofs.Demand3.{demand_3}
 
--- what a look-up returned, its items, and the note
+-- what a look-up showed with its items, and its note, are those of the look-up as run
 looked : (a : LookedUp) {number close count : ℕ} {items : List ℕ} → number ≡ a.number → close ≡ a.close → count ≡ a.count
     → items ≡ a.items → record { number = number; close = close; count = count; items = items } ≡ a
 looked a n c k i = rw (n, c, k, i) refl
 
-look_up_shows_lem : (ran : LookUpRan) (r : LookUp) (items : List ℕ) → look_up_values r ≡ look_up_numbers ran → items ≡ ran.answer.items
-    → look_up_shows r items ≡ ran.answer
+look_up_shown : (ran : LookUpRan) (r : LookUp) (items : List ℕ) → look_up_values r ≡ look_up_numbers ran → items ≡ ran.answer.items
+    → (look_up_shows r items ≡ ran.answer) × (r.note ≡ ran.note)
 unfolding look_up_values look_up_numbers
-look_up_shows_lem ran r items = go r.group
+look_up_shown ran r items = go r.group
   where
-    go : (g : Result Group Refusal) → group_values g r.note ≡ look_up_numbers ran → items ≡ ran.answer.items → group_shown g items ≡ ran.answer
-    go (Ok g) e i = looked ran.answer (ap (λ (l : List ℕ). get_or l 0 0) e) (ap (λ (l : List ℕ). get_or l 1 0) e) (ap (λ (l : List ℕ). get_or l 2 0) e) i
-    go (Err x) e i = looked ran.answer (ap (λ (l : List ℕ). get_or l 0 0) e) (ap (λ (l : List ℕ). get_or l 1 0) e) (ap (λ (l : List ℕ). get_or l 2 0) e) i
-
-look_up_note_lem : (ran : LookUpRan) (r : LookUp) → look_up_values r ≡ look_up_numbers ran → r.note ≡ ran.note
-unfolding look_up_values look_up_numbers
-look_up_note_lem ran r = go r.group
-  where
-    go : (g : Result Group Refusal) → group_values g r.note ≡ look_up_numbers ran → r.note ≡ ran.note
-    go (Ok g) e = ap (λ (l : List ℕ). get_or l 3 0) e
-    go (Err x) e = ap (λ (l : List ℕ). get_or l 3 0) e
+    go : (g : Result Group Refusal) → group_values g r.note ≡ look_up_numbers ran → items ≡ ran.answer.items
+        → (group_shown g items ≡ ran.answer) × (r.note ≡ ran.note)
+    go (Ok g) e i = (looked ran.answer (cc) (cc) (cc) i, cc)
+    go (Err x) e i = (looked ran.answer (cc) (cc) (cc) i, cc)
 
 -- the same of an annotation
 annotated : (a : Annotated) {number groups items sources label_bytes : ℕ} {areas : Areas} → number ≡ a.number → groups ≡ a.groups
@@ -51,54 +45,37 @@ four : (y : Areas) {items groups references labels : List ℕ} → items ≡ y.i
     → labels ≡ y.labels → record { items = items; groups = groups; references = references; labels = labels } ≡ y
 four y i g r l = rw (i, g, r, l) refl
 
-annotation_shows_lem : (ran : AnnotateRan) (r : Annotation) (areas : Areas) → annotation_values r ≡ annotation_numbers ran → areas ≡ ran.answer.areas
-    → annotation_shows r areas ≡ ran.answer
+annotation_shown : (ran : AnnotateRan) (r : Annotation) (areas : Areas) → annotation_values r ≡ annotation_numbers ran → areas ≡ ran.answer.areas
+    → (annotation_shows r areas ≡ ran.answer) × (r.note ≡ ran.note)
 unfolding annotation_values annotation_numbers
-annotation_shows_lem ran r areas = go r.counts
+annotation_shown ran r areas = go r.counts
   where
-    go : (c : Result Counts Refusal) → count_values c r.note ≡ annotation_numbers ran → areas ≡ ran.answer.areas → counts_shown c areas ≡ ran.answer
-    go (Ok c) e h =
-        annotated ran.answer (ap (λ (l : List ℕ). get_or l 0 0) e) (ap (λ (l : List ℕ). get_or l 1 0) e) (ap (λ (l : List ℕ). get_or l 2 0) e)
-        (ap (λ (l : List ℕ). get_or l 3 0) e) (ap (λ (l : List ℕ). get_or l 4 0) e) h
-    go (Err x) e h =
-        annotated ran.answer (ap (λ (l : List ℕ). get_or l 0 0) e) (ap (λ (l : List ℕ). get_or l 1 0) e) (ap (λ (l : List ℕ). get_or l 2 0) e)
-        (ap (λ (l : List ℕ). get_or l 3 0) e) (ap (λ (l : List ℕ). get_or l 4 0) e) h
-
-annotation_note_lem : (ran : AnnotateRan) (r : Annotation) → annotation_values r ≡ annotation_numbers ran → r.note ≡ ran.note
-unfolding annotation_values annotation_numbers
-annotation_note_lem ran r = go r.counts
-  where
-    go : (c : Result Counts Refusal) → count_values c r.note ≡ annotation_numbers ran → r.note ≡ ran.note
-    go (Ok c) e = ap (λ (l : List ℕ). get_or l 5 0) e
-    go (Err x) e = ap (λ (l : List ℕ). get_or l 5 0) e
+    go : (c : Result Counts Refusal) → count_values c r.note ≡ annotation_numbers ran → areas ≡ ran.answer.areas
+        → (counts_shown c areas ≡ ran.answer) × (r.note ≡ ran.note)
+    go (Ok c) e h = (annotated ran.answer (cc) (cc) (cc) (cc) (cc) h, cc)
+    go (Err x) e h = (annotated ran.answer (cc) (cc) (cc) (cc) (cc) h, cc)
 
 -- a call that met its promise showed what `run_call` answers, and left the state that it leaves
 same_state : (k : ℕ) (area x y : List ℕ) (m n : ℕ) → x ≡ y → m ≡ n → state (put_back k x area) m ≡ state (put_back k y area) n
 same_state k area x y m n p q = cc
 
-met_shows : (text : List ℕ) (st : State) (d : RanCall) → Met text st d → shown d ≡ (run_call text st (call_of d)).answer
+met_shows : (text : List ℕ) (st : State) (d : RanCall) → Met text st d
+    → (shown d ≡ (run_call text st (call_of d)).answer) × (state_after st d ≡ (run_call text st (call_of d)).after)
 unfolding run_call look_up_left annotate_left
 met_shows text st (LookedUpOnce k at records items r index' records' items') h =
-    ap OfLookUp (look_up_shows_lem (look_up_run text at st.note (take k st.index) records items) r items' h.0 h.3)
+    let e = look_up_shown (look_up_run text at st.note (take k st.index) records items) r items' h.0 h.3 in
+    (ap OfLookUp e.0, same_state k st.index _ _ _ _ h.1 e.1)
 met_shows text st (AnnotatedOnce k mode pool records areas r index' records' areas') h =
     let ran : AnnotateRan = annotate_run text mode pool st.note (take k st.index) records areas in
-    ap OfAnnotation (annotation_shows_lem ran r areas' h.0 (four ran.answer.areas h.3 h.4 h.5 h.6))
-
-met_leaves : (text : List ℕ) (st : State) (d : RanCall) → Met text st d → state_after st d ≡ (run_call text st (call_of d)).after
-unfolding run_call look_up_left annotate_left
-met_leaves text st (LookedUpOnce k at records items r index' records' items') h =
-    same_state k st.index _ _ _ _ h.1 (look_up_note_lem (look_up_run text at st.note (take k st.index) records items) r h.0)
-met_leaves text st (AnnotatedOnce k mode pool records areas r index' records' areas') h =
-    same_state k st.index _ _ _ _ h.1
-    (annotation_note_lem (annotate_run text mode pool st.note (take k st.index) records areas) r h.0)
+    let e = annotation_shown ran r areas' h.0 (four ran.answer.areas h.3 h.4 h.5 h.6) in
+    (ap OfAnnotation e.0, same_state k st.index _ _ _ _ h.1 e.1)
 
 all_shown : (text : List ℕ) (done : List RanCall) (st : State) → AllMet text st done → map shown done ≡ answers_of text st (map call_of done)
 unfolding answers_of
 all_shown text [] st h = refl
 all_shown text (d ∷ ds) st h =
-    both (met_shows text st d h.0)
-    (all_shown text ds (state_after st d) h.1
-    ∙ ap (λ (s : State). answers_of text s (map call_of ds)) (met_leaves text st d h.0))
+    let e = met_shows text st d h.0 in
+    both e.0 (all_shown text ds (state_after st d) h.1 ∙ ap (λ (s : State). answers_of text s (map call_of ds)) e.1)
 
 pub promised_histories : PromisedHistories
 promised_histories text index note other done h =

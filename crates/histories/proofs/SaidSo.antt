@@ -1,4 +1,5 @@
--- The content of an annotation, record by record.
+-- The content of an annotation,
+-- record by record.
 use Prim.Native.Nat.{ℕ, ◌*◌, ◌≤◌, ◌<◌}
 use native.Mathlib.Omega.{arith}
 use mathlib.Core.Path.{◌≡◌, refl, sym, ◌∙◌, ap, subst}

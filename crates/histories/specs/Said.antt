@@ -1,4 +1,5 @@
--- Document 01, Added by design: what an annotation says of a text's groups, sources and items, record by record.
+-- Document 01, Added by design: what an annotation says of a text's groups, sources and items,
+-- record by record.
 use Rattle.std.specs.Prelude.{ℕ, ◌*◌, ◌<◌, ◌≡◌, length, get_or, take}
 use mathlib.Core.List.{List, [], map, flatten, Perm}
 use Rattle.std.proofs.Math.Option.{Option, none, some}

@@ -13,6 +13,7 @@ pub fn demand_2()
 {}
 
 // Demand 3, as specs/Histories states it of the definitions that the promises cite, and specs/Promises of what meets the promises.
+#[tactic(auto, using(crate::proofs::Demand3::demand_3, crate::proofs::Promised::promised_histories))]
 pub fn demand_3()
     ensures of_definitions { Histories }
     ensures of_promises { PromisedHistories }
