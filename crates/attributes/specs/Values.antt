@@ -1,9 +1,9 @@
--- Follows the code; nothing to believe: the bytes that an answer of the code stands for.
-use Rattle.std.specs.Prelude.{ℕ, List, Option as CodeOption, Some, None}
-use Rattle.std.specs.Borrow.{Bor}
-use Rattle.std.proofs.Math.Option.{Option, none, some}
+-- Follows the code; nothing to believe: the words that are left,
+-- as the definition of the attributes has them.
+use Rattle.std.specs.Prelude.{ℕ, List, length}
+use Rattle.attributes.specs.declared.Words.{Words}
+use Rattle.attributes.specs.Attributes.{words_in}
 
--- the value of an attribute
-unfoldable pub value_bytes : CodeOption (Bor (List ℕ)) → Option (List ℕ)
-value_bytes (Some value) = some value.now
-value_bytes None = none
+-- the words that are left
+abbrev pub words_left : Words → List (List ℕ)
+words_left w = words_in (length w.attributes.now) w.attributes.now w.from

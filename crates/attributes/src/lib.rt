@@ -3,8 +3,8 @@
 #![tactic(auto)]
 
 ghost use Rattle.std.specs.Prelude.{◌≡◌, length};
+ghost use Rattle.base.specs.Lent.{lent};
 ghost use Rattle.attributes.specs.Attributes.{word_start, word_end, end_without, stripped, bare, attr_value};
-ghost use Rattle.attributes.specs.Values.{value_bytes};
 
 use base::search::{after_last, first_place};
 use base::slices;
@@ -24,6 +24,35 @@ fn word_end(attributes: &[u8], from: usize) -> usize
     first_place(from, attributes.len(), |i| text::is_white_at(attributes, i))
 }
 
+// The words of the attributes that are left: those that begin at `from` or after it.
+#[derive(Clone, Copy)]
+struct Words<'a> {
+    attributes: &'a [u8],
+    from: usize,
+}
+
+#[tactic(auto, using(crate::proofs::WordLaws::word_laws))]
+impl<'a> Iterator for Words<'a> {
+    ghost use Rattle.std.specs.Iterator.{YieldsFirstRef, item_count};
+    ghost use Rattle.attributes.specs.Values.{words_left};
+
+    type Item = &'a [u8];
+
+    ghost next_gives = { YieldsFirstRef words_left };
+
+    ghost remaining = { item_count words_left };
+
+    // The next word, if one is left.
+    fn next(&mut self) -> Option<&'a [u8]> {
+        let start = word_start(self.attributes, self.from);
+        if self.attributes.len() <= start {
+            return None;
+        }
+        self.from = word_end(self.attributes, start);
+        Some(&self.attributes[start..self.from])
+    }
+}
+
 // Where the bytes from `a` on end without the bytes `b` at the end.
 fn end_without(s: &[u8], b: u8, a: usize) -> usize
     ensures { result ≡ end_without b s.now a (length s.now) }
@@ -32,7 +61,7 @@ fn end_without(s: &[u8], b: u8, a: usize) -> usize
 }
 
 // The bytes without the bytes `b` at both ends.
-#[tactic(auto, using(crate::proofs::Words::strip_laws))]
+#[tactic(auto, using(crate::proofs::WordLaws::strip_laws))]
 fn stripped<'a>(s: &'a [u8], b: u8) -> &'a [u8]
     ensures { result.now ≡ stripped b s.now }
 {
@@ -50,14 +79,15 @@ fn bare<'a>(value: &'a [u8]) -> &'a [u8]
 }
 
 // The value of the first word `key=value`. A word without `=` before it ends the search.
-#[tactic(auto, using(crate::proofs::Words::rest_laws))]
+#[tactic(auto, using(crate::proofs::WordLaws::value_laws))]
 pub fn attr_value<'a>(attributes: &'a [u8], key: &[u8]) -> Option<&'a [u8]>
-    ensures { value_bytes result ≡ attr_value attributes.now key.now }
+    ensures { lent result ≡ attr_value attributes.now key.now }
 {
-    let mut start = word_start(attributes, 0);
-    while start < attributes.len() {
-        let end = word_end(attributes, start);
-        let word = &attributes[start..end];
+    let words = Words {
+        attributes,
+        from: 0,
+    };
+    for word in words {
         let equals = slices::find_byte(word, b'=', 0, word.len());
         if word.len() <= equals {
             return None;
@@ -65,7 +95,6 @@ pub fn attr_value<'a>(attributes: &'a [u8], key: &[u8]) -> Option<&'a [u8]>
         if &word[..equals] == key {
             return Some(bare(&word[equals + 1..]));
         }
-        start = word_start(attributes, end);
     }
     None
 }

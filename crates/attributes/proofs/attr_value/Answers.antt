@@ -1,25 +1,19 @@
--- The answers of `attributes::attr_value`: a word lies within the attributes, and gives the value or leaves it to the words after it.
-use Rattle.std.proofs.Common.{rules}
-use Rattle.attributes.proofs.Words.{rest_laws}
+-- `attributes::attr_value`: all words are left,
+-- and one without `=` or with the key ends the search.
+use Rattle.std.proofs.Common.{refl}
+use Rattle.attributes.specs.Attributes.{words_of, attr_value}
+use Rattle.attributes.proofs.WordLaws.{value_plain, value_given}
 use Rattle.attributes.proofs.attr_value.Goals as goal
 
-pub slice_bounds-word-count : goal.slice_bounds-word-count
-slice_bounds-word-count c = search (rest_laws, rules)
-
-pub slice_bounds-word-start : goal.slice_bounds-word-start
-slice_bounds-word-start c = search (rest_laws, rules)
-
-pub slice_bounds-word-end : goal.slice_bounds-word-end
-slice_bounds-word-end c = search (rest_laws, rules)
+pub loop-word-init : goal.loop-word-init
+unfolding attr_value words_of
+loop-word-init c = rw c.into_iter-word-iterator.ensures.into_iter_gives refl
 
 pub returns-then-word-equals : goal.returns-then-word-equals
-returns-then-word-equals c = search (rest_laws, rules)
+returns-then-word-equals c =
+    value_plain c.args.key.now c.loop-word.invariant c.in-Some.word.now _ c.in-Some.ensures.steps c.find_byte-equals.ensures c.if-word-equals.true
 
 pub returns-then-eq : goal.returns-then-eq
-returns-then-eq c = search (rest_laws, rules)
-
-pub loop-start-smaller : goal.loop-start-smaller
-loop-start-smaller c = search (rest_laws, rules)
-
-pub returns : goal.returns
-returns c = search (rest_laws, rules)
+returns-then-eq c =
+    value_given c.args.key.now c.loop-word.invariant c.in-Some.word.now _ c.in-Some.ensures.steps c.find_byte-equals.ensures c.if-word-equals.false
+    c.eq.ensures c.if-eq.true c.bare.ensures

@@ -1,10 +1,9 @@
--- The invariant of `attributes::attr_value`: the words from `start` on give the value.
-use Rattle.std.proofs.Common.{length, ◌-◌}
-use Rattle.attributes.proofs.Words.{Rest}
+-- The invariant of `attributes::attr_value`:
+-- the words that are left give the value.
+use Rattle.std.proofs.Common.{◌≡◌}
+use Rattle.attributes.specs.Attributes.{attr_value, value_in}
+use Rattle.attributes.specs.Values.{words_left}
 use Rattle.attributes.proofs.attr_value.Given as goal
 
-abbrev pub invariant-loop-start : goal.invariant-loop-start
-invariant-loop-start l = Rest l.attributes l.key l.start
-
-abbrev pub decreases-loop-start : goal.decreases-loop-start
-decreases-loop-start l = length l.attributes - l.start
+abbrev pub invariant-loop-word : goal.invariant-loop-word
+invariant-loop-word l = attr_value l.attributes l.key ≡ value_in l.key (words_left l.word-iterator)
