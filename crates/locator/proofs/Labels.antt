@@ -1,4 +1,5 @@
--- The label at a place: in the form of the needs, and where what follows it begins.
+-- The label at a place: page or a matcher's,
+-- and where what follows it begins.
 use Prim.Native.Nat.{ℕ, ◌+◌, ◌≤◌}
 use native.Mathlib.Omega.{arith}
 use mathlib.Core.Path.{◌≡◌, refl, sym}

@@ -1,4 +1,5 @@
--- What callers cite of a locator: its code, and where its parts lie. `l` is what `parse_locator` gave.
+-- What callers cite of a locator: its code, and where its parts lie.
+-- `l` is what `parse_locator` gave.
 use Prim.Native.Nat.{ℕ, ◌+◌, ◌≤◌}
 use native.Mathlib.Omega.{arith}
 use mathlib.Core.Path.{◌≡◌, refl}
@@ -41,7 +42,7 @@ code_by Line = omega arith
 code_by Book = omega arith
 
 -- what holds of nothing, of a plain locator and of a labelled one holds of every locator
-by_cases
+pub by_cases
     : (P : Locator → Type 0) (s : List ℕ) (a e : ℕ) → P Nothing → ((i : ℕ) → P (Plain (span_of i e)))
     → ((t : Term) (x y z : ℕ) → P (Labelled t (span_of x y) (span_of z e))) → P (locator_of s a e)
 unfolding locator_of locator_from labelled valued

@@ -1,4 +1,5 @@
--- The table of the code as matchers, row by row: where a matcher stands, and where none is left.
+-- The table of the code as matchers, row by row: where a matcher stands,
+-- and where none is left.
 use Prim.Native.Nat.{ℕ, ◌+◌, ◌≤◌, ◌<◌}
 use native.Mathlib.Numerals.{add-one}
 use mathlib.Core.Path.{◌≡◌, refl, sym, ◌∙◌}

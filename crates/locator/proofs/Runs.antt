@@ -1,4 +1,5 @@
--- THEOREMS `RunsWhole` and `RulesPart`: which runs of letters a value takes in, and where it is not the Rust's.
+-- THEOREMS `RunsWhole` and `RulesPart`: which runs of letters a value takes in,
+-- and where it is not the Rust's.
 use Prim.Native.Nat.{ℕ, ◌+◌, ◌-◌, ◌≤◌, ◌<◌}
 use native.Mathlib.Omega.{arith}
 use mathlib.Core.Path.{◌≡◌, refl, sym, ◌∙◌, ap}

@@ -1,17 +1,18 @@
--- How far a value goes, step by step, in the form of the needs: `w` is what the invariant speaks of.
+-- How far a value goes, step by step: on after a digit or a mark,
+-- on after a whole run of Roman letters, and no further elsewhere.
 use Prim.Native.Nat.{ℕ, ◌+◌, ◌-◌, ◌≤◌, ◌<◌}
 use native.Mathlib.Omega.{arith}
 use mathlib.Core.Path.{◌≡◌, refl, sym, ◌∙◌, ap}
 use mathlib.Core.List.{List}
+use lib.ListN.{length}
 use mathlib.Core.Bool.{Bool, true, false, ◌&&◌, ◌||◌, not}
 use lib.Dec.{eqb}
 use borrow.Author.Tests.{eq-eqb, eqb-true}
-use Rattle.base.specs.Pick.{pick}
 use Rattle.base.specs.First.{first}
 use Rattle.base.specs.Lists.{byte_at}
 use Rattle.base.proofs.Searches.{first_from, first_by, first_fails, first_pass, first_out, first_stop, first_more}
 use Rattle.locator.specs.Locators.{is_letter, is_roman, is_digit_or_mark, letters_end, roman_end, in_value, value_run}
-use Rattle.locator.specs.Steps.{value_step}
+use Rattle.locator.specs.Steps.{GoesOn}
 
 pub unnot : (b : Bool) → not b ≡ false → b ≡ true
 unnot true h = refl
@@ -28,11 +29,6 @@ and_no false = refl
 -- the end of a run of bytes that pass a test
 abbrev run_of : (ℕ → Bool) → List ℕ → ℕ → ℕ → ℕ
 run_of p s i e = first (λ k. not (p (byte_at s k))) (e - i) i
-
-module _ (s : List ℕ) (i e : ℕ) where
-  pub run_out : {r : ℕ} → r ≡ value_run s i e → e ≤ i → i ≡ r
-  unfolding value_run
-  run_out q h = first_out (λ k. not (in_value s e k)) i e q h
 
 -- a Roman run that begins at `k` or before
 module _ (s : List ℕ) (k e : ℕ) (h : k < e) where
@@ -66,43 +62,40 @@ module _ (s : List ℕ) (k e : ℕ) (h : k < e) where
       let f : ℕ → Bool = λ j. not (is_roman (byte_at s j)) in
       omega (arith, first_more f k e {w = first f (e - k) k} refl h (ap not t), first_from f (e - (k + 1)) (k + 1))
 
-  -- where the value stays, it ends
-  stays : (m t : Bool) → is_digit_or_mark (byte_at s k) ≡ m → eqb (roman_end s k e) (letters_end s k e) ≡ t
-      → pick m (k + 1) (pick t (letters_end s k e) k) ≡ k → in_value s e k ≡ false
-  unfolding in_value
-  stays true t p q u = absurd (omega arith)
-  stays false false p q u = rw (p, q) (and_no (is_roman (byte_at s k)))
-  stays false true p q u = rw (p, q) (go (is_roman (byte_at s k)) refl)
-    where
-      go : (b : Bool) → is_roman (byte_at s k) ≡ b → b && true ≡ false
-      go true r = let g = roman_some r in absurd (omega (arith, eqb-true (roman_end s k e) (letters_end s k e) q))
-      go false r = refl
+-- the step of a value that has reached `k`, in a text that ends where the locator does
+module _ (s : List ℕ) (k : ℕ) where
+  abbrev ends : ℕ → Bool
+  ends j = not (in_value s (length s) j)
 
-  -- elsewhere it goes on from the next place
-  goes : (m t : Bool) → is_digit_or_mark (byte_at s k) ≡ m → eqb (roman_end s k e) (letters_end s k e) ≡ t
-      → (pick m (k + 1) (pick t (letters_end s k e) k) ≡ k → ⊥)
-      → (k < pick m (k + 1) (pick t (letters_end s k e) k)) × (value_run s k e ≡ value_run s (pick m (k + 1) (pick t (letters_end s k e) k)) e)
-  unfolding value_run in_value
-  goes true t p q u =
-      (omega arith, first_more (λ j. not (in_value s e j)) k e {w = value_run s k e} refl h (rw p refl))
-  goes false false p q u = absurd (u refl)
-  goes false true p q u =
-      let c = eqb-true (roman_end s k e) (letters_end s k e) q in
-      let a = letters_from in
-      let b = letters_by in (
-        omega arith,
-        first_pass (λ j. not (in_value s e j)) k (letters_end s k e) e a (omega arith) (λ x l g. ap not (run_inside c x l g)),
-      )
+  pub step_out : length s ≤ k → value_run s k (length s) ≡ k
+  unfolding value_run
+  step_out h = sym (first_out ends k (length s) refl h)
 
-module _ (s : List ℕ) (k e : ℕ) {w n : ℕ} (p : w ≡ value_run s k e) (h : k < e) (q : n ≡ value_step s k e) where
-  pub step_stop : n ≡ k → k ≡ w
-  unfolding value_step value_run
-  step_stop u = first_stop (λ j. not (in_value s e j)) k e p h (ap not (stays s k e h _ _ refl refl (sym q ∙ u)))
+  -- inside, where its byte is `b`
+  module _ {b : ℕ} (h : k < length s) (q : b ≡ byte_at s k) where
+    -- after a digit or a mark it goes on
+    pub step_byte : true ≡ is_digit_or_mark b → GoesOn s k (k + 1)
+    unfolding value_run in_value
+    step_byte t = (omega arith, omega arith, first_more ends k (length s) {w = value_run s k (length s)} refl h (rw (← q, ← t) refl))
 
-  pub step_more : (n ≡ k → ⊥) → w ≡ value_run s n e
-  unfolding value_step
-  step_more u = rw q (p ∙ (goes s k e h _ _ refl refl (λ z. u (q ∙ z))).1)
+    module _ {n : ℕ} (z : n ≡ roman_end s k (length s)) where
+      -- after letters that are all Roman
+      pub step_letters : k < n → letters_end s k (length s) ≡ n → GoesOn s k n
+      unfolding value_run
+      step_letters l r =
+          let e = length s in
+          let g : n ≤ e = omega (arith, letters_by s k e h, r) in
+          (l, g, first_pass ends k n e (omega arith) g (λ x m y. ap not (run_inside s k e h (sym z ∙ sym r) x m (rw r y))))
 
-pub step_less : (s : List ℕ) (k e : ℕ) {n : ℕ} → k < e → n ≡ value_step s k e → (n ≡ k → ⊥) → e - n < e - k
-unfolding value_step
-step_less s k e h q u = let g = (goes s k e h _ _ refl refl (λ z. u (q ∙ z))).0 in omega (arith, q)
+      -- elsewhere it ends
+      pub step_stops : false ≡ is_digit_or_mark b → (k < n → letters_end s k (length s) ≡ n → ⊥) → value_run s k (length s) ≡ k
+      unfolding value_run in_value
+      step_stops t u =
+          sym
+          (first_stop ends k (length s) refl h
+          (rw (← q, ← t, ← z) (go (is_roman b) (eqb n (letters_end s k (length s))) refl refl)))
+        where
+          go : (r c : Bool) → is_roman b ≡ r → eqb n (letters_end s k (length s)) ≡ c → not (r && c) ≡ true
+          go false c x y = refl
+          go true false x y = refl
+          go true true x y = absurd (u (omega (arith, roman_some s k (length s) h (ap is_roman (sym q) ∙ x), z)) (sym (eqb-true _ _ y)))

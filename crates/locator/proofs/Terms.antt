@@ -1,4 +1,5 @@
--- THEOREMS `SpellingsAreMatchers`, `Matchers51` and `SpellingsFound`, by computing.
+-- THEOREMS `SpellingsAreMatchers`, `Matchers51` and `SpellingsFound`,
+-- by computing.
 use mathlib.Core.Path.{refl}
 use Rattle.base.specs.Lists.{up_from}
 use Rattle.base.specs.Ascii.{ascii}

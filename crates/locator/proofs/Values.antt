@@ -1,4 +1,5 @@
--- Value, suffix and the whole locator, in the form of the needs: `r` is what a call gave.
+-- Value, suffix and the whole locator as the code finds them, step by step:
+-- `l`, `v`, `p` and `r` are what calls gave.
 use Prim.Native.Nat.{ℕ, ◌≤◌, ◌<◌}
 use native.Mathlib.Omega.{arith}
 use mathlib.Core.Path.{◌≡◌, refl, sym}
@@ -12,15 +13,11 @@ use Rattle.locator.specs.declared.Label.{Label}
 use Rattle.locator.specs.declared.Locator.{Locator}
 use Rattle.locator.specs.declared.Locator.TheVariants.{Nothing, Plain}
 use Rattle.locator.specs.Locators.{skip_blanks, value_run, valued, label_of, labelled, locator_from, locator_of}
-use Rattle.locator.proofs.Parts.{run_from, run_by, skip_by}
+use Rattle.locator.proofs.Parts.{run_by, skip_by}
 use Rattle.locator.proofs.Labels.{label_by_lem}
 
-module _ (s : List ℕ) (v e : ℕ) where
-  pub run_after : {r : ℕ} → r ≡ value_run s v e → v ≤ r
-  run_after q = rw q (run_from s v e)
-
-  pub run_within : {r : ℕ} → r ≡ value_run s v e → v ≤ e → e ≤ length s → r ≤ length s
-  run_within q h g = omega (arith, q, run_by s v e)
+pub run_within : (s : List ℕ) (v : ℕ) → v ≤ length s → value_run s v (length s) ≤ length s
+run_within s v h = omega (arith, run_by s v (length s))
 
 -- the stretch from `a` to `e`, which begins at `i` after leading blanks
 module _ (s : List ℕ) (a e : ℕ) where
@@ -42,3 +39,5 @@ module _ (s : List ℕ) (a e : ℕ) where
         → v ≡ skip_blanks s l.after e → r ≡ valued s l.term v e → r ≡ locator_of s a e
     unfolding locator_of locator_from labelled
     locator_labelled t p r = rw (← q, lt-leb e i h, ← t, ← p) r
+
+pub ruleset locator_laws = (value_start, locator_nothing, locator_plain, locator_labelled)

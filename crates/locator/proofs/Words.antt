@@ -1,17 +1,19 @@
--- A matcher's word at a place, byte after byte.
-use Prim.Native.Nat.{ℕ, ◌+◌, ◌≤◌, ◌<◌}
+-- A matcher's word at a place: byte after byte,
+-- and beside the rest of the text.
+use Prim.Native.Nat.{ℕ, ◌+◌, ◌-◌, ◌≤◌, ◌<◌}
 use native.Mathlib.Numerals.{add-one}
 use native.Mathlib.Omega.{arith}
-use mathlib.Core.Path.{◌≡◌, refl}
+use mathlib.Core.Path.{◌≡◌, refl, ap}
 use mathlib.Core.List.{List, [], ◌∷◌}
-use mathlib.Core.Bool.{true, false, ◌&&◌}
-use lib.ListN.{length, get_or, drop, drop_of_length-le}
-use lib.Seq.{drop-cons}
+use mathlib.Core.Bool.{Bool, true, false, ◌&&◌}
+use lib.ListN.{length, take, drop, length-drop}
+use lib.Seq.{drop-cons, take_all}
 use lib.Dec.{eqb, ltb}
-use borrow.Author.Tests.{lt-ltb, le-ltb, eq-eqb, ne_eqb, ltb-true}
+use borrow.Author.Tests.{lt-ltb, ltb-true}
 use Rattle.std.specs.Char.{to_ascii_lowercase}
 use Rattle.std.proofs.lemmas.Grind.{common_steps}
 use Rattle.std.proofs.lemmas.Bool.Decides.{nat_tests}
+use Rattle.std.specs.List.{list_all, zip}
 use Rattle.base.specs.Lists.{byte_at}
 use Rattle.base.proofs.Bools.{and_left, and_right}
 use Rattle.locator.specs.Locators.{lower, fits}
@@ -21,27 +23,18 @@ pub lower_is : (b : ℕ) → to_ascii_lowercase b ≡ lower b
 unfolding lower
 lower_is b = grind (arith, nat_tests, common_steps)
 
--- the bytes of a word from `k` on, the word standing at `i`
-module _ (w : List ℕ) (k : ℕ) (s : List ℕ) (i e : ℕ) where
-  pub fits_all : length w ≤ k → true ≡ fits (drop k w) s (i + k) e
-  unfolding fits
-  fits_all h = rw (drop_of_length-le w {i = k} h) refl
+-- a byte of a word, and the byte that stands at its place
+abbrev pub alike : ℕ × ℕ → Bool
+alike p = eqb (to_ascii_lowercase p.1) p.0
 
-  module _ (h : k < length w) where
-    pub fits_end : e ≤ i + k → false ≡ fits (drop k w) s (i + k) e
-    unfolding fits
-    fits_end f = rw (drop-cons w k 0 h, le-ltb (i + k) e f) refl
+-- a word that is no longer than the rest of the text fits where each of its bytes stands there
+fits_drop : (w s : List ℕ) (i : ℕ) → length w ≤ length s - i → list_all alike (zip w (drop i s)) ≡ fits w s i (length s)
+unfolding fits
+fits_drop [] s i h = refl
+fits_drop (x ∷ xs) s i h = rw (drop-cons s i 0 (omega arith), lt-ltb i (length s) (omega arith), ← add-one i, lower_is) (ap (λ t. eqb (lower (byte_at s i)) x && t) (fits_drop xs s (i + 1) (omega arith)))
 
-    module _ (f : i + k < e) where
-      pub fits_other : (lower (byte_at s (i + k)) ≡ get_or w k 0 → ⊥) → false ≡ fits (drop k w) s (i + k) e
-      unfolding fits
-      fits_other n = rw (drop-cons w k 0 h, lt-ltb (i + k) e f, ne_eqb _ _ n) refl
-
-      pub fits_more : lower (byte_at s (i + k)) ≡ get_or w k 0 → fits (drop k w) s (i + k) e ≡ fits (drop (k + 1) w) s (i + (k + 1)) e
-      unfolding fits
-      fits_more q =
-          let z : i + (k + 1) ≡ i + k + 1 = omega arith in
-          rw (z, add-one k, drop-cons w k 0 h, lt-ltb (i + k) e f, eq-eqb _ _ q) refl
+pub fits_alike : (w s : List ℕ) (i : ℕ) → length w ≤ length s - i → list_all alike (zip w (take (length s - i) (drop i s))) ≡ fits w s i (length s)
+fits_alike w s i h = rw (take_all (length s - i) (drop i s) (omega (arith, length-drop i s))) (fits_drop w s i h)
 
 -- a word that fits ends by the end
 pub fits_by : (w s : List ℕ) (i e : ℕ) → i ≤ e → fits w s i e ≡ true → i + length w ≤ e
@@ -52,3 +45,11 @@ fits_by (x ∷ xs) s i e h t =
     let back = and_right (ltb i e && eqb (lower (byte_at s i)) x) (fits xs s (i + 1) e) t in
     let room = ltb-true i e (and_left (ltb i e) (eqb (lower (byte_at s i)) x) front) in
     omega (arith, fits_by xs s (i + 1) e (omega arith) back)
+
+-- a longer word than the rest of the text does not fit
+pub fits_no : (w s : List ℕ) (i : ℕ) → i ≤ length s → length s - i < length w → fits w s i (length s) ≡ false
+fits_no w s i l h = go (fits w s i (length s)) refl
+  where
+    go : (t : Bool) → fits w s i (length s) ≡ t → t ≡ false
+    go true q = absurd (omega (arith, fits_by w s i (length s) l q))
+    go false q = refl

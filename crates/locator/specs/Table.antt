@@ -1,4 +1,5 @@
--- Follows the code; nothing to believe: a table of the code as matchers.
+-- Follows the code; nothing to believe: a table of words and terms of the code,
+-- as matchers.
 use Rattle.std.specs.Prelude.{ℕ, List, [], ◌∷◌}
 use Rattle.std.specs.Borrow.{Bor}
 use Rattle.locator.specs.declared.Term.{Term}

@@ -1,22 +1,14 @@
--- The answers of `locator::fits_at`: one byte of the word.
-use Rattle.std.proofs.Common.{sym, ◌∙◌}
-use Rattle.locator.proofs.Words.{fits_all, fits_end, fits_other, fits_more}
-use Rattle.locator.proofs.fits_at.Goals.{then-e-i-via-then-e-i, then-e-i-via-else-e-i+then-to_lower-word}
+-- The answer of `locator::fits_at`: the bytes of the word beside those of the text,
+-- by a law of proofs/Words.
+use Rattle.std.proofs.Common.{◌∙◌, rules}
+use Rattle.std.proofs.lemmas.Iterator.{YieldsList-from_slice, YieldsList-from_zip}
+use Rattle.std.proofs.lemmas.Iterator.Search.{all_from_yields_List}
+use Rattle.locator.proofs.Words.{alike, fits_alike}
 use Rattle.locator.proofs.fits_at.Goals as goal
 
-pub returns-then-e-i : goal.returns-then-e-i
-returns-then-e-i c = elim c.then-e-i.branch [
-  | then-e-i-via-then-e-i w ↦ fits_end _ _ _ _ _ c.loop-k-test.true w.if-e-i.true ∙ sym c.loop-k.invariant
-  | then-e-i-via-else-e-i+then-to_lower-word w ↦
-      fits_other _ _ _ _ _ c.loop-k-test.true w.if-e-i.false
-      (λ q. w.if-to_lower-word.true (w.to_lower.ensures ∙ q))
-      ∙ sym c.loop-k.invariant
-]
-
-pub loop-k-preserved : goal.loop-k-preserved
-loop-k-preserved c =
-    c.loop-k.invariant
-    ∙ fits_more _ _ _ _ _ c.loop-k-test.true c.if-e-i.false (sym c.to_lower.ensures ∙ c.if-to_lower-word.false)
-
-pub returns : goal.returns
-returns c = fits_all _ _ _ _ _ c.loop-k-test.false ∙ sym c.loop-k.invariant
+pub returns-then-word-text : goal.returns-then-word-text
+returns-then-word-text c =
+    all_from_yields_List alike c.all.new.self _ c.all.result c.all.ensures.ran
+    (YieldsList-from_zip (YieldsList-from_slice c.args.word.now (cc)) (YieldsList-from_slice _ (cc)))
+    (λ x b q k. search rules)
+    ∙ fits_alike _ _ _ c.if-word-text.true

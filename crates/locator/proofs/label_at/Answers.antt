@@ -1,4 +1,5 @@
--- The answers of `locator::label_at`: a digit, with which no matcher begins, and the table of the code, which antt computes.
+-- The answers of `locator::label_at`: a digit, with which no matcher begins,
+-- and the table of the code, which antt computes.
 use Rattle.std.proofs.Common.{sym, ◌∙◌}
 use Rattle.base.specs.Ascii.{ascii}
 use Rattle.locator.specs.Matchers.{matchers}

@@ -1,4 +1,5 @@
--- The answers of `locator::match_in`: one row of the table.
+-- The answers of `locator::match_in`: one row of the table,
+-- and where no row is left.
 use Rattle.std.proofs.Common.{sym, ◌∙◌}
 use Rattle.locator.proofs.Rows.{match_here, match_next, match_none}
 use Rattle.locator.proofs.match_in.Goals as goal
