@@ -6,7 +6,7 @@ use mathlib.Core.Path.{◌≡◌, refl, sym, ◌∙◌, ap}
 use mathlib.Core.List.{List, []}
 use mathlib.Core.Bool.{Bool, true, false}
 use lib.ListN.{length, take, drop, length-take, length-drop, get_or-eq_default}
-use lib.Seq.{take-take, take_all, get_or-take, get_or-drop, ext_get_or}
+use lib.Seq.{get_or-take, get_or-drop, ext_get_or}
 use lib.Dec.{ltb}
 use borrow.Author.Tests.{le-leb, lt-leb, ltb-true, ltb-false}
 use Rattle.base.specs.Lists.{byte_at, part}
@@ -48,22 +48,7 @@ module _ (s : List ℕ) (a e : ℕ) (l : a ≤ e) (h : e ≤ length s) where
       ∙ ap (byte_at s) z
       ∙ sym (part_byte s (a + x) (a + y) (omega arith) (omega arith) i (omega arith)))
 
-  pub take_part : (n : ℕ) → a + n ≤ e → take n (part s a e) ≡ part s a (a + n)
-  take_part n m =
-      let z : a + n - a ≡ n = omega arith in
-      rw (part_is s a e l h, part_is s a (a + n) (omega arith) (omega arith), take-take n (e - a) (drop a s) (omega arith), z) refl
-
-  pub drop_part : (n : ℕ) → a + n ≤ e → drop n (part s a e) ≡ part s (a + n) e
-  drop_part n m =
-      let k = part_length s a e l h in
-      let z : a + (e - a) ≡ e = omega arith in
-      let y : length (drop n (part s a e)) ≤ e - a - n = rw length-drop (omega arith) in
-      sym (take_all (e - a - n) (drop n (part s a e)) y)
-      ∙ sym (part_is (part s a e) n (e - a) (omega arith) (omega arith))
-      ∙ part_part n (e - a) (omega arith) (omega arith)
-      ∙ ap (part s (a + n)) z
-
--- `n` bytes from `a` on, in the form of the needs
+-- `n` bytes from `a` on, in the form of the goals
 module _ (s : List ℕ) (a n : ℕ) where
   pub part_in : a ≤ length s → n ≤ length s - a → take (a + n - a) (drop a s) ≡ part s a (a + n)
   part_in p q = sym (part_is s a (a + n) (omega arith) (omega arith))

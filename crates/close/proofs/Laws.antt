@@ -1,4 +1,5 @@
--- Laws on the scan for a close: its steps, in the form of the code's needs, and what callers need to know of a close.
+-- Laws on the scan for a close: its steps, unrolled at a place,
+-- and what callers need to know of a close.
 use Prim.Native.Nat.{ℕ, zero, suc, ◌+◌, ◌-◌, ◌≤◌, ◌<◌, min}
 use native.Mathlib.Omega.{arith}
 use mathlib.Core.Path.{◌≡◌, refl, sym, ◌∙◌, ap, subst}
@@ -10,33 +11,9 @@ use borrow.Author.Tests.{eq-eqb, ne_eqb, eqb-true, eqb-false}
 use Rattle.base.specs.Pick.{pick}
 use Rattle.base.specs.Lists.{byte_at}
 use Rattle.close.specs.declared.Depth.{Depth}
-use Rattle.std.specs.Prelude.{Option, Some, None}
+use Rattle.std.specs.Prelude.{Some, None}
 use Rattle.close.specs.Scan.{depth, step_of, close_in, scan_from, close_within, close_of}
 use Rattle.close.specs.Facts.{ShortAgrees, ShortNone}
-
--- one byte, by cases
-module _ (d : Depth) (b : ℕ) where
-  pub step_pass : d.pass ≡ true → depth d.nest false ≡ step_of d b
-  unfolding step_of
-  step_pass p = rw p
-
-  pub step_slash : d.pass ≡ false → b ≡ 92 → depth d.nest true ≡ step_of d b
-  unfolding step_of
-  step_slash p q = rw (p, eq-eqb _ _ q)
-
-  pub step_up : d.pass ≡ false → (b ≡ 92 → ⊥) → b ≡ 91 → depth (d.nest + 1) false ≡ step_of d b
-  unfolding step_of
-  step_up p q u = rw (p, ne_eqb _ _ q, eq-eqb _ _ u)
-
-  pub step_down : d.pass ≡ false → (b ≡ 92 → ⊥) → (b ≡ 91 → ⊥) → b ≡ 93 → depth (d.nest - 1) false ≡ step_of d b
-  unfolding step_of
-  step_down p q u v = rw (p, ne_eqb _ _ q, ne_eqb _ _ u, eq-eqb _ _ v)
-
-  pub step_on : d.pass ≡ false → (b ≡ 92 → ⊥) → (b ≡ 91 → ⊥) → (b ≡ 93 → ⊥) → depth d.nest false ≡ step_of d b
-  unfolding step_of
-  step_on p q u v = rw (p, ne_eqb _ _ q, ne_eqb _ _ u, ne_eqb _ _ v)
-
-pub ruleset step_laws = (step_pass, step_slash, step_up, step_down, step_on)
 
 -- what holds of each case of a step holds of the step; only a `]` takes 1 off
 step_cases : (P : Depth → Type 0) (d : Depth) (b : ℕ) → ((e : Bool) → P (depth d.nest e)) → P (depth (d.nest + 1) false)
@@ -63,46 +40,30 @@ step_le d b = step_cases (λ e. e.nest ≤ d.nest + 1) d b (λ e. omega arith) (
 pub step_ends : (d : Depth) (b : ℕ) → 0 < d.nest → (step_of d b).nest ≡ 0 → b ≡ 93
 step_ends d b h = step_cases (λ e. e.nest ≡ 0 → b ≡ 93) d b (λ e z. absurd (omega arith)) (λ z. absurd (omega arith)) (λ q z. q)
 
--- an unrolled step: `e` is the state after the byte, as a call of `step` leaves it
-close_here : (n : ℕ) (s : List ℕ) (i : ℕ) (d : Depth) {e : Depth} → 0 < n → e ≡ step_of d (byte_at s i) → e.nest ≡ 0 → close_in n s i d ≡ Some i
-unfolding close_in
-close_here zero s i d h q z = absurd (omega arith)
-close_here (suc n) s i d h q z = rw (← q, eq-eqb _ _ z)
-
-close_on : (n : ℕ) (s : List ℕ) (i : ℕ) (d : Depth) {e : Depth} → 0 < n → e ≡ step_of d (byte_at s i) → (e.nest ≡ 0 → ⊥)
-    → close_in n s i d ≡ close_in (n - 1) s (i + 1) e
-unfolding close_in
-close_on zero s i d h q z = absurd (omega arith)
-close_on (suc n) s i d h q z = let p : suc n - 1 ≡ n = omega arith in rw (p, ← q, ne_eqb _ _ z)
-
-close_end : (n : ℕ) (s : List ℕ) (i : ℕ) (d : Depth) → n ≤ 0 → close_in n s i d ≡ None
-unfolding close_in
-close_end zero s i d h = refl
-close_end (suc n) s i d h = absurd (omega arith)
-
--- the scan up to `end`, in the form of the needs: `r` is what the loop's invariant speaks of, `e` the state after the byte
+-- the scan up to `end`, unrolled at the place `i` in the depth `d`
 module _ (s : List ℕ) (i end : ℕ) (d : Depth) where
-  pub found : {r : Option ℕ} {e : Depth} → r ≡ close_in (end - i) s i d → i < end → e ≡ step_of d (byte_at s i) → e.nest ≡ 0 → Some i ≡ r
-  found p h q z = sym (p ∙ close_here (end - i) s i d (omega arith) q z)
+  left : i < end → end - i ≡ suc (end - (i + 1))
+  left h = omega arith
 
-  pub further : {r : Option ℕ} {e : Depth} → r ≡ close_in (end - i) s i d → i < end → e ≡ step_of d (byte_at s i) → (e.nest ≡ 0 → ⊥)
-      → r ≡ close_in (end - (i + 1)) s (i + 1) e
-  further {e = e} p h q z =
-      let n : end - i - 1 ≡ end - (i + 1) = omega arith in
-      p ∙ close_on (end - i) s i d (omega arith) q z ∙ ap (λ (m : ℕ). close_in m s (i + 1) e) n
+  pub found : i < end → (step_of d (byte_at s i)).nest ≡ 0 → close_in (end - i) s i d ≡ Some i
+  unfolding close_in
+  found h z = rw (left h, eq-eqb _ _ z)
 
-  pub ended : {r : Option ℕ} → r ≡ close_in (end - i) s i d → end ≤ i → None ≡ r
-  ended p h = sym (p ∙ close_end (end - i) s i d (omega arith))
+  pub further : i < end → ((step_of d (byte_at s i)).nest ≡ 0 → ⊥)
+      → close_in (end - i) s i d ≡ close_in (end - (i + 1)) s (i + 1) (step_of d (byte_at s i))
+  unfolding close_in
+  further h z = rw (left h, ne_eqb _ _ z)
 
-pub close_start : (s : List ℕ) (at limit : ℕ) {n : ℕ} → n ≡ min limit (length s - at)
-    → close_within limit s at ≡ close_in (at + n - (at + 1)) s (at + 1) (depth 1 false)
+  pub ended : end ≤ i → close_in (end - i) s i d ≡ None
+  unfolding close_in
+  ended h = let z : end - i ≡ 0 = omega arith in rw z
+
+pub close_start : (s : List ℕ) (at limit : ℕ)
+    → close_within limit s at ≡ close_in (at + min limit (length s - at) - (at + 1)) s (at + 1) (depth 1 false)
 unfolding close_within scan_from
-close_start s at limit {n} e = ap (λ (m : ℕ). close_in m s (at + 1) (depth 1 false)) (omega arith)
+close_start s at limit = ap (λ (m : ℕ). close_in m s (at + 1) (depth 1 false)) (omega arith)
 
-pub step_bound : (d : Depth) (b i : ℕ) {e : Depth} → e ≡ step_of d b → d.nest ≤ i → e.nest ≤ i + 1
-step_bound d b i q h = let l = step_le d b in rw q (omega arith)
-
-pub ruleset laws = (found, further, ended, close_start, step_bound)
+pub ruleset laws = (found, further, ended, close_start, step_le)
 
 -- For callers. Two answers are the same only if their places are.
 pub at_inj : {a b : ℕ} → Some a ≡ Some b → a ≡ b

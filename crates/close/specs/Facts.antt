@@ -1,4 +1,5 @@
--- Theorems: what the look at 64 bytes tells of the unlimited scan.
+-- Theorems: what the look at 64 bytes tells of the unlimited scan,
+-- where it finds a close and where it finds none.
 use Rattle.std.specs.Prelude.{ℕ, ◌-◌, ◌≤◌, ◌≡◌, List, length, Some, None}
 use Rattle.close.specs.Scan.{close_within, close_of}
 

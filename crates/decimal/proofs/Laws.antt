@@ -1,4 +1,5 @@
--- The digits of a number, unrolled, in the form of the needs.
+-- The digits of a number: how many they are, and the loop that writes them.
+-- The laws are in the form of the goals.
 use Prim.Native.Nat.{ℕ, zero, suc, ◌+◌, ◌-◌, ◌*◌, ◌/◌, ◌^◌, max, ◌%◌, ◌≤◌, ◌<◌}
 use native.Mathlib.Omega.{arith}
 use mathlib.Core.Path.{◌≡◌, refl, sym, ◌∙◌}
@@ -72,7 +73,7 @@ digits_pow n k l a b = rw decimal_length (count (leb 1 n) refl)
 
 pub ruleset count_laws = (digits_pow)
 
--- the loop that writes from the back: one digit more
+-- one digit more
 digits_step : (k m : ℕ) (out : List ℕ) → 0 < k → k ≤ length out
     → last_digits (k - 1) (m / 10) ++ drop (k - 1) (set out (k - 1) (48 + m % 10)) ≡ last_digits k m ++ drop k out
 unfolding last_digits
@@ -83,18 +84,21 @@ digits_step (suc k) m out h l =
     rw (p, drop-cons (set out k (48 + m % 10)) k 0 b, get_or-set_same out k (48 + m % 10) 0 l, drop-set-lt (suc k) out k (48 + m % 10) (omega arith))
     (sym (append_assoc (last_digits k (m / 10)) ((48 + m % 10) ∷ []) (drop (suc k) out)))
 
--- with `i` places left and `m` to be written there
-module _ (n i m : ℕ) (s out : List ℕ) where
-  pub write_start : i ≡ length (decimal n) → last_digits i n ++ drop i s ≡ written (decimal n) s
-  unfolding written decimal
-  write_start e = rw (e, digits_length) refl
+-- the loop that writes from the back: `i` places are left of `out`, which was `s`, and `m` is to be written there
+pub record Writing (n i m : ℕ) (s out : List ℕ) : Type 0 where
+  pub long : length out ≡ length s
+  pub left : last_digits i m ++ drop i out ≡ written (decimal n) s
 
-  pub write_step : last_digits i m ++ drop i out ≡ written (decimal n) s → 0 < i → i ≤ length out
-      → last_digits (i - 1) (m / 10) ++ drop (i - 1) (set out (i - 1) (48 + m % 10)) ≡ written (decimal n) s
-  write_step e h l = digits_step i m out h l ∙ e
+pub write_start : (n i : ℕ) (s : List ℕ) → i ≡ length (decimal n) → Writing n i n s s
+unfolding written decimal
+write_start n i s e = record { long = refl; left = rw (e, digits_length) refl }
 
-  pub write_done : last_digits i m ++ drop i out ≡ written (decimal n) s → i ≤ 0 → out ≡ written (decimal n) s
+module _ (n i m : ℕ) (s out : List ℕ) (w : Writing n i m s out) where
+  pub write_step : 0 < i → i ≤ length out → Writing n (i - 1) (m / 10) s (set out (i - 1) (48 + m % 10))
+  write_step h l = record { long = rw length-set w.long; left = digits_step i m out h l ∙ w.left }
+
+  pub write_done : i ≤ 0 → out ≡ written (decimal n) s
   unfolding last_digits
-  write_done e h = let p : i ≡ 0 = omega arith in rw p at e
+  write_done h = let p : i ≡ 0 = omega arith in rw p at w.left
 
 pub ruleset write_laws = (write_start, write_step, write_done)

@@ -1,4 +1,5 @@
--- Document 01, throughout: numbers in decimal.
+-- Document 01, throughout: numbers in decimal,
+-- how many digits one has and which.
 use Rattle.std.specs.Prelude.{ℕ, zero, suc, ◌+◌, ◌/◌, ◌%◌, List, [], ◌∷◌, ◌++◌, leb}
 use Rattle.base.specs.Pick.{pick}
 

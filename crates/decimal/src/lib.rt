@@ -1,5 +1,5 @@
-// Numbers in decimal, written at the front of a lent area.
-// The digits are written from the last one on.
+// Numbers in decimal: how many digits one has, and its digits at the front of a lent area.
+// (No `Display`: `write!` promises the bytes only where it returns `Ok`, and the writer here can't fail.)
 #![tactic(auto)]
 
 ghost use Rattle.std.specs.Prelude.{◌≡◌, ◌≤◌, length};
@@ -14,7 +14,8 @@ pub fn digit_count(n: u64) -> usize
     1 + n.max(1).ilog10() as usize
 }
 
-// `n` in decimal at the front of `out`.
+// `n` in decimal at the front of `out`. (An index, and no `iter_mut().rev()`: of what is written through that a proof knows nothing. `as`, since the
+// check proves that a digit fits; `try_from` would answer an error that can't come.)
 #[tactic(auto, using(crate::proofs::Laws::write_laws))]
 pub fn write_decimal(out: &mut [u8], n: u64)
     requires { length (decimal n) ≤ length out.old }

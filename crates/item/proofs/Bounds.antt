@@ -1,4 +1,5 @@
--- Each part of a good item ends by the end of its stretch: what a caller's casts ask for.
+-- Each part of a good item ends by the end of its stretch:
+-- what a caller's casts ask for.
 use Prim.Native.Nat.{ℕ, ◌+◌, ◌≤◌}
 use native.Mathlib.Omega.{arith}
 use mathlib.Core.Path.{◌≡◌, refl, subst}

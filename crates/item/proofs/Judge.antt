@@ -1,4 +1,5 @@
--- The judgement on the items between a bracket and its close: what it says of them, and one piece at a time.
+-- The judgement on the items between a bracket and its close:
+-- what it says of them, and one piece at a time.
 use Prim.Native.Nat.{ℕ, suc, ◌+◌}
 use native.Mathlib.Omega.{arith}
 use mathlib.Core.Path.{◌≡◌, refl, ap}

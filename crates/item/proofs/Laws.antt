@@ -1,4 +1,5 @@
--- One item: which `@` wins, and the item's parts. Laws in the form of the code's needs have as premises what the callees and the branches say.
+-- One item: which `@` wins, the trimmed stretch of an item,
+-- and the item's parts.
 use Prim.Native.Nat.{ℕ, ◌+◌, ◌-◌, ◌≤◌, ◌<◌}
 use native.Mathlib.Omega.{arith}
 use mathlib.Core.Path.{◌≡◌, refl, sym, ◌∙◌, ap}
@@ -16,7 +17,7 @@ use Rattle.base.proofs.Searches.{first_out}
 use Rattle.text.specs.Trim.{trim_start, trim_end}
 use Rattle.text.proofs.Trims.{end_by}
 use Rattle.key.specs.Keys.{is_mark, run_end, key_end}
-use Rattle.key.proofs.Laws.{key_by_lem, key_ends}
+use Rattle.key.proofs.Laws.{key_ends}
 use Rattle.item.specs.declared.Item.{Item}
 use Rattle.item.specs.Items.{key_serves, wins, winner, suppresses, item_at, item_in, item_of, is_good}
 use Rattle.item.specs.Facts.{MarkServesNot}
@@ -70,44 +71,36 @@ in_empty : (s : List ℕ) (a e : ℕ) → e ≤ a → item_in s a e ≡ None
 unfolding item_in
 in_empty s a e h = rw (le-ltb (winner s a e) e (omega (arith, winner_out s e a h)))
 
-module _ (s : List ℕ) (start end : ℕ) {a : ℕ} (p : a ≡ trim_start s start end) where
+-- the stretch from `start` to `end`
+module _ (s : List ℕ) (start end : ℕ) where
+  abbrev a : ℕ
+  a = trim_start s start end
+
+  abbrev e : ℕ
+  e = trim_end s a end
+
+  -- what is trimmed off the end leaves the stretch in the text
+  pub trimmed_fits : a < e → end ≤ length s → e ≤ length s
+  trimmed_fits h g = omega (arith, end_by s a end)
+
   -- nothing but white space
-  pub item_empty : end ≤ a → None ≡ item_of s start end
+  pub item_empty : e ≤ a → item_of s start end ≡ None
   unfolding item_of
-  item_empty h = rw (← p) (sym (in_empty s a (trim_end s a end) (omega (arith, end_by s a end))))
+  item_empty h = in_empty s a e h
 
-  pub empty_no_good : end ≤ a → false ≡ is_good (item_of s start end)
-  empty_no_good h = ap is_good (item_empty h)
+  pub item_bad : e ≤ winner s a e → item_of s start end ≡ None
+  unfolding item_of item_in
+  item_bad h = rw (le-ltb (winner s a e) e h)
 
-  module _ {e : ℕ} (q : e ≡ trim_end s (trim_start s start end) end) where
-    ends : e ≡ trim_end s a end
-    ends = q ∙ rw (← p)
+  pub item_good : winner s a e < e → item_of s start end ≡ Some (item_at s a e (winner s a e) (key_end s (winner s a e + 1)))
+  unfolding item_of item_in
+  item_good h = rw (lt-ltb (winner s a e) e h)
 
-    -- what is trimmed off the end leaves the stretch in the text
-    pub trimmed_fits : a < end → end ≤ length s → e ≤ length s
-    trimmed_fits h g = omega (arith, ends, end_by s a end)
-
-    pub good_is : {w : ℕ} → w ≡ winner s a e → ltb w e ≡ is_good (item_of s start end)
-    unfolding item_of
-    good_is r = rw (← p, ← ends, r) (sym (in_good s a e))
-
-    module _ {w : ℕ} (r : w ≡ winner s a e) where
-      pub item_good : {it : Item} → w < e → it ≡ item_at s a e w (key_end s (w + 1)) → Some it ≡ item_of s start end
-      unfolding item_of item_in
-      item_good h d = rw (← p, ← ends, ← r, lt-ltb w e h, d)
-
-      pub item_bad : e ≤ w → None ≡ item_of s start end
-      unfolding item_of item_in
-      item_bad h = rw (← p, ← ends, ← r, le-ltb w e h)
+pub ruleset item_laws = (trimmed_fits, item_empty, item_bad, item_good)
 
 -- its parts ------------------------------------------------------------------------------------------------------------------------
 
 -- there is a `-` before the `@`
-pub suppressed_past : (s : List ℕ) (a i : ℕ) {b : Bool} → b ≡ suppresses s a i → b ≡ true → 0 < i
+pub suppressed_past : (s : List ℕ) (a i : ℕ) → suppresses s a i ≡ true → 0 < i
 unfolding suppresses
-suppressed_past s a i q t =
-    let h = ltb-true a i (and_left (ltb a i) _ (and_left (ltb a i && eqb (byte_at s (i - 1)) 45) _ (sym q ∙ t))) in omega arith
-
--- the key of an `@` at `i` ends in the text
-pub key_fits : (s : List ℕ) (e i : ℕ) {m : ℕ} → m ≡ key_end s (i + 1) → i < e → e ≤ length s → m ≤ length s
-key_fits s e i p h g = omega (arith, key_by_lem s (i + 1) (omega arith))
+suppressed_past s a i t = let h = ltb-true a i (and_left (ltb a i) _ (and_left (ltb a i && eqb (byte_at s (i - 1)) 45) _ t)) in omega arith

@@ -1,4 +1,5 @@
--- THEOREMS `ItemLocal` and `PiecesLocal`: what an item is, it is by its own bytes.
+-- THEOREMS `ItemLocal` and `PiecesLocal`:
+-- what an item is, it is by its own bytes.
 use Prim.Native.Nat.{ℕ, zero, suc, ◌+◌, ◌-◌, ◌≤◌, ◌<◌}
 use native.Mathlib.Omega.{arith}
 use mathlib.Core.Path.{◌≡◌, refl, sym, ◌∙◌, ap}
@@ -215,10 +216,10 @@ module _ (s : List ℕ) (a e : ℕ) (l : a ≤ e) (h : e ≤ length s)
           ∙ without_same x (run_end t (x + 1)) (omega arith) (omega (arith, k))
           ∙ ap (λ (m : ℕ). m + a) (key_yes t x (omega (arith, k)) refl r refl refl)
       in_part p false r =
-          sym (key_not s (x + a) (omega arith) (ap is_first (same x p)) r)
-          ∙ ap (λ (m : ℕ). m + a) (key_not t x (omega (arith, k)) refl r)
+          key_not s (x + a) (omega arith) (ap is_first (same x p)) r
+          ∙ ap (λ (m : ℕ). m + a) (sym (key_not t x (omega (arith, k)) refl r))
 
-      at_stop : (b : Bool) → ltb e (length s) ≡ b → e ≡ key_end s e
+      at_stop : (b : Bool) → ltb e (length s) ≡ b → key_end s e ≡ e
       at_stop true p = key_not s e (ltb-true e (length s) p) refl no_first
       at_stop false p = key_out s e (ltb-false e (length s) p)
 
@@ -227,7 +228,7 @@ module _ (s : List ℕ) (a e : ℕ) (l : a ≤ e) (h : e ≤ length s)
       go false p =
           let m = ltb-false x n p in
           let z : x + a ≡ e = omega arith in
-          rw z (sym (at_stop (ltb e (length s)) refl)) ∙ sym z ∙ ap (λ (m : ℕ). m + a) (key_out t x (omega (arith, k)))
+          rw z (at_stop (ltb e (length s)) refl) ∙ sym z ∙ ap (λ (m : ℕ). m + a) (sym (key_out t x (omega (arith, k))))
 
   -- the item
   start_same : (x y : ℕ) → y ≤ n → trim_start s (x + a) (y + a) ≡ trim_start t x y + a

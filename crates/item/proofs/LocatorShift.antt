@@ -1,4 +1,5 @@
--- A locator in two lists of bytes: where those of `t` before `e` are those of `s` from `d` on, it is the same, moved.
+-- A locator in two lists of bytes: where those of `t` before `e` are those of `s` from `d` on,
+-- it is the same, moved.
 use Prim.Native.Nat.{ℕ, ◌+◌, ◌-◌, ◌≤◌, ◌<◌}
 use native.Mathlib.Omega.{arith}
 use mathlib.Core.Path.{◌≡◌, refl, sym, ap}

@@ -1,4 +1,5 @@
--- The pieces between a bracket and its close, one whole piece at a time: the first ends at the first `;`, and the others follow it.
+-- The pieces between a bracket and its close, one whole piece at a time:
+-- the first ends at the first `;`, and the others follow it.
 use Prim.Native.Nat.{ℕ, zero, suc, ◌+◌, ◌-◌, ◌≤◌, ◌<◌}
 use native.Mathlib.Omega.{arith}
 use mathlib.Core.Path.{◌≡◌, refl, sym, ◌∙◌, ap}
@@ -89,24 +90,24 @@ module _ (s : List ℕ) (a e : ℕ) {q : ℕ} (p : q ≡ first (semicolon_at s) 
   rest_good g h = and_right (is_good (item_of s a q)) _ (sym (all_more h) ∙ g)
 
 -- the items of the bracket at `p` begin right after it or one byte on
-module _ (s : List ℕ) (p : ℕ) {a : ℕ} (d : a ≡ items_start s p) where
-  starts_after : p < a
+module _ (s : List ℕ) (p : ℕ) where
+  starts_after : p < items_start s p
   unfolding items_start
-  starts_after = rw d (go (plus_at s p))
+  starts_after = go (plus_at s p)
     where
       go : (t : Bool) → p < pick t (p + 2) (p + 1)
       go true = omega arith
       go false = omega arith
 
-  pub starts_by : a ≤ p + 2
+  pub starts_by : items_start s p ≤ p + 2
   unfolding items_start
-  starts_by = rw d (go (plus_at s p))
+  starts_by = go (plus_at s p)
     where
       go : (t : Bool) → pick t (p + 2) (p + 1) ≤ p + 2
       go true = omega arith
       go false = omega arith
 
-  pub starts_past : 0 < a
+  pub starts_past : 0 < items_start s p
   starts_past = omega (arith, starts_after)
 
 -- where all pieces are good there are as many items as pieces

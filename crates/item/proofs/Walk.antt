@@ -1,7 +1,8 @@
--- The walk over the pieces of a group: one piece of it, and the judgement that it makes.
+-- The walk over the pieces of a group: one piece of it,
+-- and the judgement that it makes.
 use Prim.Native.Nat.{ℕ, zero, suc, ◌+◌, ◌-◌, ◌≤◌, ◌<◌}
 use native.Mathlib.Omega.{arith}
-use mathlib.Core.Path.{◌≡◌, refl, sym, ◌∙◌, ap}
+use mathlib.Core.Path.{◌≡◌, sym, ◌∙◌, ap}
 use mathlib.Core.List.{List, [], ◌∷◌}
 use mathlib.Core.Bool.{Bool, true, false}
 use lib.ListN.{length}
@@ -53,7 +54,7 @@ pub pieces_end : (s : List ℕ) (p c : ℕ) → p < c → c < length s → Each 
 unfolding pieces_of pieces
 pieces_end s p c h k =
     let a = items_start s p in
-    let b : a ≤ p + 2 = starts_by s p refl in
+    let b : a ≤ p + 2 = starts_by s p in
     ends_in s (length s) (c - a) a a (omega arith)
 
 -- what the loop of the judgement keeps: `left` are the pieces that are left, after `n` good ones
@@ -66,8 +67,8 @@ pub judging_start : (s : List ℕ) (p c : ℕ) {left : List Stretch} → p < c �
 unfolding judged_of pieces_of pieces
 judging_start s p c h k e =
     let a = items_start s p in
-    let b : a ≤ p + 2 = starts_by s p refl in
-    let d : 0 < a = starts_past s p refl in
+    let b : a ≤ p + 2 = starts_by s p in
+    let d : 0 < a = starts_past s p in
     rw e
     record {
       ends = pieces_end s p c h k;
@@ -88,5 +89,5 @@ module _ {s : List ℕ} {p c n : ℕ} {x : Stretch} {left rest : List Stretch} (
   unfolding parsed past
   judging_bad g = sym ((rw e at j.judges) ∙ rw (in_bad s x rest g) (ap (λ (i : ℕ). Err (bad_item_at i)) (omega arith)))
 
-pub judging_done : {s : List ℕ} {p c n : ℕ} {left : List Stretch} → Judging s p c n left → left ≡ [] → Ok n ≡ judged_of s p c
-judging_done {s} {p} {c} {n} j e = sym ((rw e at j.judges) ∙ past_all s n)
+pub judging_done : (s : List ℕ) (p c n : ℕ) (left : List Stretch) → Judging s p c n left → left ≡ [] → Ok n ≡ judged_of s p c
+judging_done s p c n left j e = sym ((rw e at j.judges) ∙ past_all s n)

@@ -1,4 +1,5 @@
--- Cases: items, the pieces of a group and the judgement on them.
+-- Cases: items, the pieces of a group
+-- and the judgement on them.
 use Rattle.std.specs.Prelude.{ℕ, ◌≡◌, refl, [], ◌∷◌, true, false, Some, None, Ok, Err}
 use Rattle.item.specs.Judge.{bad_item_at}
 use Rattle.base.specs.Ascii.{ascii}

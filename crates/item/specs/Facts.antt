@@ -1,4 +1,5 @@
--- Theorems: what the papers claim of an item's parts, and of a key before a mark, proved in proofs/.
+-- Theorems: what the papers claim of an item's parts, and of a key before a mark,
+-- proved in proofs/.
 use Rattle.std.specs.Prelude.{ℕ, ◌+◌, ◌-◌, ◌≤◌, ◌<◌, ◌≡◌, List, [], ◌∷◌, false, length, Some}
 use Rattle.base.specs.Lists.{byte_at, part}
 use Rattle.base.specs.Sorted.{Each}

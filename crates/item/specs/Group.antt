@@ -1,4 +1,5 @@
--- Document 01, Corners of the Rust: a group by the places of its bracket and of its close.
+-- Document 01, Corners of the Rust: a group
+-- by the places of its bracket and of its close.
 use Rattle.std.specs.Prelude.{ℕ, List, Bool}
 use Rattle.item.specs.declared.Item.{Item}
 use Rattle.item.specs.Pieces.{all_good, pieces_of, items_of}

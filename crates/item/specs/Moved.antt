@@ -1,4 +1,5 @@
--- Theorems: parts, items and pieces moved by a number of bytes, for `ItemLocal` and `PiecesLocal`.
+-- Theorems: parts, items and pieces moved by a number of bytes,
+-- for `ItemLocal` and `PiecesLocal`.
 use Rattle.std.specs.Prelude.{ℕ, ◌+◌, eqb, Option, Some, None}
 use Rattle.base.specs.Pick.{pick}
 use Rattle.base.specs.declared.Span.{Span}

@@ -1,4 +1,5 @@
--- Follows the code; nothing to believe: the walk over the pieces of a stretch.
+-- Follows the code; nothing to believe: the walk over the pieces of a stretch,
+-- by those that are left.
 use Rattle.std.specs.Prelude.{ℕ, List, [], Option, Some, None}
 use Rattle.item.specs.declared.GroupPieces.{GroupPieces}
 use Rattle.item.specs.declared.Piece.{Piece}

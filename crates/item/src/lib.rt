@@ -1,11 +1,12 @@
-// One item of a group, and the judgement on all items between a bracket and its close.
+// One item of a group, its pieces between a bracket and its close, and the judgement on all of them. A stretch of the text is told by its places
+// and is no slice: where an item ends, the key and the white space are read from the bytes after it, too.
 #![tactic(auto)]
 
-ghost use Rattle.std.specs.Prelude.{◌≡◌, ◌+◌, ◌-◌, ◌≤◌, ◌<◌, length};
+ghost use Rattle.std.specs.Prelude.{◌≡◌, ◌+◌, ◌-◌, ◌≤◌, ◌<◌, length, MatchOption, Some, None};
 ghost use Rattle.base.specs.First.{first};
 ghost use Rattle.item.specs.Facts.{ItemInOrder, ItemsInOrder, ItemLocal, PiecesLocal, PlusPassed, MarkServesNot};
 ghost use Rattle.key.specs.Keys.{key_end};
-ghost use Rattle.item.specs.Items.{key_serves, wins, winner, suppresses, prefix_end, item_at, item_of, is_good};
+ghost use Rattle.item.specs.Items.{wins, winner, suppresses, prefix_end, item_at, item_of, is_good};
 ghost use Rattle.item.specs.Pieces.{semicolon_at, plus_at, items_start};
 ghost use Rattle.item.specs.Judge.{judged_of};
 ghost use Rattle.std.specs.Option.{ForSome};
@@ -60,31 +61,51 @@ pub fn piece_end(text: &[u8], from: usize, end: usize) -> usize
     find_byte(text, b';', from, end)
 }
 
-// Whether a key from `k` up to `m` ends the trimmed item at `e` or meets `,`.
-#[tactic(auto, unfolding(crate::specs::Items::key_serves))]
-fn key_serves(text: &[u8], e: usize, k: usize, m: usize) -> bool
-    requires { e ≤ length text.now }
-    ensures { result ≡ key_serves text.now e k m }
-{
-    k < m && (m == e || m < e && text[m] == b',')
-}
-
 // Whether an unescaped `@` stands at `i`, with a key that ends the trimmed item at `e` or meets `,`.
-#[tactic(auto, unfolding(crate::specs::Items::wins, crate::specs::Items::at_sign))]
+#[tactic(auto, unfolding(crate::specs::Items::wins, crate::specs::Items::at_sign, crate::specs::Items::key_serves))]
 fn wins_at(text: &[u8], e: usize, i: usize) -> bool
     requires { (i < e) × (e ≤ length text.now) }
     ensures { result ≡ wins text.now e i }
 {
-    text[i] == b'@' && !is_escaped_at(text, i) && key_serves(text, e, i + 1, parse_key(text, i + 1))
+    text[i] == b'@'
+        && !is_escaped_at(text, i)
+        && parse_key(text, i + 1).is_some_and(|m| m == e || m < e && text[m] == b',')
 }
 
-// The place of the first `@` with a key in the trimmed item from `a` to `e` (`wins_at`), or the later of `a` and `e`.
+// The place of the first `@` with a key in the trimmed item from `a` to `e` (`wins_at`).
 #[tactic(auto, unfolding(crate::specs::Items::winner))]
-fn find_winner(text: &[u8], a: usize, e: usize) -> usize
+fn find_winner(text: &[u8], a: usize, e: usize) -> Option<usize>
     requires { e ≤ length text.now }
-    ensures { result ≡ winner text.now a e }
+    ensures { MatchOption result (e ≤ winner text.now a e) (λ i. (i ≡ winner text.now a e) × (i < e)) }
 {
-    first_place(a, e, |i| wins_at(text, e, i))
+    let i = first_place(a, e, |i| wins_at(text, e, i));
+    if i < e { Some(i) } else { None }
+}
+
+// A good item whose parts are not read yet: its trimmed stretch, from `start` up to `end`, and the place of its `@`.
+#[derive(Clone, Copy)]
+struct Found {
+    start: usize,
+    end: usize,
+    at: usize,
+}
+
+// The good item in the stretch from `start` to `end`.
+#[tactic(auto, using(crate::proofs::Laws::item_laws))]
+fn find_item(text: &[u8], start: usize, end: usize) -> Option<Found>
+    requires { end ≤ length text.now }
+    ensures { MatchOption result (item_of text.now start end ≡ None) (λ f. (f.at < f.end) × (f.end ≤ length text.now) × (item_of text.now start end ≡ Some (item_at text.now f.start f.end f.at (key_end text.now (f.at + 1))))) }
+{
+    let item = trim(text, start, end);
+    if item.end <= item.start {
+        return None;
+    }
+    let at = find_winner(text, item.start, item.end)?;
+    Some(Found {
+        start: item.start,
+        end: item.end,
+        at,
+    })
 }
 
 // Whether the stretch from `start` to `end` is a good item.
@@ -92,8 +113,7 @@ fn is_good_item(text: &[u8], start: usize, end: usize) -> bool
     requires { end ≤ length text.now }
     ensures { result ≡ is_good (item_of text.now start end) }
 {
-    let item = trim(text, start, end);
-    item.start < end && find_winner(text, item.start, item.end) < item.end
+    find_item(text, start, end).is_some()
 }
 
 // Whether an unescaped `-` just before the `@` at `i` suppresses the author, in an item that begins at `a`.
@@ -106,7 +126,7 @@ fn is_suppressed(text: &[u8], a: usize, i: usize) -> bool
 }
 
 // Where the prefix of an item that begins at `a` ends, its `@` being at `i`.
-#[tactic(auto, unfolding(crate::specs::Items::prefix_end))]
+#[tactic(auto, using(crate::proofs::Laws::suppressed_past), unfolding(crate::specs::Items::prefix_end))]
 fn prefix_end(text: &[u8], a: usize, i: usize) -> usize
     requires { i ≤ length text.now }
     ensures { result ≡ prefix_end text.now a i }
@@ -119,12 +139,12 @@ fn prefix_end(text: &[u8], a: usize, i: usize) -> usize
 }
 
 // The parts of the trimmed item from `a` to `e` whose `@` is at `i`.
-#[tactic(auto, unfolding(crate::specs::Items::item_at, crate::specs::Items::locator_start))]
+#[tactic(auto, using(key::proofs::Laws::key_by_lem), unfolding(crate::specs::Items::item_at, crate::specs::Items::locator_start))]
 fn item_at(text: &[u8], a: usize, e: usize, i: usize) -> Item
     requires { (i < e) × (e ≤ length text.now) }
     ensures { result ≡ item_at text.now a e i (key_end text.now (i + 1)) }
 {
-    let key = parse_key(text, i + 1);
+    let key = parse_key(text, i + 1).unwrap_or(i + 1);
     let locator = trim_start(text, key + 1, e);
     Item {
         prefix: span_of(a, prefix_end(text, a, i)),
@@ -140,16 +160,8 @@ pub fn parse_item(text: &[u8], start: usize, end: usize) -> Option<Item>
     requires { end ≤ length text.now }
     ensures { result ≡ item_of text.now start end }
 {
-    let item = trim(text, start, end);
-    if end <= item.start {
-        return None;
-    }
-    let i = find_winner(text, item.start, item.end);
-    if i < item.end {
-        Some(item_at(text, item.start, item.end, i))
-    } else {
-        None
-    }
+    let found = find_item(text, start, end)?;
+    Some(item_at(text, found.start, found.end, found.at))
 }
 
 // A piece of the text, the places from `from` up to `to`.
@@ -179,6 +191,7 @@ impl<'a> Iterator for GroupPieces<'a> {
 
     ghost remaining = { item_count pieces_left };
 
+    // The piece that begins at `next`; the next one begins after its `;`.
     fn next(&mut self) -> Option<Piece> {
         let from = self.next?;
         let to = piece_end(self.text, from, self.end);
@@ -192,6 +205,7 @@ impl<'a> GroupPieces<'a> {
     ghost use Rattle.item.specs.Walk.{pieces_left};
 
     // The pieces between the bracket at `p` and the close at `c`.
+    #[tactic(auto, using(crate::proofs::Pieces::starts_by), unfolding(crate::specs::Pieces::pieces_of))]
     pub fn between(text: &'a [u8], p: usize, c: usize) -> GroupPieces<'a>
         requires { (p < c) × (c < length text.now) }
         ensures { pieces_left result ≡ pieces_of text.now p c }
@@ -205,10 +219,12 @@ impl<'a> GroupPieces<'a> {
 }
 
 // How many items stand between the bracket at `p` and the close at `c`, where all are good; else the first bad one.
+#[tactic(auto, using(crate::proofs::Walk::judging_done))]
 pub fn judge_items(text: &[u8], p: usize, c: usize) -> Result<usize, BadItem>
     requires { (p < c) × (c < length text.now) }
     ensures { result ≡ judged_of text.now p c }
 {
+    // a counter and no `enumerate`: the count of all is an answer, too
     let mut count = 0;
     for piece in GroupPieces::between(text, p, c) {
         if !is_good_item(text, piece.from, piece.to) {

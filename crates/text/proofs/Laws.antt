@@ -1,4 +1,5 @@
--- Escapes, and the ends of trimmed stretches, unrolled at a place.
+-- Escapes, and the ends of trimmed stretches,
+-- unrolled at a place.
 use Prim.Native.Nat.{ℕ, zero, suc, ◌+◌, ◌-◌, ◌%◌, ◌≤◌, ◌<◌}
 use native.Mathlib.Omega.{arith}
 use mathlib.Core.Path.{◌≡◌, refl, sym, ◌∙◌, ap}

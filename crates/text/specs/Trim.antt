@@ -1,4 +1,5 @@
--- Document 01, Corners of the Rust: trimming: a stretch of a text without the white space at its ends.
+-- Document 01, Corners of the Rust: trimming:
+-- a stretch of a text without the white space at its ends.
 use Rattle.std.specs.Prelude.{ℕ, ◌-◌, List, not, length}
 use Rattle.base.specs.Lists.{part}
 use Rattle.base.specs.First.{first}

@@ -1,4 +1,5 @@
--- UTF-8: how wide a character is, a text read character by character, and what refuses a text in the calls that ask for more.
+-- UTF-8: how wide a character is, a text read character by character,
+-- and what refuses a text in the calls that ask for more.
 use Prim.Native.Nat.{ℕ, zero, suc, ◌+◌, ◌-◌, ◌≤◌, ◌<◌}
 use native.Mathlib.Omega.{arith}
 use mathlib.Core.Path.{◌≡◌, refl, sym, ◌∙◌}

@@ -1,4 +1,5 @@
--- THEOREMS `EncodedIsUtf8`, `Utf8IsEncoded` and `DecodedIsBack`: the accepted bytes are the encodings of lists of code points, of one each.
+-- THEOREMS `EncodedIsUtf8`, `Utf8IsEncoded` and `DecodedIsBack`:
+-- the accepted bytes are the encodings of lists of code points, of one each.
 use Prim.Native.Nat.{ℕ, zero, suc, ◌+◌, ◌-◌, ◌*◌, ◌/◌, ◌%◌, ◌≤◌, ◌<◌}
 use native.Mathlib.Omega.{arith}
 use mathlib.Core.Path.{◌≡◌, refl, sym, ◌∙◌, ap}

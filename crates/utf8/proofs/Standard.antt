@@ -1,4 +1,5 @@
--- The library's UTF-8 (`IsUtf8`) is that of specs/Utf8.
+-- The library's UTF-8 (`IsUtf8`) is that of specs/Utf8:
+-- both are the encodings of the same code points.
 use Prim.Native.Nat.{ℕ, ◌+◌, ◌≤◌, ◌<◌}
 use native.Mathlib.Omega.{arith}
 use mathlib.Core.Path.{◌≡◌, refl, sym, ◌∙◌, subst}

@@ -1,4 +1,5 @@
--- Cases: texts that are UTF-8 and that are not.
+-- Cases: texts that are UTF-8
+-- and texts that are not.
 use Rattle.std.specs.Prelude.{◌≡◌, refl, [], ◌∷◌, true, false}
 use Rattle.utf8.specs.Utf8.{utf8, utf8_in, char_width}
 

@@ -1,4 +1,5 @@
--- Theorems: the encoding of code points as bytes (RFC 3629, section 3), and the code points of a text.
+-- Theorems: the encoding of code points as bytes (RFC 3629, section 3),
+-- and the code points of a text.
 use Rattle.std.specs.Prelude.{ℕ, zero, suc, ◌+◌, ◌-◌, ◌*◌, ◌/◌, ◌%◌, List, [], ◌∷◌, ◌++◌, Bool, ◌&&◌, not, length, leb, ltb}
 use Rattle.base.specs.Pick.{pick}
 use Rattle.base.specs.Lists.{byte_at, within}

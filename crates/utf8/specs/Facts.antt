@@ -1,4 +1,5 @@
--- Theorems: what UTF-8 is, proved in proofs/.
+-- Theorems: what UTF-8 is, the encodings of lists of code points,
+-- proved in proofs/.
 use Rattle.std.specs.Prelude.{ℕ, ◌≡◌, List, true}
 use Rattle.base.specs.Sorted.{Each}
 use Rattle.utf8.specs.Utf8.{utf8}

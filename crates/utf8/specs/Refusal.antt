@@ -1,4 +1,5 @@
--- Document 01, Ten numbers: what refuses a text before anything else is looked at.
+-- Document 01, Ten numbers: what refuses a text before anything else is looked at:
+-- its length, or that it is not UTF-8.
 use Rattle.std.specs.Prelude.{ℕ, List}
 use Rattle.base.specs.Pick.{pick}
 use Rattle.utf8.specs.Utf8.{too_long, utf8}

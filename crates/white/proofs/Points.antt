@@ -1,4 +1,5 @@
--- THEOREMS of specs/Facts: a white character is the encoding of one of the 25 White_Space code points, and each of these is one.
+-- THEOREMS of specs/Facts: a white character is the encoding of one of the 25 White_Space code points,
+-- and each of these is one.
 use Prim.Native.Nat.{ℕ, ◌+◌, ◌-◌, ◌≤◌, ◌<◌}
 use native.Mathlib.Omega.{arith}
 use mathlib.Core.Path.{◌≡◌, refl, sym, ◌∙◌, ap}

@@ -1,4 +1,5 @@
--- White space: how wide a character is, and that a byte below 128 is white space just by itself.
+-- White space: how wide a character is,
+-- and that a byte below 128 is white space just by itself.
 use Prim.Native.Nat.{ℕ, ◌+◌, ◌-◌, ◌≤◌, ◌<◌}
 use native.Mathlib.Omega.{arith}
 use mathlib.Core.Path.{◌≡◌, refl}

@@ -1,4 +1,5 @@
--- Follows the code; nothing to believe: bytes that are no white space by themselves.
+-- Follows the code; nothing to believe: bytes that are no white space by themselves,
+-- whatever stands around them.
 use Rattle.std.specs.Prelude.{ℕ, Bool}
 use Rattle.base.specs.Lists.{within}
 

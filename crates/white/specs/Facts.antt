@@ -1,4 +1,5 @@
--- Theorems: the White_Space code points as a table, and what the definitions say of them, proved in proofs/.
+-- Theorems: the White_Space code points as a table,
+-- and what the definitions say of them, proved in proofs/.
 use Rattle.std.specs.Prelude.{ℕ, ◌+◌, ◌≤◌, ◌<◌, ◌≡◌, List, [], ◌∷◌, true, length, get_or}
 use Rattle.base.specs.Lists.{part}
 use Rattle.utf8.specs.Encoding.{encoding_of}

@@ -1,4 +1,5 @@
--- Document 01, Corners of the Rust: white space, "the 25 White_Space code points".
+-- Document 01, Corners of the Rust: white space, "the 25 White_Space code points",
+-- by the bytes of their encodings.
 use Rattle.std.specs.Prelude.{ℕ, ◌+◌, ◌-◌, List, Bool, ◌&&◌, ◌||◌, eqb, ltb}
 use Rattle.base.specs.Pick.{pick}
 use Rattle.base.specs.Lists.{byte_at, within}

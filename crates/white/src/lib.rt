@@ -7,7 +7,8 @@ ghost use Rattle.white.specs.Facts.{WhiteSpaces25, WhiteHasWidth, WidthIsWhite, 
 ghost use Rattle.white.specs.White.{space_width, is_white};
 ghost use Rattle.white.specs.Bytes.{is_ascii_graphic};
 
-// Whether the byte is an ASCII graphic character, `!` to `~`. Such a byte is no white space, whatever stands around it.
+// Whether the byte is an ASCII graphic character, `!` to `~`. Such a byte is no white space, whatever stands around it. (The library's method with a
+// contract of this crate: the library's speaks of its own definition, and the laws on white space of that in specs/Bytes.)
 pub fn is_ascii_graphic(b: u8) -> bool
     ensures { result ≡ is_ascii_graphic b }
 {

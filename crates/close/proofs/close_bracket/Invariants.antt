@@ -1,4 +1,5 @@
--- The invariant of `close::close_bracket`: what the whole scan finds is what the rest of it finds, from `i` at the depth `d`.
+-- The invariant of `close::close_bracket`: what the whole scan finds is what the rest of it finds,
+-- from `i` at the depth `d`.
 use Rattle.std.proofs.Common.{◌≡◌, ◌-◌, ◌≤◌, ◌<◌}
 use Rattle.close.specs.Scan.{close_in, close_within}
 use Rattle.close.proofs.close_bracket.Given as goal

@@ -1,7 +1,8 @@
--- The answers of `item::judge_items`: the walk begins with all pieces, a piece is good or bad, and none is left.
+-- The answers of `item::judge_items`: the walk begins with all pieces,
+-- and a piece is good or bad.
 use Rattle.std.proofs.Common.{sym, ◌∙◌, ap}
 use Rattle.item.specs.Walk.{pieces_left}
-use Rattle.item.proofs.Walk.{judging_start, judging_bad, judging_more, judging_done}
+use Rattle.item.proofs.Walk.{judging_start, judging_bad, judging_more}
 use Rattle.item.proofs.judge_items.Goals as goal
 
 pub loop-piece-init : goal.loop-piece-init
@@ -15,6 +16,3 @@ returns-then-not-is_good_item c =
 pub loop-piece-preserved : goal.loop-piece-preserved
 loop-piece-preserved c =
     judging_more c.loop-piece.invariant c.in-Some.ensures.steps (sym c.is_good_item.ensures ∙ c.if-not-is_good_item.false)
-
-pub returns : goal.returns
-returns c = judging_done c.loop-piece.invariant c.in-None.ensures.steps.0

@@ -1,4 +1,5 @@
--- The invariant of `item::judge_items`: the judgement on all pieces is that on those that are left, after `count` good ones.
+-- The invariant of `item::judge_items`: the judgement on all pieces is that on those that are left,
+-- after `count` good ones.
 use Rattle.item.specs.Walk.{pieces_left}
 use Rattle.item.proofs.Walk.{Judging}
 use Rattle.item.proofs.judge_items.Given as goal

@@ -1,4 +1,5 @@
--- The answers of `item::theorems`: the theorems of proofs/Parts, proofs/Groups, proofs/Local, proofs/Plus and proofs/Laws.
+-- The answers of `item::theorems`: the theorems of proofs/Parts, proofs/Groups, proofs/Local,
+-- proofs/Plus and proofs/Laws.
 use Rattle.item.proofs.Parts.{item_in_order}
 use Rattle.item.proofs.Groups.{items_in_order}
 use Rattle.item.proofs.Local.{item_local, pieces_local}

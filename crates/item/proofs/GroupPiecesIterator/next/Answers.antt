@@ -1,4 +1,5 @@
--- The answers of the step of `item::GroupPieces`: the first of the pieces that are left, and those after it.
+-- The answers of the step of `item::GroupPieces`: the first of the pieces that are left,
+-- and those after it.
 use Rattle.std.proofs.Common.{arith, ap, length}
 use Rattle.item.proofs.Walk.{walk_more, walk_last}
 use Rattle.item.proofs.GroupPiecesIterator.next.Goals.{then-to-self, else-to-self}
