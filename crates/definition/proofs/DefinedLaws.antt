@@ -1,4 +1,5 @@
--- What defines a key, in the form of the needs.
+-- What defines a key, in the form of the goals of `find`,
+-- and how many entries a pool may have.
 use Prim.Native.Nat.{ℕ, ◌≤◌, ◌<◌}
 use native.Mathlib.Omega.{arith}
 use mathlib.Core.Path.{◌≡◌, refl}
@@ -18,20 +19,23 @@ use Rattle.definition.specs.Entries.{entry_in}
 
 -- the definition of a key --------------------------------------------------------------------------------------------------------
 
--- which it is
-module _ (text pool groups items key : List ℕ) (n : ℕ) {g : ℕ} (p : g ≡ line_in text groups items n key) where
-  pub found_line : g < n → Some (Line g) ≡ found_in text groups items n pool key
+-- which it is: a line, an entry of the pool, or nothing
+module _ (text pool groups items key : List ℕ) (n : ℕ) where
+  pub found_line : {g : ℕ} → g ≡ line_in text groups items n key → g < n → Some (Line g) ≡ found_in text groups items n pool key
   unfolding found_in
-  found_line h = rw (← p, lt-ltb g n h) refl
+  found_line {g} p h = rw (← p, lt-ltb g n h) refl
 
-  module _ {i m : ℕ} (h : n ≤ g) (q : i ≡ entry_in pool key) (r : m ≡ count_of pool) where
-    pub found_entry : i < m → Some (Entry i) ≡ found_in text groups items n pool key
-    unfolding found_in
-    found_entry l = rw (← p, le-ltb g n h, ← q, ← r, lt-ltb i m l) refl
+  module _ (p : line_in text groups items n key ≡ n) where
+    no_line : ltb (line_in text groups items n key) n ≡ false
+    no_line = le-ltb (line_in text groups items n key) n (omega arith)
 
-    pub found_nothing : m ≤ i → None ≡ found_in text groups items n pool key
+    pub found_entry : {i : ℕ} → i ≡ entry_in pool key → i < count_of pool → Some (Entry i) ≡ found_in text groups items n pool key
     unfolding found_in
-    found_nothing l = rw (← p, le-ltb g n h, ← q, ← r, le-ltb i m l) refl
+    found_entry {i} q l = rw (no_line, ← q, lt-ltb i (count_of pool) l) refl
+
+    pub found_nothing : entry_in pool key ≡ count_of pool → None ≡ found_in text groups items n pool key
+    unfolding found_in
+    found_nothing q = rw (no_line, le-ltb (entry_in pool key) (count_of pool) (omega arith)) refl
 
 -- and what it is then
 pub find_is : (text pool groups items key : List ℕ) (n : ℕ) {d : Option Definition} → d ≡ found_in text groups items n pool key
@@ -39,10 +43,7 @@ pub find_is : (text pool groups items key : List ℕ) (n : ℕ) {d : Option Defi
 unfolding definition_in
 find_is text pool groups items key n p = rw p refl
 
-pub below_count : (pool : List ℕ) {i m : ℕ} → m ≡ count_of pool → i < m → i < count_of pool
-below_count pool p h = omega arith
-
-pub ruleset find_laws = (find_is, found_line, found_entry, found_nothing, below_count)
+pub ruleset find_laws = (find_is, found_line, found_entry, found_nothing)
 
 -- a pool has few entries
 pub count_short : (pool : List ℕ) → well_formed pool ≡ true → count_of pool ≤ 8192

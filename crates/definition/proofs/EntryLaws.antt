@@ -1,4 +1,5 @@
--- Entries of the pool, in the form of the needs.
+-- Entries of the pool, in the form of the goals:
+-- what is read of one, and the first with an id.
 use Prim.Native.Nat.{ℕ, zero, suc, ◌+◌, ◌-◌}
 use native.Mathlib.Numerals.{add-one}
 use native.Mathlib.Omega.{arith}
@@ -7,17 +8,18 @@ use mathlib.Core.List.{List, [], ◌∷◌, map}
 use mathlib.Core.Bool.{Bool, true, false}
 use mathlib.Core.Option.{Option, none, some, or_else}
 use lib.Dec.{ltb}
-use borrow.Author.Tests.{lt-ltb, le-ltb, ltb-false}
+use borrow.Author.Tests.{lt-ltb, le-ltb, ltb-true, ltb-false}
 use Rattle.std.specs.Prelude.{Option as Option', Some, None, unwrap_or}
 use Rattle.std.specs.Option.{option_or}
 use Rattle.std.specs.Borrow.{Bor}
 use Rattle.pool.specs.Fields.{Field}
 use Rattle.pool.specs.Entries.{Name, entry_of, field_with, names_in}
-use Rattle.pool.specs.Readers.{lent}
+use Rattle.base.specs.Lent.{lent}
 use Rattle.source.specs.Entry.{author_of, author_by}
 use Rattle.std.specs.Bool.{then_some}
 use Rattle.base.specs.Pick.{pick}
 use Rattle.base.specs.First.{first}
+use Rattle.base.specs.Found.{Found}
 use Rattle.base.specs.Lists.{up_from}
 use Rattle.pool.specs.Layout.{count_of, entry_at, entries_of}
 use Rattle.definition.specs.Defs.{Def, entry_def, entry_defines, first_entry}
@@ -44,15 +46,15 @@ module _ (pool : List ℕ) (i : ℕ) (fs : List Field) (e : entry_of fs ≡ entr
   author_first (Some t) family given h p = rw (p, ← e, h) refl
 
 -- the first of `m` places at which a test holds, where there is one
-pub first_some : (f : ℕ → Bool) (n : ℕ) {i m : ℕ} {r : Option' ℕ} → i ≡ first f (m - 0) 0 → r ≡ then_some (ltb i m) i → m ≡ n
-    → unwrap_or r n ≡ first f n 0
-first_some f n {i} {m} p q e = rw (q, ← e) (go (ltb i m) refl)
+pub found_first : (f : ℕ → Bool) (n : ℕ) {i m : ℕ} {r : Option' ℕ} → i ≡ first f (m - 0) 0 → r ≡ then_some (ltb i m) i → m ≡ n
+    → Found n (first f n 0) r
+found_first f n {i} {m} p q e = rw (q, ← e) (go (ltb i m) refl)
   where
     z : m - 0 ≡ m
     z = omega arith
 
-    go : (t : Bool) → ltb i m ≡ t → unwrap_or (then_some t i) m ≡ first f m 0
-    go true h = rw z at p
+    go : (t : Bool) → ltb i m ≡ t → Found m (first f m 0) (then_some t i)
+    go true h = let k = ltb-true i m h in (rw z at p, k)
     go false h = let k = ltb-false i m h in omega (arith, rw z at p, first_by f m 0)
 
 -- it is the first entry of the list

@@ -1,25 +1,31 @@
--- Definition lines among the group records, in the form of the needs.
+-- Definition lines among the group records, in the form of the goals:
+-- without a colon none starts, and from the end of the last on none does.
 use Prim.Native.Nat.{ℕ, zero, suc, ◌+◌, ◌-◌, ◌≤◌, ◌<◌}
 use native.Mathlib.Omega.{arith}
-use mathlib.Core.Path.{◌≡◌, refl}
+use mathlib.Core.Path.{◌≡◌, refl, sym, subst}
 use mathlib.Core.List.{List}
 use mathlib.Core.Logic.{⊎_elim}
-use mathlib.Core.Bool.{Bool, true, false, and-false}
-use Rattle.std.specs.Prelude.{Option, Some, None, IfSome, unwrap_or}
-use Rattle.base.specs.Pick.{pick}
+use mathlib.Core.Bool.{Bool, false, and-false}
 use Rattle.base.specs.Last.{last_end}
+use Rattle.std.specs.Prelude.{Option}
+use Rattle.std.specs.Option.{unwrap_or}
+use Rattle.base.specs.Found.{Found}
 use Rattle.base.specs.LastPlace.{last}
 use Rattle.definition_line.specs.Lines.{colon_after}
 use Rattle.definition.specs.Lines.{defines_in, defines_key_in, line_in, LinesBelow}
 use Rattle.records.specs.Records.{close_of_record}
+use Rattle.records.proofs.Founds.{found_last}
 use Rattle.base.proofs.Bools.{split}
 use Rattle.base.proofs.Lasts.{last_end_by, last_end_behind}
+use Rattle.base.proofs.Sames.{same_pointwise}
 
 -- without a colon no definition line starts, whatever its key
 pub no_colon : (text groups items key : List ℕ) (g : ℕ) → colon_after text (close_of_record groups g) ≡ false
     → defines_key_in text groups items key g ≡ false
 unfolding defines_key_in defines_in
 no_colon text groups items key g h = rw (h, and-false) refl
+
+pub ruleset key_laws = (no_colon, same_pointwise)
 
 -- from the end of the last definition line on, no group record starts one
 pub below_end : (text groups items : List ℕ) (n : ℕ) {end : ℕ} → end ≡ last_end (defines_in text groups items) (n - 0) 0 0
@@ -35,17 +41,6 @@ below_end text groups items n {end} p =
           (split (f g));
     }
 
--- what a search from the end finds lies below its end
-pub last_inside : (f : ℕ → Bool) (n m : ℕ) (r : Option ℕ) → ((d : ℕ) → unwrap_or r d ≡ last f n d) → n ≤ m → IfSome r (λ g. g < m)
-unfolding last
-last_inside f n m None h l = tt
-last_inside f zero m (Some g) h l = absurd (omega (arith, h (suc g)))
-last_inside f (suc n) m (Some g) h l = go (f n) refl (λ h'. last_inside f n m (Some g) h' (omega arith)) h
-  where
-    go : (t : Bool) → f n ≡ t → (((d : ℕ) → g ≡ last f n d) → g < m) → ((d : ℕ) → g ≡ pick t n (last f n d)) → g < m
-    go true q rec h = omega (arith, h 0)
-    go false q rec h = rec h
-
 -- places at which a test fails do not count
 last_none : (f : ℕ → Bool) (m i d : ℕ) → ((j : ℕ) → i ≤ j → j < i + m → f j ≡ false) → last f (i + m) d ≡ last f i d
 unfolding last
@@ -60,7 +55,7 @@ module _ (text groups items key : List ℕ) (n : ℕ) where
   unfolding defines_key_in
   no_key g p = rw p refl
 
-  pub line_start : (lines : ℕ) → LinesBelow text groups items n lines
+  line_start : (lines : ℕ) → LinesBelow text groups items n lines
       → line_in text groups items n key ≡ last (defines_key_in text groups items key) lines n
   unfolding line_in
   line_start lines b =
@@ -68,5 +63,12 @@ module _ (text groups items key : List ℕ) (n : ℕ) where
       rw e at
       (last_none (defines_key_in text groups items key) (n - lines) lines n (λ g l u. no_key g (b.none g l (omega (arith, b.bounded)))))
 
-  pub line_inside : (lines : ℕ) → LinesBelow text groups items n lines → lines ≤ n
-  line_inside lines b = b.bounded
+  pub line_found : (lines : ℕ) → LinesBelow text groups items n lines → (r : Option ℕ)
+      → ((d : ℕ) → unwrap_or r d ≡ last (defines_key_in text groups items key) lines d) → Found n (line_in text groups items n key) r
+  line_found lines b r h =
+      let P : ℕ → Type 0 = λ place. Found n place r in
+      subst P (sym (line_start lines b)) (found_last (defines_key_in text groups items key) lines n r h b.bounded)
+
+-- all lie below the number of all records
+pub all_below : (text groups items : List ℕ) (n : ℕ) → LinesBelow text groups items n n
+all_below text groups items n = record { bounded = omega arith; none = λ g l u. absurd (omega arith) }

@@ -1,4 +1,5 @@
-// The definition of a key, its number, and what it gives: its key, its author and its year.
+// The definition of a key, its number, and what it gives: its key, its author and its year. That a definition is one of these groups or of the
+// pool's entries (`DefinedIn`) is a clause of each method: a definition is a number, and does not hold the records that it counts in.
 ghost use Rattle.std.specs.Prelude.{◌≡◌, ◌<◌, ◌≤◌};
 ghost use Rattle.attributes.specs.Attributes.{attr_value, author_word, year_word};
 ghost use Rattle.pool.specs.Layout.{count_of, entry_at};
@@ -81,7 +82,8 @@ impl<'a> Definitions<'a> {
         attributes_given(definition_line::attributes(self.text, close, next))
     }
 
-    // The author and the year that a definition gives; none without one.
+    // The author and the year that a definition gives; none without one. (One `match` on the option was tried, as in `key_by`: the borrow
+    // checker does not cover it where the arms give an `AuthorYear`.)
     #[tactic(auto, unfolding(crate::specs::Defined::defined_as, crate::specs::Defs::entry_def))]
     pub fn given_by(&self, d: Option<Definition>) -> AuthorYear<'a>
         requires { DefinedIn self.now.pool.bytes.now self.now.n d }
@@ -113,7 +115,9 @@ impl<'a> Definitions<'a> {
         }
     }
 
-    // The number of a definition: a group's own, an entry's after those of the groups; nothing comes last.
+    // The number of a definition: a group's own, an entry's after those of the groups. `None` has a number too, the one after the last: the
+    // lent `references` hold these numbers while they are sorted. The check proves that each fits `u16`; `try_from` would answer a refusal
+    // that cannot come.
     #[tactic(auto, using(crate::proofs::DefinedLaws::count_short), unfolding(crate::specs::Defined::definition_number))]
     pub fn number_of(&self, d: Option<Definition>) -> u16
         requires { (self.now.n ≤ 32768) × DefinedIn self.now.pool.bytes.now self.now.n d }

@@ -1,6 +1,8 @@
-// Definition lines among the group records.
-ghost use Rattle.std.specs.Prelude.{◌≡◌, ◌<◌, IfSome, unwrap_or};
-ghost use Rattle.definition.specs.Lines.{defines_in, defines_key_in, LinesBelow};
+// Definition lines among the group records: whether one starts at a record, where the last of all starts, and the last of a key.
+// `defines_in` and `lines_end` take the text and the records one by one: what they find is `lines`, without which no `Definitions` is made.
+ghost use Rattle.std.specs.Prelude.{◌≡◌, ◌<◌};
+ghost use Rattle.base.specs.Found.{Found};
+ghost use Rattle.definition.specs.Lines.{defines_in, LinesBelow};
 ghost use Rattle.records.specs.Bounds.{record_bound};
 
 use crate::Definitions;
@@ -20,21 +22,6 @@ fn defines_in(text: &[u8], groups: &[u16], items: &[u16], g: usize) -> bool
         && records::bare_in(items, first)
 }
 
-// Whether it starts one of the key `key`. After most groups no colon stands, which costs less to see than that their
-// keys differ.
-#[tactic(auto, using(crate::proofs::LineLaws::no_colon), unfolding(crate::specs::Lines::defines_key_in))]
-fn defines_key_in(text: &[u8], groups: &[u16], items: &[u16], g: usize, key: &[u8]) -> bool
-    requires { g < record_bound }
-    ensures { result ≡ defines_key_in text.now groups.now items.now key.now g }
-{
-    if !definition_line::colon_after(text, records::close_of_record(groups, g)) {
-        return false;
-    }
-    let first = field::<GROUP_WIDTH>(groups, g, GROUP_FIRST);
-    base::slices::is_same(records::key_in(text, items, first), key)
-        && defines_in(text, groups, items, g)
-}
-
 // One past the last of the first `n` group records that starts a definition line; 0 where none does.
 pub fn lines_end(text: &[u8], groups: &[u16], items: &[u16], n: usize) -> usize
     requires { n < record_bound }
@@ -44,18 +31,29 @@ pub fn lines_end(text: &[u8], groups: &[u16], items: &[u16], n: usize) -> usize
 }
 
 impl Definitions<'_> {
-    ghost use Rattle.definition.specs.Lines.{line_in};
+    ghost use Rattle.definition.specs.Lines.{defines_key_in, line_in};
+
+    // Whether group record `g` starts a definition line of the key `key`. After most groups no colon stands, which costs less to see than that
+    // their keys differ.
+    #[tactic(auto, using(crate::proofs::LineLaws::key_laws), unfolding(crate::specs::Lines::defines_key_in))]
+    fn defines_key_in(&self, g: usize, key: &[u8]) -> bool
+        requires { g < record_bound }
+        ensures { result ≡ defines_key_in self.now.text.now self.now.groups.now self.now.items.now key.now g }
+    {
+        if !definition_line::colon_after(self.text, records::close_of_record(self.groups, g)) {
+            return false;
+        }
+        let first = field::<GROUP_WIDTH>(self.groups, g, GROUP_FIRST);
+        records::key_in(self.text, self.items, first) == key
+            && defines_in(self.text, self.groups, self.items, g)
+    }
 
     // The last of the group records that starts a definition line of the key. The search begins at `lines`, from which on none starts
     // one of any key.
     #[tactic(auto, unfolding(crate::specs::Lines::line_in))]
     pub fn line_of(&self, key: &[u8]) -> Option<usize>
-        ensures last { unwrap_or result self.now.n ≡ line_in self.now.text.now self.now.groups.now self.now.items.now self.now.n key.now }
-        ensures within { IfSome result (λ g. g < self.now.n) }
+        ensures { Found self.now.n (line_in self.now.text.now self.now.groups.now self.now.items.now self.now.n key.now) result }
     {
-        base::search::last_place(
-            self.lines,
-            |g| defines_key_in(self.text, self.groups, self.items, g, key),
-        )
+        base::search::last_place(self.lines, |g| self.defines_key_in(g, key))
     }
 }

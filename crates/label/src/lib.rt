@@ -7,7 +7,7 @@ ghost use Rattle.std.proofs.Math.Option.{get_or};
 ghost use Rattle.base.specs.Lists.{written};
 ghost use Rattle.text.specs.Trim.{trim_end, trim};
 ghost use Rattle.decimal.specs.Decimal.{decimal};
-ghost use Rattle.pool.specs.Readers.{lent};
+ghost use Rattle.base.specs.Lent.{lent};
 ghost use Rattle.source.specs.Years.{year_bytes, written_year};
 ghost use Rattle.label.specs.Areas.{fitted_at, Fitted};
 ghost use Rattle.label.specs.Labels.{or_number, author_year, label_by};

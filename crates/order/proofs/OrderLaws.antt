@@ -1,5 +1,5 @@
 -- Reference order, in the form of the needs.
-use Prim.Native.Nat.{ℕ, zero, suc, ◌+◌, ◌-◌, ◌≤◌, ◌<◌}
+use Prim.Native.Nat.{ℕ, zero, suc, ◌+◌, ◌-◌, ◌≤◌, ◌<◌, min}
 use native.Mathlib.Omega.{arith}
 use native.Mathlib.Numerals.{add-one}
 use mathlib.Core.Path.{◌≡◌, refl, sym, ◌∙◌, ap}
@@ -7,6 +7,8 @@ use mathlib.Core.List.{List, [], ◌∷◌, ◌++◌, append-nil}
 use mathlib.Core.Bool.{Bool, true, false}
 use lib.ListN.{length, get_or, set, take, drop, drop_of_length-le, length-take, length-drop}
 use lib.Seq.{length-take-le}
+use lib.Dec.{eqb}
+use borrow.Author.Tests.{eq-eqb, ne_eqb, eqb-true, eqb-false}
 use borrow.Rule.Slice.PartMut.{put_mid}
 use Rattle.base.specs.Pick.{pick}
 use Rattle.base.specs.First.{first}
@@ -14,7 +16,8 @@ use Rattle.base.specs.Lists.{written, up_from}
 use Rattle.base.proofs.Searches.{first_shift}
 use Rattle.base.proofs.Ups.{up_length}
 use Rattle.base.proofs.Areas.{written_none, written_byte}
-use Rattle.order.specs.Order.{less, insert_by}
+use Rattle.order.specs.Order.{less, insert_by, inserted_from, reference_order}
+use Rattle.order.specs.References.{references_in}
 use Rattle.order.specs.Ordered.{greater_at, shifted}
 use Rattle.order.proofs.Insertions.{insert_length}
 
@@ -139,3 +142,19 @@ up_back s area e h p =
     rw (p, e, n) (written_part (up_from 1 s) area s (up_length 1 s) h)
 
 pub ruleset up_laws = (up_start, up_more, up_back)
+
+-- a mode's number counts only by whether it is 0
+pub clamped_order : (mode : ℕ) (rank : ℕ → List ℕ) (count : ℕ) → reference_order (min mode 1) rank count ≡ reference_order mode rank count
+unfolding reference_order
+clamped_order mode rank count = go (eqb mode 0) refl
+  where
+    go : (t : Bool) → eqb mode 0 ≡ t → pick (eqb (min mode 1) 0) (up_from 1 count) (inserted_from rank count [] 1) ≡ pick t (up_from 1 count) (inserted_from rank count [] 1)
+    go true q = let e = eqb-true mode 0 q in rw (eq-eqb (min mode 1) 0 (omega arith)) refl
+    go false q = let e = eqb-false mode 0 q in rw (ne_eqb (min mode 1) 0 (omega arith)) refl
+
+pub mode_written : (text pool groups items : List ℕ) (n m mode sources : ℕ) (area : List ℕ) {clamped : ℕ} {r : List ℕ} → clamped ≡ min mode 1
+    → r ≡ written (references_in text pool groups items n m clamped sources) area → r ≡ written (references_in text pool groups items n m mode sources) area
+unfolding references_in
+mode_written text pool groups items n m mode sources area p e = e ∙ rw (p, clamped_order) refl
+
+pub ruleset mode_laws = (mode_written)

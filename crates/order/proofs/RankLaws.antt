@@ -1,4 +1,5 @@
--- Definitions by number, and the bytes that their sources are ordered by, in the form of the needs.
+-- Definitions by number, and the bytes that their sources are ordered by,
+-- in the form of the goals.
 use Prim.Native.Nat.{ℕ, ◌-◌, ◌<◌}
 use native.Mathlib.Omega.{arith}
 use mathlib.Core.Path.{◌≡◌, refl, ◌∙◌}
@@ -8,7 +9,7 @@ use Rattle.std.specs.Prelude.{Option, Some, None}
 use Rattle.std.specs.Borrow.{Bor}
 use Rattle.base.specs.First.{first}
 use Rattle.base.proofs.Searches.{first_by}
-use Rattle.pool.specs.Readers.{lent}
+use Rattle.base.specs.Lent.{lent}
 use Rattle.definition.specs.declared.defined.AuthorYear.{AuthorYear}
 use Rattle.definition.specs.declared.defined.Definition.{Definition}
 use Rattle.definition.specs.Parts.{Gives}

@@ -1,4 +1,5 @@
-// The bytes that sources are ordered by, and sources by the numbers of their definitions.
+// The bytes that sources are ordered by, and sources by the numbers of their definitions. `m` is below `record_bound` by a clause of each function
+// here, and by no type: those that are public take the number alone, as they did. The check proves that each `as` fits; `try_from` would answer a refusal that cannot come.
 ghost use Rattle.std.specs.Prelude.{◌≡◌, ◌<◌, ◌≤◌};
 ghost use Rattle.order.specs.References.{first_with, number_of_key};
 ghost use Rattle.order.specs.ByDefinitions.{rank_of, number_of, source_of};
@@ -8,7 +9,8 @@ use base::search::first_place;
 use definition::Definitions;
 use records::{ITEM_NUMBER, ITEM_WIDTH, field, key_in};
 
-// The bytes that the source of definition number `i` is ordered by: those of its author, or its key where no author is given.
+// The bytes that the source of definition number `i` is ordered by: those of its author, or its key where no author is given. (A `match`:
+// `unwrap_or_else` was tried, and the proof did not find what its closure gives.)
 #[tactic(auto, using(crate::proofs::RankLaws::rank_laws))]
 pub fn rank_by<'a>(definitions: &Definitions<'a>, i: usize) -> &'a [u8]
     ensures { result.now ≡ rank_of definitions.now i }
@@ -20,7 +22,7 @@ pub fn rank_by<'a>(definitions: &Definitions<'a>, i: usize) -> &'a [u8]
     }
 }
 
-// The first of the `m` item records with the number `k`; `m` where there is none.
+// The first of the `m` item records with the number `k`; `m` where there is none. No `Option`: the record at this place is read in either case.
 #[tactic(auto, unfolding(crate::specs::References::first_with, crate::specs::References::has_number))]
 fn first_with(items: &[u16], m: usize, k: usize) -> usize
     requires { m < record_bound }

@@ -1,4 +1,5 @@
--- Numbers and uses, in the form of the needs.
+-- Numbers and uses, in the form of the goals:
+-- by the last record with the same key, or by none.
 use Prim.Native.Nat.{ℕ, zero, suc, ◌+◌, ◌%◌, ◌<◌}
 use native.Mathlib.Omega.{arith}
 use mathlib.Core.Path.{◌≡◌, refl, sym, ◌∙◌}
@@ -9,25 +10,16 @@ use Rattle.base.specs.Pick.{pick}
 use Rattle.base.specs.LastPlace.{last}
 use Rattle.records.specs.Fields.{item_field}
 use Rattle.uses.specs.Uses.{last_use, number_in, use_in, sources_in}
-use Rattle.uses.specs.Uses.{Found, Counts}
+use Rattle.uses.specs.Uses.{Counts}
+use Rattle.base.specs.Found.{Found}
+use Rattle.records.proofs.Founds.{found_last}
 use Rattle.std.specs.Prelude.{Option, Some, None}
 use Rattle.std.specs.Option.{unwrap_or}
 use Rattle.records.specs.Widths.{item_number, item_use}
 
--- a search that finds the same place, whatever stands for nothing
-last_fixed : (f : ℕ → Bool) (n j : ℕ) → ((d : ℕ) → j ≡ last f n d) → j < n
-unfolding last
-last_fixed f zero j h = absurd (omega (arith, h 0, h 1))
-last_fixed f (suc n) j h = go (f n) h (λ g. last_fixed f n j g)
-  where
-    go : (t : Bool) → ((d : ℕ) → j ≡ pick t n (last f n d)) → (((d : ℕ) → j ≡ last f n d) → j < n) → j < suc n
-    go true g rec = omega (arith, g 0)
-    go false g rec = omega (arith, rec g)
-
--- the last place below `k` where a test holds, as `base::search::last_place` finds it
-pub found_last : (f : ℕ → Bool) (k : ℕ) (r : Option ℕ) → ((d : ℕ) → unwrap_or r d ≡ last f k d) → Found k (last f k k) r
-found_last f k None h = sym (h k)
-found_last f k (Some j) h = (h k, last_fixed f k j h)
+-- the last record before `k`, as the search answers it
+pub found_before : (f : ℕ → Bool) (k : ℕ) (r : Option ℕ) → ((d : ℕ) → unwrap_or r d ≡ last f k d) → Found k (last f k k) r
+found_before f k r h = found_last f k k r h (omega arith)
 
 -- the number and the use where the key was used before, and where it was not
 module _ (text items : List ℕ) (pooled : Bool) (sources k : ℕ) where

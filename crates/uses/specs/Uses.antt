@@ -1,6 +1,6 @@
 -- Follows the code; nothing to believe: the number and the use of an item record, by the last one before it with the same key,
 -- and the place where they stand in its record.
-use Rattle.std.specs.Prelude.{ℕ, ◌+◌, ◌*◌, ◌%◌, List, Bool, ◌&&◌, set, eqb, ltb, ◌≤◌, ◌<◌, ◌≡◌, Option, MatchOption}
+use Rattle.std.specs.Prelude.{ℕ, ◌+◌, ◌*◌, ◌%◌, List, Bool, ◌&&◌, set, eqb, ltb, ◌≤◌, ◌≡◌}
 use Rattle.base.specs.Pick.{pick}
 use Rattle.base.specs.LastPlace.{last}
 use Rattle.base.specs.Lists.{same}
@@ -8,10 +8,6 @@ use Rattle.records.specs.Widths.{item_width, item_number, item_marks, item_use, 
 use Rattle.records.specs.Records.{key_in}
 use Rattle.records.specs.Fields.{item_field}
 use Rattle.uses.specs.declared.Count.{Count}
-
--- what a search before `k` answers: the place where it ends, or nothing where it ends at `k`
-abbrev pub Found : ℕ → ℕ → Option ℕ → Type 0
-Found k place answer = MatchOption answer (place ≡ k) (λ j. (j ≡ place) × (j < k))
 
 -- item record `j` is numbered, and has this key
 abbrev pub used_at : List ℕ → List ℕ → List ℕ → ℕ → Bool

@@ -1,14 +1,15 @@
-// The number and the use of an item record, by the last one before it with the same key.
+// The number and the use of an item record, by the last one before it with the same key; the last record with the same label;
+// and the last four numbers of a record. The number and the use are 0 where there is none, as in the item record.
 #![tactic(auto)]
 
 ghost use Rattle.std.specs.Prelude.{◌≡◌, ◌+◌, ◌%◌, ◌<◌};
 ghost use Rattle.base.specs.Pick.{pick};
 ghost use Rattle.uses.specs.Uses.{used_at, last_use, alike_at, last_alike, set_last};
-ghost use Rattle.uses.specs.Uses.{Found, Counts};
+ghost use Rattle.base.specs.Found.{Found};
+ghost use Rattle.uses.specs.Uses.{Counts};
 ghost use Rattle.records.specs.Bounds.{record_bound, source_bound};
 
 use base::search::last_place;
-use base::slices::is_same;
 use records::{
     ITEM_LABEL, ITEM_LABEL_LENGTH, ITEM_MARKS, ITEM_NUMBER, ITEM_USE, ITEM_WIDTH, field, key_in,
     put,
@@ -22,16 +23,18 @@ pub struct Count {
     pub sources: usize,
 }
 
-// Whether item record `j` is numbered, and has the key `key`.
+// Whether item record `j` is numbered, and has the key `key`. That a record's number is below `record_bound` is a clause of each function here,
+// and no narrower type: `u32` was the other choice, and each call would cast the counter of a loop.
+#[tactic(auto, using(base::proofs::Sames::same_pointwise))]
 pub fn is_use(text: &[u8], items: &[u16], j: usize, key: &[u8]) -> bool
     requires { j < record_bound }
     ensures { result ≡ used_at text.now items.now key.now j }
 {
-    0 < field::<ITEM_WIDTH>(items, j, ITEM_NUMBER) && is_same(key_in(text, items, j), key)
+    0 < field::<ITEM_WIDTH>(items, j, ITEM_NUMBER) && key_in(text, items, j) == key
 }
 
 // The last item record before `k` that is numbered and has the key of record `k`.
-#[tactic(auto, using(crate::proofs::UseLaws::found_last), unfolding(crate::specs::Uses::last_use, crate::specs::Uses::same_use))]
+#[tactic(auto, using(crate::proofs::UseLaws::found_before), unfolding(crate::specs::Uses::last_use, crate::specs::Uses::same_use))]
 pub fn last_use(text: &[u8], items: &[u16], k: usize) -> Option<usize>
     requires { k < record_bound }
     ensures { Found k (last_use text.now items.now k) result }
@@ -41,18 +44,19 @@ pub fn last_use(text: &[u8], items: &[u16], k: usize) -> Option<usize>
 }
 
 // Whether item record `j` has the number `number`, the mark of suppression `mark` and the key `key`.
+#[tactic(auto, using(base::proofs::Sames::same_pointwise))]
 fn is_alike(text: &[u8], items: &[u16], number: usize, mark: usize, key: &[u8], j: usize) -> bool
     requires { j < record_bound }
     ensures { result ≡ alike_at text.now items.now number mark key.now j }
 {
     field::<ITEM_WIDTH>(items, j, ITEM_NUMBER) == number
         && field::<ITEM_WIDTH>(items, j, ITEM_MARKS) == mark
-        && is_same(key_in(text, items, j), key)
+        && key_in(text, items, j) == key
 }
 
 // The last item record before `k` that has the number `number`, and the mark of suppression and the key of record `k`: it has the label of
 // record `k` with that number.
-#[tactic(auto, using(crate::proofs::UseLaws::found_last), unfolding(crate::specs::Uses::last_alike, crate::specs::Uses::same_label))]
+#[tactic(auto, using(crate::proofs::UseLaws::found_before), unfolding(crate::specs::Uses::last_alike, crate::specs::Uses::same_label))]
 pub fn last_alike(text: &[u8], items: &[u16], k: usize, number: usize) -> Option<usize>
     requires { k < record_bound }
     ensures { Found k (last_alike text.now items.now k number) result }
