@@ -29,7 +29,6 @@ pub struct AuthorYear<'a> {
 }
 
 // What the attributes of a definition line give.
-#[tactic(auto, unfolding(attributes::specs::Values::value_bytes))]
 fn attributes_given<'a>(attributes: &'a [u8]) -> AuthorYear<'a>
     ensures { Gives result (attr_value attributes.now author_word) (attr_value attributes.now year_word) }
 {
