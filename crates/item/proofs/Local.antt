@@ -30,7 +30,7 @@ use Rattle.item.specs.Moved.{moved_item, moved_parsed}
 use Rattle.item.specs.Pieces.{stretch, semicolon_at, ends_piece, pieces_in, pieces, plus_at, items_start, pieces_of, parsed}
 use Rattle.item.specs.Facts.{Before, Local, ItemLocal, PiecesLocal}
 use Rattle.item.proofs.Groups.{start_in}
-use Rattle.item.proofs.LocatorShift.{ltb_move, eqb_move, span_move, first_move, locator_move}
+use Rattle.locator.proofs.Moved.{ltb_move, eqb_move, span_move, first_move, locator_move}
 
 -- no backslash stands before `a`
 no_slash : (s : List ℕ) (a : ℕ) → (0 < a → byte_at s (a - 1) ≡ 92 → ⊥) → slashes s a ≡ 0

@@ -1,22 +1,8 @@
--- Theorems: parts, items and pieces moved by a number of bytes,
+-- Theorems: items and pieces moved by a number of bytes,
 -- for `ItemLocal` and `PiecesLocal`.
-use Rattle.std.specs.Prelude.{ℕ, ◌+◌, eqb, Option, Some, None}
-use Rattle.base.specs.Pick.{pick}
-use Rattle.base.specs.declared.Span.{Span}
-use Rattle.base.specs.Spans.{span, missing}
-use Rattle.locator.specs.declared.Locator.{Locator}
-use Rattle.locator.specs.declared.Locator.TheVariants.{Nothing, Plain, Labelled}
+use Rattle.std.specs.Prelude.{ℕ, Option, Some, None}
+use Rattle.locator.specs.Moved.{moved_span, moved_locator}
 use Rattle.item.specs.declared.Item.{Item}
-
--- a span `d` places further on; one that is missing stays so
-unfoldable pub moved_span : ℕ → Span → Span
-moved_span d p = pick (eqb p.len 0) missing (span (p.at + d) p.len)
-
--- a locator
-abbrev pub moved_locator : ℕ → Locator → Locator
-moved_locator d Nothing = Nothing
-moved_locator d (Plain suffix) = Plain (moved_span d suffix)
-moved_locator d (Labelled term value suffix) = Labelled term (moved_span d value) (moved_span d suffix)
 
 -- an item
 abbrev pub moved_item : ℕ → Item → Item
