@@ -1,10 +1,10 @@
 -- THEOREM `BracketTrue`: what an index and a note "as earlier calls on that text left them" give at a bracket
 -- is what the unlimited scan gives there.
-use Prim.Native.Nat.{ℕ, ◌-◌, ◌≤◌, ◌<◌}
+use Prim.Native.Nat.{ℕ, ◌-◌, ◌<◌}
 use native.Mathlib.Nat.{zero-add}
 use mathlib.Core.Path.{◌≡◌, refl, sym, ◌∙◌, ap}
 use mathlib.Core.List.{List}
-use mathlib.Core.Bool.{Bool, true, false, not, true≢false}
+use mathlib.Core.Bool.{Bool, true, false, not}
 use lib.ListN.{length, get_or, take}
 use lib.Dec.{eqb, leb, ltb, leb-suc-zero}
 use lib.Seq.{get_or-take}
@@ -54,11 +54,7 @@ by_entry s p None e = zero_none s p ∙ sym (judge_nothing s p)
 
 by_index : (s : List ℕ) (p : ℕ) → opens_at s p ≡ true → judge s p (as_close s p (index_at s p)) ≡ judge s p (close_of s p)
 unfolding index_at
-by_index s p o = go (opens_at s p) o
-  where
-    go : (b : Bool) → b ≡ true → judge s p (as_close s p (pick b (entry_for s p (close_of s p)) 0)) ≡ judge s p (close_of s p)
-    go true q = by_entry s p (close_of s p) refl
-    go false q = absurd (true≢false (sym q))
+by_index s p o = rw o (by_entry s p (close_of s p) refl)
 
 entry_of : (s index : List ℕ) (p : ℕ) → take (length s) index ≡ index_of s → p < length s → get_or index p 0 ≡ index_at s p
 unfolding index_of
@@ -72,17 +68,9 @@ by_stored : (s index : List ℕ) (p : ℕ) → opens_at s p ≡ true → p < len
 unfolding stored_close
 by_stored s index p o h e = ap (λ (v : ℕ). judge s p (as_close s p v)) (entry_of s index p e h) ∙ by_index s p o
 
--- the short look sees what the unlimited scan sees, as far as it goes
-look_true : (s : List ℕ) (p c : ℕ) → short_look s p ≡ Some c → close_of s p ≡ Some c
-unfolding short_look
-look_true s p c e = close_64 s p c e
-
-look_all : (s : List ℕ) (p : ℕ) → length s - p ≤ 64 → close_of s p ≡ short_look s p
-unfolding short_look
-look_all s p h = sym (close_all s p 64 h)
-
+-- a close that the short look sees is that of the unlimited scan; where it sees none, the whole text was seen, or the index is built
 pub bracket_true : BracketTrue
-unfolding group_as_run group_at close_as_run look_of shortened close_after
+unfolding group_as_run group_at close_as_run look_of shortened short_look close_after
 bracket_true s p note index left len o = go (eqb note 1) refl
   where
     built : List ℕ
@@ -90,11 +78,11 @@ bracket_true s p note index left len o = go (eqb note 1) refl
 
     few : (b : Bool) → leb (length s - p) 64 ≡ b → short_look s p ≡ None
         → judge s p (close_after s p built (pick b (Known None) Build)) ≡ judge s p (close_of s p)
-    few true q e = ap (judge s p) (sym (look_all s p (leb-true (length s - p) 64 q) ∙ e))
+    few true q e = ap (judge s p) (sym e ∙ close_all s p 64 (leb-true (length s - p) 64 q))
     few false q e = by_stored s built p o (opens_in s p o) (take_built s index)
 
     short : (c : Option ℕ) → short_look s p ≡ c → judge s p (close_after s p built (shortened s p c)) ≡ judge s p (close_of s p)
-    short (Some c) e = ap (judge s p) (sym (look_true s p c e))
+    short (Some c) e = ap (judge s p) (sym (close_64 s p c e))
     short None e = few (leb (length s - p) 64) refl e
 
     go : (b : Bool) → eqb note 1 ≡ b

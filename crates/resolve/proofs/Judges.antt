@@ -1,10 +1,9 @@
 -- The group at a bracket by cases:
 -- the one file that opens `judge`.
 use Prim.Native.Nat.{ℕ}
-use native.Mathlib.Omega.{arith}
-use mathlib.Core.Path.{◌≡◌, refl, sym, ◌∙◌}
+use mathlib.Core.Path.{◌≡◌, refl}
 use mathlib.Core.List.{List}
-use mathlib.Core.Bool.{Bool, true, false, ◌&&◌, not, true≢false}
+use mathlib.Core.Bool.{Bool, true, false, ◌&&◌, not, and-false}
 use lib.ListN.{length}
 use Rattle.std.specs.Prelude.{Option, Some, None, Result, Ok, Err}
 use Rattle.item.specs.declared.BadItem.{BadItem}
@@ -79,58 +78,36 @@ module _ (s : List ℕ) (p : ℕ) (d : Option ℕ) where
       go (Found g) h = absurd (cc)
       go NoGroup h = refl
 
--- the law read from left to right
+-- the group, computed
 module _ (s : List ℕ) (p : ℕ) where
   pub judge_nothing : judge s p None ≡ NoGroup
-  judge_nothing = go (judges s p None)
-    where
-      go : {g : GroupAnswer} → Judges s p None g → g ≡ NoGroup
-      go no_close = refl
+  unfolding judge
+  judge_nothing = refl
 
   module _ (c : ℕ) where
     pub judge_barred : barred s c ≡ true → judge s p (Some c) ≡ NoGroup
-    judge_barred b = go (judges s p (Some c))
-      where
-        go : {g : GroupAnswer} → Judges s p (Some c) g → g ≡ NoGroup
-        go (cites _ k) = absurd (true≢false (sym b ∙ k.clear))
-        go (follows _ q) = refl
-        go (bad_item _ n q g j) = refl
+    unfolding judge group_accepted
+    judge_barred b = rw b
 
     pub judge_bad : good_items s p c ≡ false → judge s p (Some c) ≡ NoGroup
-    judge_bad b = go (judges s p (Some c))
-      where
-        go : {g : GroupAnswer} → Judges s p (Some c) g → g ≡ NoGroup
-        go (cites _ k) = absurd (true≢false (sym k.good ∙ b))
-        go (follows _ q) = refl
-        go (bad_item _ n q g j) = refl
+    unfolding judge group_accepted
+    judge_bad b = rw (b, and-false (not (barred s c)))
 
     pub judge_good : barred s c ≡ false → good_items s p c ≡ true → judge s p (Some c) ≡ Found (group_of s p c)
-    judge_good b t = go (judges s p (Some c))
+    unfolding judge group_accepted
+    judge_good b t = rw (b, t)
+
+    -- the items, by what they were judged to be
+    pub judged_good : {n : ℕ} → judged_of s p c ≡ Ok n → (good_items s p c ≡ true) × (n ≡ length (items_of s p c))
+    judged_good {n} e = go (judged_by s p c) e
       where
-        go : {g : GroupAnswer} → Judges s p (Some c) g → g ≡ Found (group_of s p c)
-        go (cites _ k) = refl
-        go (follows _ q) = absurd (true≢false (sym q ∙ b))
-        go (bad_item _ n q g j) = absurd (true≢false (sym t ∙ g))
+        go : {j : Result ℕ BadItem} → JudgedBy s p c j → j ≡ Ok n → (good_items s p c ≡ true) × (n ≡ length (items_of s p c))
+        go (all_good_lem g) e = (g, cc)
+        go (one_bad k g q) e = absurd (cc)
 
--- the same of what the items were judged to be
-module _ (s : List ℕ) (p c : ℕ) where
-  pub good_all : {n : ℕ} → judged_of s p c ≡ Ok n → good_items s p c ≡ true
-  good_all {n} e = go (judged_by s p c) e
-    where
-      go : {j : Result ℕ BadItem} → JudgedBy s p c j → j ≡ Ok n → good_items s p c ≡ true
-      go (all_good_lem g) e = g
-      go (one_bad k g q) e = let y : ◌≡◌ {A = ℕ} 0 1 = cc in absurd (omega (arith, y))
-
-  pub good_count : {n : ℕ} → judged_of s p c ≡ Ok n → n ≡ length (items_of s p c)
-  good_count {n} e = go (judged_by s p c) e
-    where
-      go : {j : Result ℕ BadItem} → JudgedBy s p c j → j ≡ Ok n → n ≡ length (items_of s p c)
-      go (all_good_lem g) e = cc
-      go (one_bad k g q) e = let y : ◌≡◌ {A = ℕ} 0 1 = cc in absurd (omega (arith, y))
-
-  pub bad_some : {e : BadItem} → judged_of s p c ≡ Err e → good_items s p c ≡ false
-  bad_some {e} q = go (judged_by s p c) q
-    where
-      go : {j : Result ℕ BadItem} → JudgedBy s p c j → j ≡ Err e → good_items s p c ≡ false
-      go (all_good_lem g) e = let y : ◌≡◌ {A = ℕ} 0 1 = cc in absurd (omega (arith, y))
-      go (one_bad k g q) e = g
+    pub judged_bad : {b : BadItem} → judged_of s p c ≡ Err b → good_items s p c ≡ false
+    judged_bad {b} q = go (judged_by s p c) q
+      where
+        go : {j : Result ℕ BadItem} → JudgedBy s p c j → j ≡ Err b → good_items s p c ≡ false
+        go (all_good_lem g) e = absurd (cc)
+        go (one_bad k g q) e = g

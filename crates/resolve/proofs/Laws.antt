@@ -21,7 +21,7 @@ use Rattle.resolve.specs.declared.Look.TheVariants.{Known, Build}
 use Rattle.resolve.specs.Groups.{barred, judge}
 use Rattle.resolve.specs.Resolve.{is_built, as_close, stored_close, short_look, shortened, look_of, close_after}
 use Rattle.resolve.specs.Looks.{matched, Inside, LookInside}
-use Rattle.resolve.proofs.Judges.{judge_nothing, judge_barred, judge_good, judge_bad, good_all, good_count, bad_some}
+use Rattle.resolve.proofs.Judges.{judge_nothing, judge_barred, judge_good, judge_bad, judged_good, judged_bad}
 
 -- the group at a bracket -----------------------------------------------------------------------------------------------------------
 
@@ -45,11 +45,11 @@ module _ (s : List ℕ) (p : ℕ) {d : Option ℕ} where
       module _ {j : Result ℕ BadItem} (f : b ≡ false) (g : j ≡ judged_of s p c) where
         pub match_good : {n : ℕ} → j ≡ Ok n → Some (record { close = c; count = n }) ≡ matched (judge s p d)
         unfolding matched group_of
-        match_good h = rw (e, judge_good s p c (sym q ∙ f) (good_all s p c (sym g ∙ h)), good_count s p c (sym g ∙ h))
+        match_good h = let k = judged_good s p c (sym g ∙ h) in rw (e, judge_good s p c (sym q ∙ f) k.0, k.1)
 
         pub match_bad : {bad : BadItem} → j ≡ Err bad → None ≡ matched (judge s p d)
         unfolding matched
-        match_bad h = rw (e, judge_bad s p c (bad_some s p c (sym g ∙ h)))
+        match_bad h = rw (e, judge_bad s p c (judged_bad s p c (sym g ∙ h)))
 
 pub ruleset match_laws = (match_none, at_after, at_inside, match_barred, match_good, match_bad)
 

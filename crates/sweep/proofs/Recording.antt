@@ -17,6 +17,7 @@ use Rattle.item.specs.Pieces.{items_of}
 use Rattle.item.specs.Group.{good_items, group_of}
 use Rattle.resolve.specs.Groups.{barred, group_accepted}
 use Rattle.records.specs.ItemRecords.{records_of, records_length}
+use Rattle.records.specs.Writing.{Writable}
 use Rattle.records.proofs.RecordLaws.{records_length_lem}
 use Rattle.definition_line.specs.Lines.{in_line}
 use Rattle.sweep.specs.declared.group_records.SweepState.{SweepState}
@@ -34,13 +35,15 @@ module _ (text : List ℕ) (at close n : ℕ) (items : List ℕ) (h : ItemsRoom 
   pub items_by : item_width * n ≤ length items
   items_by = let r = h.room in omega arith
 
-  pub items_good : good_items text at close ≡ true
-  unfolding group_accepted
-  items_good = and_right (not (barred text close)) _ h.stands.good
-
-  pub items_rest : records_length (group_of text at close) ≤ length (take (length items - item_width * n) (drop (item_width * n) items))
-  unfolding records_length group_of
-  items_rest = let r = h.room in simp (length-take, length-drop) (omega arith)
+  pub items_writable : Writable text at close (take (length items - item_width * n) (drop (item_width * n) items))
+  unfolding group_accepted good_items records_length group_of
+  items_writable = record {
+    short = h.short;
+    after = h.stands.after;
+    inside = h.stands.inside;
+    good = and_right (not (barred text close)) _ h.stands.good;
+    room = let r = h.room in simp (length-take, length-drop) (omega arith);
+  }
 
   pub items_back : {back : List ℕ} → back ≡ written (records_of (group_of text at close)) (take (length items - item_width * n) (drop (item_width * n) items))
       → take (item_width * n) items ++ (back ++ drop (length items - item_width * n) (drop (item_width * n) items))
@@ -55,7 +58,7 @@ module _ (text : List ℕ) (at close n : ℕ) (items : List ℕ) (h : ItemsRoom 
       → length (take (item_width * n) items ++ (back ++ drop (length items - item_width * n) (drop (item_width * n) items))) ≡ length items
   items_same e = rw (items_back e) (written_length (item_width * n) items (records_of (group_of text at close)) room_for)
 
-pub ruleset item_laws = (items_by, items_good, items_rest, items_back, items_same)
+pub ruleset item_laws = (items_by, items_back, items_same)
 
 -- the numbers of a group's record fit ----------------------------------------------------------------------------------------------
 
