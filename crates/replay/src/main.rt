@@ -6,6 +6,7 @@ ghost use Rattle.std.specs.Prelude.{length};
 ghost use Rattle.std.specs.Iterator.{at_most};
 
 use replay_body::body::Body;
+use std::alloc::{AllocError, Global};
 use std::fs::File;
 use std::io::{Read, Write};
 use std::num::wrapping_add_u64;
@@ -29,6 +30,7 @@ enum Kind {
     Annotate = 12,
 }
 
+// All kinds, in the order in which they are replayed.
 const KINDS: [Kind; 12] = [
     Kind::Utf8,
     Kind::Escaped,
@@ -44,7 +46,15 @@ const KINDS: [Kind; 12] = [
     Kind::Annotate,
 ];
 
+impl From<Kind> for u8 {
+    // The number of the kind in the list.
+    fn from(kind: Kind) -> u8 {
+        kind as u8
+    }
+}
+
 impl fmt::Display for Kind {
+    // The name of the kind.
     fn fmt<W: fmt::Write>(&self, f: &mut fmt::Formatter<W>) -> fmt::Result {
         f.write_str(match self {
             Kind::Utf8 => "utf8",
@@ -65,21 +75,21 @@ impl fmt::Display for Kind {
 
 impl Kind {
     // Whether the proved function of this kind gives the answer that the record's body holds.
-    fn agrees(self, body: Body<'_>) -> bool {
-        match self {
-            Kind::Utf8 => replay_calls::leaves::utf8_agrees(body),
-            Kind::Escaped => replay_calls::leaves::escaped_agrees(body),
-            Kind::Key => replay_calls::leaves::key_agrees(body),
-            Kind::White => replay_calls::leaves::white_agrees(body),
-            Kind::Trim => replay_calls::leaves::trim_agrees(body),
+    fn agrees(self, alloc: Global, body: Body<'_>) -> Result<bool, AllocError> {
+        Ok(match self {
+            Kind::Utf8 => replay_calls::texts::utf8_agrees(body),
+            Kind::Escaped => replay_calls::texts::escaped_agrees(body),
+            Kind::Key => replay_calls::texts::key_agrees(body),
+            Kind::White => replay_calls::texts::white_agrees(body),
+            Kind::Trim => replay_calls::texts::trim_agrees(body),
             Kind::Close => replay_calls::parts::close_agrees(body),
             Kind::Locator => replay_calls::parts::locator_agrees(body),
             Kind::Item => replay_calls::parts::item_agrees(body),
             Kind::Pool => replay_calls::pools::pool_agrees(body),
             Kind::Source => replay_calls::pools::source_agrees(body),
-            Kind::LookUp => replay_calls::look_ups::look_ups_agree(body),
-            Kind::Annotate => replay_calls::annotations::annotations_agree(body),
-        }
+            Kind::LookUp => replay_calls::sessions::look_ups_agree(alloc, body)?,
+            Kind::Annotate => replay_calls::sessions::annotations_agree(alloc, body)?,
+        })
     }
 }
 
@@ -112,6 +122,7 @@ impl<'a> Iterator for Records<'a> {
 
     ghost remaining = { λ s. at_most (length s.0.now) };
 
+    // The record at the front of what is left.
     fn next(&mut self) -> Option<&'a [u8]> {
         if self.0.is_empty() {
             return None;
@@ -125,14 +136,20 @@ impl<'a> Iterator for Records<'a> {
 
 // Counts the records of this kind in a block. One cut off does not agree. The block's unused rest is zeros, which read as empty records of no
 // kind.
-fn count_block(tally: &mut Tally, kind: Kind, block: &[u8]) {
+fn count_block(
+    alloc: Global,
+    tally: &mut Tally,
+    kind: Kind,
+    block: &[u8],
+) -> Result<(), AllocError> {
     for record in Records(block) {
-        if record.len() >= 4 && record[0] == kind as u8 {
+        if record.len() >= 4 && record[0] == u8::from(kind) {
             let body = Body(&record[4..]);
             let is_whole = Body(record).length(1) == body.0.len();
-            tally.count(is_whole && kind.agrees(body));
+            tally.count(is_whole && kind.agrees(alloc, body)?);
         }
     }
+    Ok(())
 }
 
 // The length of a block of the list, and the most blocks of it that are read.
@@ -141,14 +158,19 @@ const BLOCK: usize = 1048576;
 const BLOCKS: u32 = 1000000;
 
 // The tally of a kind over the whole list, read by blocks.
-fn count_all<R: Read>(kind: Kind, list: &mut R, block: &mut [u8]) -> io::Result<Tally> {
+fn count_all<R: Read>(
+    alloc: Global,
+    kind: Kind,
+    list: &mut R,
+    block: &mut [u8],
+) -> io::Result<Tally> {
     let mut tally = Tally::default();
     for _ in 0..BLOCKS {
         let n = reading::read_full(list, block)?;
         if n == 0 {
             break;
         }
-        count_block(&mut tally, kind, &block[..n]);
+        count_block(alloc, &mut tally, kind, &block[..n])?;
     }
     Ok(tally)
 }
@@ -163,22 +185,29 @@ fn say<W: Write>(out: &mut W, kind: Kind, tally: Tally) -> io::Result<()> {
 }
 
 // Replays a kind, and writes what became of it; where the list cannot be opened, why, to standard error.
-fn replay<R: Files + Print + Eprint>(rt: &R, kind: Kind, block: &mut [u8]) -> io::Result<()> {
+fn replay<R: Files + Print + Eprint>(
+    alloc: Global,
+    rt: &R,
+    kind: Kind,
+    block: &mut [u8],
+) -> io::Result<()> {
     let path = "answers";
     match File::open(rt, path) {
         Ok(mut list) => say(
             &mut io::writer(rt),
             kind,
-            count_all(kind, &mut list, block)?,
+            count_all(alloc, kind, &mut list, block)?,
         ),
         Err(error) => eprintln!(rt; "{path}: {error}"),
     }
 }
 
+// Replays each kind.
 fn main(rt: HostRuntime) -> io::Result<()> {
-    let mut block = vec![in rt.alloc(); 0u8; BLOCK]?;
+    let alloc = rt.alloc();
+    let mut block = vec![in alloc; 0u8; BLOCK]?;
     for kind in KINDS {
-        replay(&rt, kind, &mut block)?;
+        replay(alloc, &rt, kind, &mut block)?;
     }
     Ok(())
 }

@@ -1,35 +1,11 @@
 // An annotation in a body: mode, length of the pool, number, counts, note; the numbers of its records; the label bytes; the pool.
-use crate::areas::{BLANK, UNUSED, has_bytes, has_numbers, rest_is};
+// Whether the areas of an answer hold what is stored.
+use crate::areas::{Areas, BLANK, UNUSED, holds_bytes, holds_numbers};
 use crate::body::Body;
 
+// What a body holds from an annotation on.
 #[derive(Clone, Copy)]
 pub struct StoredAnnotation<'a>(pub Body<'a>);
-
-// The numbers of an answer: 0 or a refusal's number, and the counts of groups, items, sources and label bytes. (Numbers in place of a
-// `Result`: the list has them so.)
-#[derive(Clone, Copy, Default, PartialEq, Eq)]
-pub struct Numbers {
-    pub number: usize,
-    pub groups: usize,
-    pub items: usize,
-    pub sources: usize,
-    pub labels: usize,
-    pub note: u8,
-}
-
-// The areas that an annotation is lent for its answer.
-#[derive(Drop)]
-pub struct Areas<'a> {
-    pub items: &'a mut [u16],
-    pub groups: &'a mut [u16],
-    pub references: &'a mut [u16],
-    pub labels: &'a mut [u8],
-}
-
-// Whether an area holds the `n` numbers that `rows` begins with, and `rest` behind them.
-fn holds(area: &[u16], n: usize, rows: Body<'_>, rest: u16) -> bool {
-    has_numbers(area, n, rows) && rest_is(area, n, rest)
-}
 
 impl<'a> StoredAnnotation<'a> {
     // The mode that is asked for.
@@ -37,16 +13,23 @@ impl<'a> StoredAnnotation<'a> {
         self.0.byte(0)
     }
 
-    // The numbers of the answer.
-    pub fn numbers(self) -> Numbers {
-        Numbers {
-            number: self.0.number(4),
-            groups: self.0.number(6),
-            items: self.0.number(8),
-            sources: self.0.number(10),
-            labels: self.0.number(12),
-            note: self.0.byte(14),
-        }
+    // The numbers of the answer: 0 or a refusal's number, then the counts of groups, items, sources and label bytes. (Numbers in place of a
+    // `Result`: the list has them so.)
+    pub fn numbers(self) -> (usize, [usize; 4]) {
+        (
+            self.0.number(4),
+            [
+                self.0.number(6),
+                self.0.number(8),
+                self.0.number(10),
+                self.0.number(12),
+            ],
+        )
+    }
+
+    // The note of the answer.
+    pub fn note(self) -> u8 {
+        self.0.byte(14)
     }
 
     // The numbers of the group records, and what follows them.
@@ -94,33 +77,22 @@ impl<'a> StoredAnnotation<'a> {
             unused
         }
     }
-}
 
-impl Areas<'_> {
     // Whether the areas of numbers hold the stored records.
-    fn hold_records(&self, stored: StoredAnnotation<'_>) -> bool {
-        let groups = records::GROUP_WIDTH * stored.0.number(6);
-        let items = records::ITEM_WIDTH * stored.0.number(8);
-        let references = stored.0.number(10);
-        let rest = stored.behind(UNUSED);
-        holds(&*self.groups, groups, stored.groups(), rest)
-            && holds(&*self.items, items, stored.items(), rest)
-            && holds(&*self.references, references, stored.references(), rest)
+    fn has_records(self, areas: &Areas) -> bool {
+        let groups = records::GROUP_WIDTH * self.0.number(6);
+        let items = records::ITEM_WIDTH * self.0.number(8);
+        let references = self.0.number(10);
+        let rest = self.behind(UNUSED);
+        holds_numbers(&areas.groups, groups, self.groups(), rest)
+            && holds_numbers(&areas.items, items, self.items(), rest)
+            && holds_numbers(&areas.references, references, self.references(), rest)
     }
 
     // Whether the areas hold the stored answer.
-    pub fn hold(&self, stored: StoredAnnotation<'_>) -> bool {
-        let n = stored.0.number(12);
-        self.hold_records(stored)
-            && has_bytes(&*self.labels, n, stored.labels())
-            && rest_is(&*self.labels, n, stored.behind(BLANK))
-    }
-
-    // Makes the areas what they were before the first call.
-    pub fn clear(&mut self) {
-        self.items.fill(UNUSED);
-        self.groups.fill(UNUSED);
-        self.references.fill(UNUSED);
-        self.labels.fill(BLANK);
+    pub fn has_areas(self, areas: &Areas) -> bool {
+        let labels = self.0.number(12);
+        self.has_records(areas)
+            && holds_bytes(&areas.labels, labels, self.labels(), self.behind(BLANK))
     }
 }

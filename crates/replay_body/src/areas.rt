@@ -1,25 +1,68 @@
-// The lent areas: what they hold before a call, and whether they hold the stored values after it.
+// The lent areas: what they hold before a call,
+// and whether they hold the stored values after it.
 use crate::body::Body;
+use std::alloc::{AllocError, Global};
 
 // What an area of numbers holds where no call wrote.
 pub const UNUSED: u16 = 43690;
 
-// What an area of bytes holds there.
+// What an area of bytes holds where no call wrote.
 pub const BLANK: u8 = 170;
 
-// Whether `value` stands at every place from `at` on.
-pub fn rest_is<T: Copy + PartialEq>(area: &[T], at: usize, value: T) -> bool {
-    area.iter().skip(at).all(|x| *x == value)
+// The areas that the calls of a session are lent.
+#[derive(Drop)]
+pub struct Areas {
+    pub index: Vec<u16>,
+    pub items: Vec<u16>,
+    pub groups: Vec<u16>,
+    pub references: Vec<u16>,
+    pub labels: Vec<u8>,
 }
 
-// Whether the area begins with the `n` numbers that `body` begins with.
-pub fn has_numbers(area: &[u16], n: usize, body: Body<'_>) -> bool {
-    area.get(..n).is_some_and(|part| {
-        part.iter().enumerate().all(|(i, x)| *x == body.word(2 * i))
+impl Areas {
+    // Areas with room for what is said of a text of `n` bytes. (Small ones for a short text: they are read and filled whole at each call.)
+    pub fn new(alloc: Global, n: usize) -> Result<Areas, AllocError> {
+        let (index, items, groups) = if n <= 1000 {
+            (1024, 344, 256)
+        } else {
+            (65536, 21846, 16400)
+        };
+        Ok(Areas {
+            index: vec![in alloc; 0u16; index]?,
+            items: vec![in alloc; UNUSED; records::ITEM_WIDTH * items]?,
+            groups: vec![in alloc; UNUSED; records::GROUP_WIDTH * groups]?,
+            references: vec![in alloc; UNUSED; groups]?,
+            labels: vec![in alloc; BLANK; 66000]?,
+        })
+    }
+
+    // Makes the areas of an answer what they were before the first call.
+    pub fn clear(&mut self) {
+        self.items.fill(UNUSED);
+        self.groups.fill(UNUSED);
+        self.references.fill(UNUSED);
+        self.labels.fill(BLANK);
+    }
+}
+
+// Whether `value` stands at every place.
+pub fn is_all<T: Copy + PartialEq>(area: &[T], value: T) -> bool {
+    area.iter().all(|x| *x == value)
+}
+
+// Whether an area holds the `n` numbers that `body` begins with, and `rest` behind them.
+pub fn holds_numbers(area: &[u16], n: usize, body: Body<'_>, rest: u16) -> bool {
+    area.split_at_checked(n).is_some_and(|(numbers, after)| {
+        numbers
+            .iter()
+            .enumerate()
+            .all(|(i, x)| *x == body.word(2 * i))
+            && is_all(after, rest)
     })
 }
 
-// Whether the area begins with the first `n` bytes of `body`.
-pub fn has_bytes(area: &[u8], n: usize, body: Body<'_>) -> bool {
-    area.get(..n).is_some_and(|part| body.0.starts_with(part))
+// Whether an area holds the first `n` bytes of `body`, and `rest` behind them.
+pub fn holds_bytes(area: &[u8], n: usize, body: Body<'_>, rest: u8) -> bool {
+    area.split_at_checked(n).is_some_and(|(bytes, after)| body.0.starts_with(bytes)
+        && is_all(after, rest))
 }

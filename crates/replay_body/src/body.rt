@@ -1,6 +1,8 @@
 // A record's body: the request's numbers, the answer's numbers, two bytes each, then bytes.
+// Each is read at its place, and is 0 past the end.
 ghost use Rattle.std.specs.Prelude.{◌≡◌, ◌≤◌, take, drop, get_or};
 
+// The bytes of a body, or of its rest.
 #[derive(Clone, Copy)]
 pub struct Body<'a>(pub &'a [u8]);
 

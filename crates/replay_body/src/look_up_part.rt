@@ -1,23 +1,11 @@
 // A look-up in a body: place, number, close, item count, note and twelve numbers an item.
-use crate::areas::{UNUSED, has_numbers, rest_is};
+// Whether the item area holds what is stored.
+use crate::areas::{UNUSED, holds_numbers, is_all};
 use crate::body::Body;
 
+// What a body holds from a look-up on.
 #[derive(Clone, Copy)]
 pub struct StoredLookUp<'a>(pub Body<'a>);
-
-// The numbers of an answer: 0 or a refusal's number, and what is said of the group. (Numbers in place of a `Result`: the list has them so.)
-#[derive(Clone, Copy, Default, PartialEq, Eq)]
-pub struct Numbers {
-    pub number: usize,
-    pub close: usize,
-    pub count: usize,
-    pub note: usize,
-}
-
-// Whether an item record begins with the twelve numbers of `row`, and ends with zeros.
-fn is_row(record: &[u16], row: Body<'_>) -> bool {
-    has_numbers(record, 12, row) && rest_is(record, 12, 0)
-}
 
 impl<'a> StoredLookUp<'a> {
     // The place that is asked about.
@@ -25,30 +13,30 @@ impl<'a> StoredLookUp<'a> {
         self.0.number(0)
     }
 
-    // The numbers of the answer.
-    pub fn numbers(self) -> Numbers {
-        Numbers {
-            number: self.0.number(2),
-            close: self.0.number(4),
-            count: self.0.number(6),
-            note: self.0.number(8),
-        }
+    // The numbers of the answer: 0 or a refusal's number, then the place of the close and the item count. (Numbers in place of a `Result`: the
+    // list has them so.)
+    pub fn numbers(self) -> (usize, [usize; 2]) {
+        (self.0.number(2), [self.0.number(4), self.0.number(6)])
     }
 
-    // Whether the item area holds the records, and nothing after them.
+    // The note of the answer.
+    pub fn note(self) -> u8 {
+        self.0.byte(8)
+    }
+
+    // Whether the item area holds the records, each with the stored twelve numbers and zeros behind them, and nothing after them.
     pub fn has_items(self, items: &[u16]) -> bool {
         let count = self.0.number(6);
-        let rows = self.0.after(10);
-        for k in 0..count {
-            let at = records::ITEM_WIDTH * k;
-            if !items
-                .get(at..at + records::ITEM_WIDTH)
-                .is_some_and(|record| is_row(record, rows.after(24 * k)))
-            {
-                return false;
-            }
-        }
-        rest_is(items, records::ITEM_WIDTH * count, UNUSED)
+        let Some((records, rest)) = items.split_at_checked(records::ITEM_WIDTH * count) else {
+            return false;
+        };
+        let rows = self.0.after(10).before(24 * count);
+        rows.len() == 24 * count
+            && records
+                .chunks_exact(records::ITEM_WIDTH)
+                .zip(rows.chunks_exact(24))
+                .all(|(record, row)| holds_numbers(record, 12, Body(row), 0))
+            && is_all(rest, UNUSED)
     }
 
     // The look-up after this one.

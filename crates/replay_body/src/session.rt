@@ -1,11 +1,18 @@
 // A session: a text, and calls on it one after the other, with index and note kept between them.
+// What the index area holds before the first call, and whether it holds the stored index after the last.
 ghost use Rattle.std.specs.Prelude.{◌≤◌};
 
-use crate::areas::rest_is;
+use crate::areas::is_all;
 use crate::body::Body;
 
+// The body of a record of calls.
 #[derive(Clone, Copy)]
 pub struct Session<'a>(pub Body<'a>);
+
+// An entry of the stored index: a place, and its close.
+fn entry_of(bytes: &[u8]) -> (usize, u16) {
+    (Body(bytes).number(0), Body(bytes).word(2))
+}
 
 impl<'a> Session<'a> {
     // The text: the body's end.
@@ -28,24 +35,21 @@ impl<'a> Session<'a> {
         self.0.number(6)
     }
 
-    // How many entries the stored index has.
-    fn entry_count(self) -> usize
-        ensures { result ≤ 65535 }
+    // How many bytes the stored index has: four for each entry.
+    fn index_length(self) -> usize
+        ensures { result ≤ 262140 }
     {
-        self.0.number(8)
+        4 * self.0.number(8)
     }
 
-    // An entry of the stored index: a place, and its close.
-    fn entry(self, k: usize) -> (usize, u16)
-        requires { k ≤ 65535 }
-    {
-        let entry = self.0.after(10 + 4 * k);
-        (entry.number(0), entry.word(2))
+    // The entries of the stored index.
+    fn entries(self) -> &'a [u8] {
+        self.0.after(10).before(self.index_length())
     }
 
     // The first call, and what follows it.
     pub fn calls(self) -> Body<'a> {
-        self.0.after(10 + 4 * self.entry_count())
+        self.0.after(10 + self.index_length())
     }
 
     // Makes the index area what the first call is lent: the stored index where the note is 1, and what is left over.
@@ -56,35 +60,29 @@ impl<'a> Session<'a> {
         }
         let n = self.text().len().min(index.len());
         index[..n].fill(0);
-        for k in (0..self.entry_count()).rev() {
-            let (place, close) = self.entry(k);
+        for entry in self.entries().chunks_exact(4) {
+            let (place, close) = entry_of(entry);
             if let Some(value) = index.get_mut(place) {
                 *value = close;
             }
         }
     }
 
-    // Whether the places of the text hold the stored index.
+    // Whether the places of the text hold the stored index: where an entry is not 0, place and close are the stored ones.
     fn has_entries(self, index: &[u16]) -> bool {
-        let count = self.entry_count();
-        let mut k = 0;
-        for (i, value) in index.iter().enumerate() {
-            if k < count && self.entry(k).0 == i {
-                if *value != self.entry(k).1 {
-                    return false;
-                }
-                k += 1;
-            } else if *value != 0 {
-                return false;
-            }
-        }
-        k == count
+        index
+            .iter()
+            .enumerate()
+            .filter(|(_, close)| **close != 0)
+            .map(|(place, close)| (place, *close))
+            .eq(self.entries().chunks_exact(4).map(entry_of))
     }
 
     // Whether the index area is as it should be after the calls: built with the note 1, as it was with another.
     pub fn has_index(self, note: u8, index: &[u16]) -> bool {
         let n = if note == 1 { self.text().len() } else { 0 };
-        (note != 1 || index.get(..n).is_some_and(|built| self.has_entries(built)))
-            && rest_is(index, n, self.left_over())
+        index.split_at_checked(n).is_some_and(|(built, rest)| {
+            (note != 1 || self.has_entries(built)) && is_all(rest, self.left_over())
+        })
     }
 }

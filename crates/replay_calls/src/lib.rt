@@ -2,8 +2,8 @@
 // docs/DIFFERENCES.md has the body of each kind.
 #![tactic(auto)]
 
-pub mod annotations;
-pub mod leaves;
-pub mod look_ups;
+pub mod numbers;
 pub mod parts;
 pub mod pools;
+pub mod sessions;
+pub mod texts;

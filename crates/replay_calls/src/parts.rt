@@ -1,4 +1,5 @@
-// The kinds of a group's parts: close, locator and item. A body is the request's numbers, the answer's numbers, the text.
+// The kinds of a group's parts: close, locator and item.
+// A body is the request's numbers, the answer's numbers, the text.
 use base::Span;
 use base::refusal::Refusal;
 use item::Item;

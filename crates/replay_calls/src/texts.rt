@@ -1,4 +1,5 @@
-// The leaves' kinds. A body is the request's numbers, the answer's numbers, the text.
+// The kinds of the inner functions on a text.
+// A body is the request's numbers, the answer's numbers, the text.
 use replay_body::body::Body;
 
 // Whether the text is UTF-8.
