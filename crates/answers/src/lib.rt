@@ -35,7 +35,7 @@ pub fn has_room(answer: &[u32], n: usize) -> bool
     n <= answer.len()
 }
 
-// Numbers, at the front of `answer`.
+// Numbers, at the front of `answer`. (A function for its contract: what the writers promise speaks of `written`.)
 fn put<const N: usize>(answer: &mut [u32], numbers: [u32; N])
     requires { N ≤ length answer.old }
     ensures { answer.new ≡ written numbers.entry answer.old }

@@ -5,6 +5,7 @@
 ghost use Rattle.examples.specs.Examples.{Examples};
 
 // Every case of the table of specs/Examples holds.
+#[tactic(auto, using(crate::proofs::Table::examples))]
 pub fn examples_hold()
     ensures { Examples }
 {}

@@ -69,6 +69,7 @@ pub fn list(text: &[u8], out: &mut [u8; ROOM]) -> usize
 }
 
 // The theorem of specs/Listing. The function does nothing; its contract states it.
+#[tactic(auto, using(crate::proofs::Enough::text_refusals_only))]
 pub fn theorems()
     ensures text_refusals_only { TextRefusalsOnly }
 {}

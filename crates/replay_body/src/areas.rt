@@ -9,9 +9,10 @@ pub const UNUSED: u16 = 43690;
 // What an area of bytes holds where no call wrote.
 pub const BLANK: u8 = 170;
 
-// The areas that the calls of a session are lent.
+// The note and the areas that the calls of a session are lent.
 #[derive(Drop)]
 pub struct Areas {
+    pub note: u8,
     pub index: Vec<u16>,
     pub items: Vec<u16>,
     pub groups: Vec<u16>,
@@ -28,6 +29,7 @@ impl Areas {
             (65536, 21846, 16400)
         };
         Ok(Areas {
+            note: 0,
             index: vec![in alloc; 0u16; index]?,
             items: vec![in alloc; UNUSED; records::ITEM_WIDTH * items]?,
             groups: vec![in alloc; UNUSED; records::GROUP_WIDTH * groups]?,

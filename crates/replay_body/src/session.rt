@@ -2,7 +2,7 @@
 // What the index area holds before the first call, and whether it holds the stored index after the last.
 ghost use Rattle.std.specs.Prelude.{◌≤◌};
 
-use crate::areas::is_all;
+use crate::areas::{Areas, is_all};
 use crate::body::Body;
 
 // The body of a record of calls.
@@ -21,7 +21,7 @@ impl<'a> Session<'a> {
     }
 
     // The note that the first call is given.
-    pub fn first_note(self) -> u8 {
+    fn first_note(self) -> u8 {
         self.0.byte(3)
     }
 
@@ -52,17 +52,18 @@ impl<'a> Session<'a> {
         self.0.after(10 + self.index_length())
     }
 
-    // Makes the index area what the first call is lent: the stored index where the note is 1, and what is left over.
-    pub fn set_index(self, index: &mut [u16]) {
-        index.fill(self.left_over());
-        if self.first_note() != 1 {
+    // Makes note and index area what the first call is lent: the stored index where the note is 1, and what is left over.
+    pub fn start(self, areas: &mut Areas) {
+        areas.note = self.first_note();
+        areas.index.fill(self.left_over());
+        if areas.note != 1 {
             return;
         }
-        let n = self.text().len().min(index.len());
-        index[..n].fill(0);
+        let n = self.text().len().min(areas.index.len());
+        areas.index[..n].fill(0);
         for entry in self.entries().chunks_exact(4) {
             let (place, close) = entry_of(entry);
-            if let Some(value) = index.get_mut(place) {
+            if let Some(value) = areas.index.get_mut(place) {
                 *value = close;
             }
         }
@@ -79,10 +80,14 @@ impl<'a> Session<'a> {
     }
 
     // Whether the index area is as it should be after the calls: built with the note 1, as it was with another.
-    pub fn has_index(self, note: u8, index: &[u16]) -> bool {
-        let n = if note == 1 { self.text().len() } else { 0 };
-        index.split_at_checked(n).is_some_and(|(built, rest)| {
-            (note != 1 || self.has_entries(built)) && is_all(rest, self.left_over())
+    pub fn has_index(self, areas: &Areas) -> bool {
+        let n = if areas.note == 1 {
+            self.text().len()
+        } else {
+            0
+        };
+        areas.index.split_at_checked(n).is_some_and(|(built, rest)| {
+            (areas.note != 1 || self.has_entries(built)) && is_all(rest, self.left_over())
         })
     }
 }

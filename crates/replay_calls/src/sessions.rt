@@ -10,27 +10,27 @@ use std::alloc::{AllocError, Global};
 
 // A call that a session stores, with its answer.
 trait Stored: Copy {
-    // Makes the call: the note after it, or none where the answer is not the stored one.
-    fn ask(self, text: &[u8], note: u8, areas: &mut Areas) -> Option<u8>;
+    // Makes the call, keeps its note, and says whether its answer is the stored one.
+    fn ask(self, text: &[u8], areas: &mut Areas) -> bool;
 
     // The call after this one.
     fn after(self) -> Self;
 }
 
 impl<'a> Stored for StoredLookUp<'a> {
-    fn ask(self, text: &[u8], note: u8, areas: &mut Areas) -> Option<u8> {
+    fn ask(self, text: &[u8], areas: &mut Areas) -> bool {
         let answer = local_records::look_up(
             text,
             self.place(),
-            note,
+            areas.note,
             &mut areas.index,
             &mut areas.items,
         );
+        areas.note = answer.note;
         let values = answer.group.map(|group| [group.close, group.count]);
-        let is_same = numbers_of(values) == self.numbers()
+        numbers_of(values) == self.numbers()
             && answer.note == self.note()
-            && self.has_items(&areas.items);
-        is_same.then_some(answer.note)
+            && self.has_items(&areas.items)
     }
 
     fn after(self) -> StoredLookUp<'a> {
@@ -39,28 +39,26 @@ impl<'a> Stored for StoredLookUp<'a> {
 }
 
 impl<'a> Stored for StoredAnnotation<'a> {
-    fn ask(self, text: &[u8], note: u8, areas: &mut Areas) -> Option<u8> {
+    fn ask(self, text: &[u8], areas: &mut Areas) -> bool {
         let answer = local_records::annotate(
             text,
             self.mode(),
             self.pool(),
-            note,
+            areas.note,
             &mut areas.index,
             &mut areas.items,
             &mut areas.groups,
             &mut areas.references,
             &mut areas.labels,
         );
+        areas.note = answer.note;
         let values = answer.counts.map(|counts| [
             counts.groups,
             counts.items,
             counts.sources,
             counts.label_bytes,
         ]);
-        let is_same = numbers_of(values) == self.numbers()
-            && answer.note == self.note()
-            && self.has_areas(areas);
-        is_same.then_some(answer.note)
+        numbers_of(values) == self.numbers() && answer.note == self.note() && self.has_areas(areas)
     }
 
     fn after(self) -> StoredAnnotation<'a> {
@@ -71,18 +69,16 @@ impl<'a> Stored for StoredAnnotation<'a> {
 // Whether every call of a session, from `first` on, has the stored answer, and the index after them.
 fn agrees<S: Stored>(alloc: Global, session: Session<'_>, first: S) -> Result<bool, AllocError> {
     let mut areas = Areas::new(alloc, session.text().len())?;
-    session.set_index(&mut areas.index);
-    let mut note = session.first_note();
+    session.start(&mut areas);
     let mut stored = first;
     for _ in 0..session.count() {
-        let Some(left) = stored.ask(session.text(), note, &mut areas) else {
+        if !stored.ask(session.text(), &mut areas) {
             return Ok(false);
-        };
+        }
         areas.clear();
-        note = left;
         stored = stored.after();
     }
-    Ok(session.has_index(note, &areas.index))
+    Ok(session.has_index(&areas))
 }
 
 // Whether look-ups on a text have the stored answers.
