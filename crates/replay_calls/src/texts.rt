@@ -14,9 +14,10 @@ pub fn escaped_agrees(body: Body<'_>) -> bool {
     at <= s.len() && usize::from(text::is_escaped_at(s, at)) == body.number(2)
 }
 
-// Where the key at a place ends.
+// Where the key at a place ends; the place itself where no key stands there.
 pub fn key_agrees(body: Body<'_>) -> bool {
-    key::parse_key(body.after(4).0, body.number(0)) == body.number(2)
+    let at = body.number(0);
+    key::parse_key(body.after(4).0, at).unwrap_or(at) == body.number(2)
 }
 
 // Whether a byte is part of white space; past the end it is not.
