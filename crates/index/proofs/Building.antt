@@ -1,4 +1,5 @@
--- A build: what is known holds at the start and after every turn, so that a turn can be taken and the areas are right at the end.
+-- A build: what is known holds at the start and after every turn,
+-- so that a turn can be taken and the areas are right at the end.
 use Prim.Native.Nat.{ℕ, zero, suc, ◌+◌, ◌-◌, ◌≤◌, ◌<◌}
 use native.Mathlib.Omega.{arith}
 use mathlib.Core.Path.{◌≡◌, refl, sym, ◌∙◌, ap, ap₂, subst}
@@ -171,7 +172,7 @@ module _ (s index₀ : List ℕ) (records₀ : List Bracket) (fi : length s ≤ 
         right : (p : ℕ) → Settled s c.depth records c.inner index p → get_or index p 0 ≡ index_at s p
         right p (inl x) = x
         right p (inr x) =
-            x.1 ∙ sym (entry_open s p (stack_end s c.at c.depth records c.inner (sym (ended s c.at (length s) _ refl h)) w.stack p x.0))
+            x.1 ∙ sym (entry_open s p (stack_end s c.at c.depth records c.inner (ended s c.at (length s) _ h) w.stack p x.0))
 
         lr : length (replicate (length s) blank) ≡ length s
         lr = length-replicate (length s) blank

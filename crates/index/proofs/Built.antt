@@ -1,4 +1,5 @@
--- What a build leaves in the index area: as many numbers as before, the first of them the index of the text.
+-- What a build leaves in the index area:
+-- as many numbers as before, the first of them the index of the text.
 use Prim.Native.Nat.{ℕ, ◌+◌, ◌≤◌, ◌<◌}
 use native.Mathlib.Omega.{arith}
 use mathlib.Core.Path.{◌≡◌, sym, ◌∙◌, ap}

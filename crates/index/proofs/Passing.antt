@@ -1,4 +1,5 @@
--- Laws on the ordinary bytes that a turn goes on over, in the form of the code's needs.
+-- Laws on the ordinary bytes that a turn goes on over,
+-- in the form of the goals.
 use Prim.Native.Nat.{ℕ, zero, suc, ◌+◌, ◌-◌, ◌≤◌, ◌<◌}
 use native.Mathlib.Omega.{arith}
 use mathlib.Core.Path.{◌≡◌, refl, sym, ◌∙◌, ap}
@@ -38,9 +39,6 @@ unfolding read_on latest key_here
 read_past s i r h = rw (ne_eqb _ 59 (ordinary_ne 59 refl h), ne_eqb _ 64 (ordinary_ne 64 refl h), ne_eqb _ 92 (ordinary_ne 92 refl h))
 
 -- content ---------------------------------------------------------------------------------------------------------------------------
-
-pub content_here : (s : List ℕ) (i k : ℕ) {b : Bool} → b ≡ is_ascii_graphic (byte_at s i) → b ≡ true → i + 1 ≡ pick (is_white s i) k (i + 1)
-content_here s i k p t = rw (graphic_plain s i (sym p ∙ t))
 
 pub end_fits : (s : List ℕ) (a e : ℕ) {x : ℕ} → x ≡ trim_end s a e → a < e → e ≤ length s → length s ≤ 65535 → x < 65536
 end_fits s a e p h l m = omega (arith, end_by s a e)

@@ -1,4 +1,5 @@
--- Plain facts of the loop of `bracket_pairs`: what holds at its head, at the start, after a turn, and where the loop is left.
+-- Plain facts of the loop of `bracket_pairs`:
+-- what holds at its head, at the start, after a turn, and where the loop is left.
 use Rattle.std.proofs.Common.{ℕ, ◌-◌, ◌<◌, ◌≤◌, ◌≡◌, refl, ◌∙◌, ap, List, ◌++◌, false, length, get_or, take, drop, replicate, arith, rules}
 use borrow.Author.Tests.{lt-ltb}
 use Rattle.index.specs.declared.Bracket.{Bracket}
@@ -6,17 +7,19 @@ use Rattle.index.specs.declared.Plan.{Plan}
 use Rattle.index.specs.declared.Scan.{Scan}
 use Rattle.index.specs.Built.{blank}
 use Rattle.index.specs.Building.{Both, built, Enough}
-use Rattle.index.specs.Passing.{turn_of, turn_at, unread}
-use Rattle.index.specs.Scan.{first_reads, start, step_index, step_records}
+use Rattle.index.specs.Passing.{skipped, turn_of, turn_at, unread}
+use Rattle.index.specs.Scan.{first_reads, start, scan_plan, step_index, step_records}
 use Rattle.index.specs.Turn.{Ready}
 use Rattle.index.proofs.Turns.{KnownAt}
+use Rattle.index.proofs.Passing.{turn_is}
 use Rattle.index.proofs.Building.{length_filled, fill_front, turn_far, build_start, build_turn, build_end, fine, read_in, slot_in, place_in}
 
 -- the turn over the records as they were read
-pub turned : (s : List ℕ) (c : Scan) (records : List Bracket) {k : ℕ} {outer : Bracket} {p : Plan} → p ≡ turn_of s c outer
-    → outer ≡ get_or records k blank → k ≡ c.depth - 1 → p ≡ turn_at s c records
+pub turned : (s : List ℕ) (c : Scan) (records : List Bracket) {k : ℕ} {outer : Bracket} {p : Plan} {n : Scan} → p ≡ scan_plan s c outer
+    → n ≡ skipped s p.next → outer ≡ get_or records k blank → k ≡ c.depth - 1
+    → record { next = n; slot = p.slot; top = p.top; place = p.place; mark = p.mark } ≡ turn_at s c records
 unfolding turn_at
-turned s c records e o k = e ∙ ap (turn_of s c) (o ∙ ap (λ (n : ℕ). get_or records n blank) k)
+turned s c records {outer = outer} e q o k = turn_is s c outer e q ∙ ap (turn_of s c) (o ∙ ap (λ (n : ℕ). get_or records n blank) k)
 
 -- the state before the first byte, and the record of zeros, as the defaults of their types
 abbrev Zero : Bracket → Type 0

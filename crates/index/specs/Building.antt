@@ -1,4 +1,5 @@
--- Follows the code; nothing to believe: what a build asks of the lent areas, and both of them after it.
+-- Follows the code; nothing to believe: what a build asks of the lent areas,
+-- and both of them after it.
 use Rattle.std.specs.Prelude.{ℕ, ◌≤◌, Bool, List, length}
 use Rattle.index.specs.declared.Bracket.{Bracket}
 use Rattle.index.specs.Built.{built_index, built_records, index_after, records_after}

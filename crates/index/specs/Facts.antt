@@ -1,4 +1,5 @@
--- Theorems: the index in one pass, proved in proofs/Linear.
+-- Theorems: the index in one pass,
+-- proved in proofs/Linear.
 use Rattle.std.specs.Prelude.{ℕ, ◌≤◌, List, ◌≡◌, length}
 use Rattle.index.specs.declared.Bracket.{Bracket}
 use Rattle.index.specs.Built.{blank}

@@ -1,5 +1,5 @@
 // The build of the index: what it reads and stores of the lent bracket records, one turn of the scan, and the loop.
-// No other function reads or writes the slice of records.
+// No other module reads or writes the slice of records.
 ghost use Rattle.std.specs.Prelude.{◌<◌, length, set, get_or, true, ◌≡◌};
 ghost use Rattle.index.specs.Built.{blank};
 ghost use Rattle.index.specs.Building.{built, built_when, Enough};
@@ -7,9 +7,9 @@ ghost use Rattle.index.specs.Passing.{turn_at};
 ghost use Rattle.index.specs.Scan.{step_index, step_records};
 ghost use Rattle.index.specs.Turn.{Ready};
 
-use crate::{Bracket, Scan, decide};
+use crate::{Bracket, Scan, scan_plan, skip};
 
-// The record at `i`.
+// A record, as the definition of a turn reads it.
 fn record_at(records: &mut [Bracket], i: usize) -> Bracket
     requires { i < length records.old }
     ensures { (result ≡ get_or records.old i blank) × (records.new ≡ records.old) }
@@ -17,7 +17,7 @@ fn record_at(records: &mut [Bracket], i: usize) -> Bracket
     records[i]
 }
 
-// Puts `b` at `i`.
+// A record, as the definition of a turn writes it.
 fn store(records: &mut [Bracket], i: usize, b: Bracket)
     requires { i < length records.old }
     ensures { records.new ≡ set records.old i b }
@@ -25,14 +25,8 @@ fn store(records: &mut [Bracket], i: usize, b: Bracket)
     records[i] = b;
 }
 
-// How many records are lent.
-pub fn count(records: &mut [Bracket]) -> usize
-    ensures { (result ≡ length records.old) × (records.new ≡ records.old) }
-{
-    records.len()
-}
-
 // One turn of the scan: the next state, with one record stored and one entry written.
+#[tactic(auto, using(crate::proofs::Passing::turn_laws))]
 fn step(text: &[u8], c: Scan, index: &mut [u16], records: &mut [Bracket]) -> Scan
     requires { Ready text.now c index.old records.old }
     ensures { (result ≡ (turn_at text.now c records.old).next)
@@ -40,10 +34,11 @@ fn step(text: &[u8], c: Scan, index: &mut [u16], records: &mut [Bracket]) -> Sca
         × (records.new ≡ step_records (turn_at text.now c records.old) records.old) }
 {
     let outer = record_at(records, c.depth.saturating_sub(1));
-    let plan = decide(text, c, outer);
+    let plan = scan_plan(text, c, outer);
+    // both stores stand before `skip`: by `decide`, after it, a text of `[` alone takes 329 µs, and so 238
     store(records, plan.slot, plan.top);
     index[plan.place] = plan.mark;
-    plan.next
+    skip(text, plan.next)
 }
 
 // Builds the index of the text: clears its entries, takes the turns of the scan, and clears the records.
@@ -60,7 +55,8 @@ fn bracket_pairs(text: &[u8], index: &mut [u16], records: &mut [Bracket])
     records[..text.len()].fill(Bracket::default());
 }
 
-// Builds the index where that is wanted; else does nothing.
+// Builds the index where that is wanted; else does nothing. (No closure, and no `if` at the callers: what a call promises of both areas is one
+// equation over `want`, and this contract is that equation.)
 #[tactic(auto, unfolding(crate::specs::Built::index_after, crate::specs::Built::records_after))]
 pub fn build_when(want: bool, text: &[u8], index: &mut [u16], records: &mut [Bracket])
     requires { want ≡ true → Enough text.now (length index.old) (length records.old) }

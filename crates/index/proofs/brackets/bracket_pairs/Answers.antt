@@ -1,4 +1,5 @@
--- `brackets::bracket_pairs`: the scan's turns, between a cleared index and cleared records.
+-- `brackets::bracket_pairs`: the scan's turns,
+-- between a cleared index and cleared records.
 use Rattle.index.proofs.Stepping.{step_start, step_ready, step_less, step_next, step_end}
 use Rattle.index.proofs.brackets.bracket_pairs.Goals as goal
 

@@ -1,4 +1,5 @@
--- `brackets::bracket_pairs`: what holds at the head of the loop over the turns, and how much of the text is left.
+-- `brackets::bracket_pairs`: what holds at the head of the loop over the turns,
+-- and how much of the text is left.
 use Rattle.std.proofs.Common.{length, ◌-◌}
 use Rattle.index.proofs.Stepping.{Stepped}
 use Rattle.index.proofs.brackets.bracket_pairs.Given as goal
