@@ -192,5 +192,3 @@ module _ (text : List ℕ) (at close count : ℕ) (s : SweepState) (items groups
         };
         counted = after_counted true t;
       }
-
-pub ruleset record_laws = (recorded_not, recorded_fits)

@@ -87,7 +87,7 @@ fn after_group(s: SweepState, close: usize, count: usize, inside: bool, fits: bo
 
 // Records the group at `at`: writes its records if they fit, and otherwise only counts it. Where they do not fit, nothing is promised of the
 // two areas.
-#[tactic(auto, using(crate::proofs::Recording::room_laws, crate::proofs::Recording::record_laws))]
+#[tactic(auto, using(crate::proofs::Recording::room_laws))]
 pub fn record_group(
     text: &[u8],
     s: SweepState,
