@@ -1,4 +1,5 @@
--- Cases: attributes.
+-- Cases: attributes that are given,
+-- empty, or not given.
 use Rattle.std.specs.Prelude.{ℕ, ◌≡◌, refl, List, []}
 use Rattle.std.proofs.Math.Option.{Option, none, some}
 use Rattle.base.specs.Ascii.{ascii}

@@ -1,4 +1,5 @@
--- Attributes of a line whose close, or whose next group, lies past the text, and the needs of `attributes`.
+-- Attributes of a line whose close, or whose next group, lies past the text,
+-- in the form of the goals of `attributes`.
 use Prim.Native.Nat.{ℕ, ◌+◌, ◌-◌, min, ◌≤◌, ◌<◌}
 use native.Mathlib.Omega.{arith}
 use mathlib.Core.Path.{◌≡◌, refl, sym, ◌∙◌}

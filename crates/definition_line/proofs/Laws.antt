@@ -1,4 +1,5 @@
--- Where the attributes of a definition line lie.
+-- Where the attributes of a definition line lie,
+-- in the form of the goals.
 use Prim.Native.Nat.{ℕ, ◌+◌, ◌-◌, ◌≤◌, ◌<◌}
 use native.Mathlib.Omega.{arith}
 use mathlib.Core.Path.{◌≡◌, refl, sym, ◌∙◌, ap}

@@ -1,4 +1,5 @@
--- Follows the code; nothing to believe: a brace or a break, in one search.
+-- Follows the code; nothing to believe: a brace or a break,
+-- in one search.
 use Rattle.std.specs.Prelude.{ℕ, ◌-◌, List, ◌||◌, eqb}
 use Rattle.base.specs.First.{first}
 use Rattle.base.specs.Lists.{byte_at}

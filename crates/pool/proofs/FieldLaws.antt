@@ -1,4 +1,5 @@
--- The fields of a stretch, one at a time: more turns than bytes change nothing, so what is left is again the fields of a stretch.
+-- The fields of a stretch, one at a time: more turns than bytes change nothing,
+-- so what is left is again the fields of a stretch.
 use Prim.Native.Nat.{ℕ, zero, suc, ◌+◌, ◌-◌, ◌≤◌, ◌<◌}
 use native.Mathlib.Omega.{arith}
 use mathlib.Core.Path.{◌≡◌, refl, ◌∙◌}

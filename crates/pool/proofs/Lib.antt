@@ -1,5 +1,6 @@
 pub mod NumberLaws
 pub mod FieldLaws
+pub mod FindLaws
 pub mod PartLaws
 pub mod PoolLaws
 pub mod LayoutLaws

@@ -1,4 +1,5 @@
--- Little-endian numbers, by laws over the width.
+-- Little-endian numbers, by laws over the width,
+-- and the sign of a number of eight bytes.
 use Prim.Native.Nat.{ℕ, zero, suc, ◌+◌, ◌-◌, ◌≤◌, ◌<◌}
 use native.Mathlib.Omega.{arith}
 use mathlib.Core.Path.{◌≡◌, refl}

@@ -1,4 +1,5 @@
--- The fields of a part of some bytes are those that the bytes have there, and fields are read off the front.
+-- The fields of a part of some bytes are those that the bytes have there,
+-- and fields are read off the front.
 use Prim.Native.Nat.{ℕ, zero, suc, ◌+◌, ◌-◌, ◌≤◌, ◌<◌}
 use native.Mathlib.Omega.{arith}
 use mathlib.Core.Path.{◌≡◌, refl, sym, ◌∙◌, ap}

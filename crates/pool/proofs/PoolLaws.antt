@@ -1,4 +1,5 @@
--- What a well-formed pool has: room for its pairs and an entry at each pair.
+-- What a well-formed pool has: room for its pairs,
+-- and an entry at each pair.
 use Prim.Native.Nat.{ℕ, zero, suc, ◌+◌, ◌-◌, ◌*◌, ◌≤◌, ◌<◌}
 use native.Mathlib.Omega.{arith}
 use mathlib.Core.Path.{◌≡◌, refl, sym, ◌∙◌, ap}

@@ -1,4 +1,5 @@
--- THEOREM `FieldsRead`: the fields of an entry are read to what they were made of.
+-- THEOREM `FieldsRead`: the fields of an entry are read
+-- to what they were made of.
 use Prim.Native.Nat.{ℕ, ◌<◌}
 use native.Mathlib.Omega.{arith}
 use mathlib.Core.Path.{◌≡◌, refl, ◌∙◌}

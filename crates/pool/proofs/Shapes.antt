@@ -1,4 +1,5 @@
--- THEOREMS `GoodIsSpelled` and `SpelledIsGood`: the tags of a good entry are 1 (2 3? 4? 5?)* 6? 7? 8?, and these make one good.
+-- THEOREMS `GoodIsSpelled` and `SpelledIsGood`: the tags of a good entry are 1 (2 3? 4? 5?)* 6? 7? 8?,
+-- and these make one good.
 use Prim.Native.Nat.{ℕ, ◌≤◌, ◌<◌}
 use native.Mathlib.Omega.{arith}
 use mathlib.Core.Path.{◌≡◌, refl, sym, ◌∙◌, ap, subst}

@@ -1,4 +1,5 @@
--- Follows the code; nothing to believe: the fields of some bytes, and what the readers answer with, as the layout's values.
+-- Follows the code; nothing to believe: the fields of some bytes,
+-- and what the readers answer with, as the layout's values.
 use Rattle.std.specs.Prelude.{ℕ, ℤ, pos, negsuc, suc, List, Bool, true, false, length}
 use Rattle.std.specs.Prelude.{Option as Answer, Some, None}
 use Rattle.std.proofs.Math.Option.{Option, none, some}

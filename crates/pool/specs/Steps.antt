@@ -1,4 +1,5 @@
--- Follows the code; nothing to believe: the layout, a field and a pair at a time, as the loops of the check go.
+-- Follows the code; nothing to believe: the layout, a field and a pair at a time,
+-- as the loops of the check go.
 use Rattle.std.specs.Prelude.{ℕ, ◌≡◌, List, Bool, true, ◌&&◌, length, drop, eqb, leb}
 use Rattle.pool.specs.Fields.{Field, field_end, field_at, good_from, entry_good}
 use Rattle.pool.specs.Layout.{offset_of, end_of}

@@ -1,4 +1,5 @@
--- Follows the code; nothing to believe: the readers' types, as the layout's values.
+-- Follows the code; nothing to believe: the readers' types,
+-- as the layout's values.
 use Rattle.std.specs.Prelude.{List}
 use Rattle.base.specs.Lent.{lent}
 use Rattle.pool.specs.declared.field.Field.{Field as FieldPart}

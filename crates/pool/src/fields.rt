@@ -58,16 +58,12 @@ impl<'a> Fields<'a> {
     ghost use Rattle.pool.specs.Views.{fields_left};
 
     // The bytes of the first field with the tag `tag`.
-    #[tactic(auto, unfolding(crate::specs::Entries::field_with))]
     pub fn field(self, tag: u8) -> Option<&'a [u8]>
         ensures { lent result ≡ field_with tag (fields_left self.entry) }
     {
-        for field in self {
-            if field.tag == tag {
-                return Some(field.bytes);
-            }
-        }
-        None
+        let mut fields = self;
+        let field = fields.find(|field| field.tag == tag)?;
+        Some(field.bytes)
     }
 
     // The year, the number of the field YEAR.

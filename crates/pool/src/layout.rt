@@ -1,5 +1,7 @@
-// The check of the pool's layout.
-ghost use Rattle.std.specs.Prelude.{◌≡◌, ◌&&◌, ◌+◌, ◌*◌, ◌≤◌, ◌<◌, length};
+// The check of the pool's layout,
+// and the bounds of its entries.
+ghost use Rattle.std.specs.Prelude.{◌≡◌, ◌&&◌, ◌+◌, ◌*◌, ◌≤◌, ◌<◌, IfSome, length};
+ghost use Rattle.std.specs.Option.{unwrap_or};
 ghost use Rattle.pool.specs.Fields.{follows, content_good, entry_good};
 ghost use Rattle.pool.specs.Steps.{pair_good};
 ghost use Rattle.pool.specs.Layout.{offset_of, end_of, entries_good, well_formed};
@@ -8,16 +10,19 @@ use crate::field::{Field, split_field};
 use crate::fields::tag;
 use crate::numbers::u16_at;
 
-// Whether a field with the tag `next` may come after one with the tag `last` (0: it is the entry's first).
+// Whether a field with the tag `next` may come after one with the tag `last`, or as the entry's first where there is none.
 #[tactic(auto, using(std::proofs::lemmas::Grind::common_steps), unfolding(crate::specs::Fields::follows))]
-fn may_follow(last: u8, next: u8) -> bool
-    ensures { result ≡ follows last next }
+fn may_follow(last: Option<u8>, next: u8) -> bool
+    requires { IfSome last (λ t. 0 < t) }
+    ensures { result ≡ follows (unwrap_or last 0) next }
 {
+    let Some(last) = last else {
+        return next == tag::ID;
+    };
     match next {
-        tag::ID => last == 0,
-        tag::NAME => tag::ID <= last && last <= tag::LITERAL,
+        tag::NAME => last <= tag::LITERAL,
         tag::FAMILY..=tag::LITERAL => tag::NAME <= last && last < next,
-        tag::YEAR..=tag::TITLE => tag::ID <= last && last < next,
+        tag::YEAR..=tag::TITLE => last < next,
         _ => false,
     }
 }
@@ -34,19 +39,20 @@ fn has_good_content(tag: u8, bytes: &[u8]) -> bool
     }
 }
 
-// Whether a field may come after one with the tag `last`.
-fn is_good(last: u8, field: Field) -> bool
-    ensures { result ≡ (follows last field.entry.tag && content_good field.entry.tag field.entry.bytes.now) }
+// Whether a field may come after one with the tag `last`, or as the first.
+fn is_good(last: Option<u8>, field: Field) -> bool
+    requires { IfSome last (λ t. 0 < t) }
+    ensures { result ≡ (follows (unwrap_or last 0) field.entry.tag && content_good field.entry.tag field.entry.bytes.now) }
 {
     may_follow(last, field.tag) && has_good_content(field.tag, field.bytes)
 }
 
-// Whether the bytes are an entry.
+// Whether the bytes are an entry. (No `for` over `Fields`, whose bytes are known to be fields: this is the check.)
 #[tactic(auto, using(crate::proofs::LayoutLaws::entry_laws))]
 fn is_entry(bytes: &[u8]) -> bool
     ensures { result ≡ entry_good bytes.now 0 (length bytes.now) }
 {
-    let mut last = 0;
+    let mut last = None;
     let mut rest = bytes;
     while !rest.is_empty() {
         let Some((field, others)) = split_field(rest) else {
@@ -55,10 +61,10 @@ fn is_entry(bytes: &[u8]) -> bool
         if !is_good(last, field) {
             return false;
         }
-        last = field.tag;
+        last = Some(field.tag);
         rest = others;
     }
-    tag::ID <= last
+    last.is_some()
 }
 
 // Where entry `i` begins and ends.

@@ -1,4 +1,5 @@
-// The names of an entry.
+// The names of an entry, read one after the other,
+// and the parts of each.
 ghost use Rattle.std.specs.Prelude.{◌≡◌};
 ghost use Rattle.base.specs.Lent.{lent};
 ghost use Rattle.pool.specs.Entries.{in_name, name_after, names_in};

@@ -1,4 +1,5 @@
--- Document 01, Corners of the Rust: the author and the year of an entry of the pool (`csl_to_def`, `csl_year`).
+-- Document 01, Corners of the Rust: the author and the year
+-- of an entry of the pool (`csl_to_def`, `csl_year`).
 use Rattle.std.specs.Prelude.{ℕ, List, [], ◌∷◌, Bool, true, false}
 use Rattle.std.proofs.Math.Option.{Option, none, some, or_else}
 use Rattle.pool.specs.Numbers.{Signed}

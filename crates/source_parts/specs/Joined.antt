@@ -1,4 +1,5 @@
--- Document 01, Corners of the Rust: two parts of a text, joined (`csl_to_def`).
+-- Document 01, Corners of the Rust: two parts of a text,
+-- joined (`csl_to_def`).
 use Rattle.std.specs.Prelude.{ℕ, List, ◌++◌}
 use Rattle.base.specs.Pick.{pick}
 use Rattle.source.specs.Entry.{is_empty}

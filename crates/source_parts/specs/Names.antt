@@ -1,4 +1,5 @@
--- Document 01, Corners of the Rust: a name as it is written (`format_name`).
+-- Document 01, Corners of the Rust: a name
+-- as it is written (`format_name`).
 use Rattle.std.specs.Prelude.{ℕ, List, [], ◌∷◌, ◌++◌}
 use Rattle.std.proofs.Math.Option.{Option, none, some}
 use Rattle.pool.specs.Entries.{Name}

@@ -1,4 +1,5 @@
--- Document 01, Corners of the Rust: the year in parentheses.
+-- Document 01, Corners of the Rust: the year
+-- in parentheses.
 use Rattle.std.specs.Prelude.{ℕ, List, [], ◌∷◌, ◌++◌}
 use Rattle.std.proofs.Math.Option.{Option, none, some}
 

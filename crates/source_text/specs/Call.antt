@@ -1,4 +1,5 @@
--- Document 01, Ten numbers: the source text call.
+-- Document 01, Ten numbers: the source text call:
+-- its refusals, its answer and its area.
 use Rattle.std.specs.Prelude.{ℕ, List, not, length, ltb}
 use Rattle.base.specs.Pick.{pick}
 use Rattle.base.specs.Lists.{written}

@@ -1,4 +1,5 @@
--- Cases: the layout and the text of pools of one entry.
+-- Cases: the layout and the text
+-- of pools of one entry.
 use Rattle.std.specs.Prelude.{◌≡◌, refl, List, [], ◌∷◌, ◌++◌, map, true, ℕ}
 use Rattle.std.proofs.Math.Option.{some}
 use Rattle.base.specs.Ascii.{ascii}

@@ -1,4 +1,5 @@
--- Document 01, Corners of the Rust: the text of an entry of the pool (`csl_to_def`).
+-- Document 01, Corners of the Rust: the text
+-- of an entry of the pool (`csl_to_def`).
 use Rattle.std.proofs.Math.Option.{get_or}
 use Rattle.std.specs.Prelude.{ℕ, List, [], ◌∷◌, ◌++◌}
 use Rattle.base.specs.Pick.{pick}

@@ -1,4 +1,5 @@
--- Document 01, Layouts: the numbers and values of the source text call: the number (0 accepted), then the bytes written.
+-- Document 01, Layouts: the numbers and values of the source text call:
+-- the number (0 accepted), then the bytes written.
 use Rattle.std.specs.Prelude.{ℕ, List, [], ◌∷◌, Result, Ok, Err}
 use Rattle.base.specs.Refusals.{number_of, answered}
 use Rattle.base.specs.declared.refusal.Refusal.{Refusal}

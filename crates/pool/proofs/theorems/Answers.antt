@@ -1,4 +1,5 @@
--- `theorems`: those of proofs/Shapes and proofs/Readings.
+-- `theorems`: those of proofs/Shapes
+-- and proofs/Readings.
 use Rattle.pool.proofs.Shapes.{good_is_spelled, spelled_is_good}
 use Rattle.pool.proofs.Readings.{fields_read}
 use Rattle.pool.proofs.theorems.Goals as goal

@@ -1,4 +1,5 @@
--- `add_names`: one name more, and none is left.
+-- `add_names`: one name more,
+-- and none is left.
 use Rattle.std.proofs.Common.{◌∙◌, ap}
 use Rattle.pool.specs.Views.{fields_left, name_lent, names_left}
 use Rattle.source_parts.proofs.PartLaws.{holds_as}

@@ -1,4 +1,5 @@
--- `add_names`: the text is the names so far.
+-- `add_names`: the text is the names so far,
+-- in the same area.
 use Rattle.std.proofs.Common.{◌≡◌, List, [], ℕ}
 use Rattle.base.specs.Fold.{fold}
 use Rattle.pool.specs.Views.{names_left}

@@ -1,4 +1,5 @@
--- `Pool::count`: a pool with bytes has room for its count, and no pool has no entries.
+-- `Pool::count`: a pool with bytes has room for its count,
+-- and no pool has no entries.
 use Rattle.std.proofs.Common.{arith}
 use Rattle.pool.proofs.PoolLaws.{laid_out_lem, count_none}
 use Rattle.pool.proofs.Pool.count.Goals as goal

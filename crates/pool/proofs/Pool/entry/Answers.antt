@@ -1,4 +1,5 @@
--- `Pool::entry`: an entry stands between its bounds, and its bytes are the fields that stand there.
+-- `Pool::entry`: an entry stands between its bounds,
+-- and its bytes are the fields that stand there.
 use Rattle.std.proofs.Common.{arith}
 use Rattle.pool.proofs.PoolLaws.{pair_there, entry_there, entry_is, entry_reads}
 use Rattle.pool.proofs.Pool.entry.Goals as goal

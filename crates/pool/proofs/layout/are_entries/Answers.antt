@@ -1,4 +1,5 @@
--- `layout::are_entries`: one entry on.
+-- `layout::are_entries`: an entry is good,
+-- and the next one begins where it ends.
 use Rattle.std.proofs.Common.{rules}
 use Rattle.pool.proofs.LayoutLaws.{entries_next}
 use Rattle.pool.proofs.layout.are_entries.Goals as goal

@@ -1,4 +1,5 @@
--- `layout::are_entries`: all entries are good where those from number `i` on are.
+-- `layout::are_entries`: all entries are good
+-- where those from number `i` on are.
 use Rattle.std.proofs.Common.{◌≡◌, ◌+◌, ◌-◌, ◌*◌}
 use Rattle.pool.specs.Layout.{entries_good}
 use Rattle.pool.proofs.layout.are_entries.Given as goal

@@ -1,4 +1,5 @@
--- `names::name_field`: the field is that of a name whose fields go on with those that are left.
+-- `names::name_field`: the field is that of a name
+-- whose fields go on with those that are left.
 use Rattle.std.proofs.Common.{◌≡◌}
 use Rattle.pool.specs.Entries.{in_name}
 use Rattle.pool.specs.Views.{fields_left}

@@ -1,4 +1,5 @@
--- `Names::next`: no name is passed over.
+-- `Names::next`: no name is passed over,
+-- and a field fewer is left at each turn.
 use Rattle.std.proofs.Common.{◌≡◌, length}
 use Rattle.pool.specs.Views.{fields_left, names_left}
 use Rattle.pool.proofs.names.NamesIterator.next.Given as goal
