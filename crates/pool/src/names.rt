@@ -1,6 +1,6 @@
 // The names of an entry, read one after the other,
 // and the parts of each.
-ghost use Rattle.std.specs.Prelude.{◌≡◌};
+ghost use Rattle.std.specs.Prelude.{◌≡◌, ◌≤◌};
 ghost use Rattle.base.specs.Lent.{lent};
 ghost use Rattle.pool.specs.Entries.{in_name, name_after, names_in};
 ghost use Rattle.pool.specs.Views.{fields_left, name_lent, names_left};
@@ -21,7 +21,6 @@ pub struct Names<'a> {
     pub fields: Fields<'a>,
 }
 
-#[tactic(auto, unfolding(crate::specs::Entries::names_in, crate::specs::Entries::name_at))]
 impl<'a> Iterator for Names<'a> {
     ghost use Rattle.std.specs.Iterator.{YieldsFirstBy, item_count};
 
@@ -31,13 +30,10 @@ impl<'a> Iterator for Names<'a> {
 
     ghost remaining = { item_count names_left };
 
+    // The next name, if one is left: that of the fields after the next one with the tag NAME.
     fn next(&mut self) -> Option<NameParts<'a>> {
-        while let Some(field) = self.fields.next() {
-            if field.tag == tag::NAME {
-                return Some(name_after(self.fields));
-            }
-        }
-        None
+        self.fields.find(|field| field.tag == tag::NAME)?;
+        Some(name_after(self.fields))
     }
 }
 
@@ -51,19 +47,13 @@ impl<'a> Fields<'a> {
 }
 
 // The field with the tag among the fields 3, 4 and 5 that stand first, those of a name.
-#[tactic(auto, unfolding(crate::specs::Entries::in_name))]
 fn name_field<'a>(fields: Fields<'a>, tag: u8) -> Option<&'a [u8]>
+    requires { (3 ≤ tag) × (tag ≤ 5) }
     ensures { lent result ≡ in_name tag (fields_left fields.entry) }
 {
-    for field in fields {
-        if field.tag == tag {
-            return Some(field.bytes);
-        }
-        if !matches!(field.tag, tag::FAMILY..=tag::LITERAL) {
-            return None;
-        }
-    }
-    None
+    let mut parts = fields.take_while(|field| matches!(field.tag, tag::FAMILY..=tag::LITERAL));
+    let field = parts.find(|field| field.tag == tag)?;
+    Some(field.bytes)
 }
 
 // The name whose field 2 stands before these fields.
