@@ -208,19 +208,19 @@ module _ (s : List ℕ) (a e : ℕ) (l : a ≤ e) (h : e ≤ length s)
       in_part : x < n → (b : Bool) → is_first (byte_at t x) ≡ b → key_end s (x + a) ≡ key_end t x + a
       in_part p true r =
           let z : x + a + 1 ≡ x + 1 + a = omega arith in
-          let from = run_from t x {e = run_end t (x + 1)} refl in
-          let by = run_by t x {e = run_end t (x + 1)} refl (omega (arith, k)) in
-          sym (key_yes s (x + a) (omega arith) (ap is_first (same x p)) r refl refl)
+          let from = run_from t x in
+          let by = run_by t x (omega (arith, k)) in
+          key_yes s (x + a) (omega arith) (sym (ap is_first (same x p)) ∙ r)
           ∙ ap (λ (m : ℕ). without_marks s (x + a) (run_end s m)) z
           ∙ ap (without_marks s (x + a)) (run_same (x + 1) (omega arith))
           ∙ without_same x (run_end t (x + 1)) (omega arith) (omega (arith, k))
-          ∙ ap (λ (m : ℕ). m + a) (key_yes t x (omega (arith, k)) refl r refl refl)
+          ∙ ap (λ (m : ℕ). m + a) (sym (key_yes t x (omega (arith, k)) r))
       in_part p false r =
-          key_not s (x + a) (omega arith) (ap is_first (same x p)) r
-          ∙ ap (λ (m : ℕ). m + a) (sym (key_not t x (omega (arith, k)) refl r))
+          key_not s (x + a) (omega arith) (sym (ap is_first (same x p)) ∙ r)
+          ∙ ap (λ (m : ℕ). m + a) (sym (key_not t x (omega (arith, k)) r))
 
       at_stop : (b : Bool) → ltb e (length s) ≡ b → key_end s e ≡ e
-      at_stop true p = key_not s e (ltb-true e (length s) p) refl no_first
+      at_stop true p = key_not s e (ltb-true e (length s) p) no_first
       at_stop false p = key_out s e (ltb-false e (length s) p)
 
       go : (b : Bool) → ltb x n ≡ b → key_end s (x + a) ≡ key_end t x + a

@@ -1,5 +1,5 @@
--- Keys: where a key ends, and of which bytes it is. (In the laws of `parse_key` `b` is what a call of a test gave,
--- `e` what one of `run_end` gave.)
+-- Keys: where a key ends,
+-- and of which bytes it is.
 use Prim.Native.Nat.{ℕ, ◌+◌, ◌-◌, ◌≤◌, ◌<◌}
 use native.Mathlib.Omega.{arith}
 use mathlib.Core.Path.{◌≡◌, refl, sym, ◌∙◌, ap, subst}
@@ -23,32 +23,29 @@ module _ (s : List ℕ) (i : ℕ) where
   unfolding key_end
   key_out h = rw (le-ltb _ _ h)
 
-  pub key_not : {b : Bool} → i < length s → b ≡ is_first (byte_at s i) → b ≡ false → key_end s i ≡ i
+  pub key_not : i < length s → is_first (byte_at s i) ≡ false → key_end s i ≡ i
   unfolding key_end
-  key_not h q f = rw (lt-ltb _ _ h, sym q ∙ f)
+  key_not h f = rw (lt-ltb _ _ h, f)
 
-  pub key_yes : {b : Bool} {e r : ℕ} → i < length s → b ≡ is_first (byte_at s i) → b ≡ true → e ≡ run_end s (i + 1) → r ≡ without_marks s i e
-      → r ≡ key_end s i
+  pub key_yes : i < length s → is_first (byte_at s i) ≡ true → key_end s i ≡ without_marks s i (run_end s (i + 1))
   unfolding key_end
-  key_yes h q t p g = g ∙ ap (without_marks s i) p ∙ rw (lt-ltb _ _ h, sym q ∙ t)
+  key_yes h t = rw (lt-ltb _ _ h, t)
 
   -- the run begins after the key's first byte, and ends by the text's end
-  pub run_from : {e : ℕ} → e ≡ run_end s (i + 1) → i < e
+  pub run_from : i < run_end s (i + 1)
   unfolding run_end
-  run_from p = omega (arith, first_from (λ j. not (is_key (byte_at s j))) (length s - (i + 1)) (i + 1))
+  run_from = omega (arith, first_from (λ j. not (is_key (byte_at s j))) (length s - (i + 1)) (i + 1))
 
-  pub run_by : {e : ℕ} → e ≡ run_end s (i + 1) → i < length s → e ≤ length s
+  pub run_by : i < length s → run_end s (i + 1) ≤ length s
   unfolding run_end
-  run_by p h = omega (arith, first_by (λ j. not (is_key (byte_at s j))) (length s - (i + 1)) (i + 1))
+  run_by h = omega (arith, first_by (λ j. not (is_key (byte_at s j))) (length s - (i + 1)) (i + 1))
 
   -- a key has its first byte
-  pub key_there : {b : Bool} {e r : ℕ} → b ≡ is_first (byte_at s i) → b ≡ true → e ≡ run_end s (i + 1) → r ≡ without_marks s i e → i < r
+  pub key_there : is_first (byte_at s i) ≡ true → i < without_marks s i (run_end s (i + 1))
   unfolding without_marks
-  key_there {e} q t p g =
-      let l = run_from p in
-      rw g (last_end_behind (λ j. is_first (byte_at s j)) (e - i) i i i (omega arith) (omega arith) (sym q ∙ t))
+  key_there t = let l = run_from in last_end_behind (λ j. is_first (byte_at s j)) (run_end s (i + 1) - i) i i i (omega arith) (omega arith) t
 
-pub ruleset laws = (key_out, key_not, key_yes, key_there, run_from, run_by)
+pub ruleset laws = (key_out, key_not, key_yes, run_from, run_by, key_there)
 
 -- where a key ends ---------------------------------------------------------------------------------------------------------------
 
@@ -70,8 +67,8 @@ unfolding key_end without_marks
 key_run s i = go (starts_key s i)
   where
     go : (t : Bool) → pick t (last_end (λ j. is_first (byte_at s j)) (run_end s (i + 1) - i) i i) i ≤ run_end s (i + 1)
-    go true = omega (arith, run_from s i refl, last_end_by (λ j. is_first (byte_at s j)) (run_end s (i + 1) - i) i i (omega arith))
-    go false = omega (arith, run_from s i refl)
+    go true = omega (arith, run_from s i, last_end_by (λ j. is_first (byte_at s j)) (run_end s (i + 1) - i) i i (omega arith))
+    go false = omega (arith, run_from s i)
 
 -- a key that is there begins with what begins one
 pub key_starts : (s : List ℕ) (i : ℕ) → i < key_end s i → starts_key s i ≡ true
@@ -88,7 +85,7 @@ key_by_lem s i h = go (split (ltb i (key_end s i)))
     go : (ltb i (key_end s i) ≡ true) ⊎ (ltb i (key_end s i) ≡ false) → key_end s i ≤ length s
     go (inl p) =
         let l = ltb-true i (length s) (and_left (ltb i (length s)) _ (key_starts s i (ltb-true i (key_end s i) p))) in
-        omega (arith, key_run s i, run_by s i refl l)
+        omega (arith, key_run s i, run_by s i l)
     go (inr p) = omega (arith, ltb-false i (key_end s i) p)
 
 -- the bytes of a key -------------------------------------------------------------------------------------------------------------
@@ -173,6 +170,6 @@ pub old_keys : OldKeys
 unfolding without_marks
 old_keys s i q m =
     let e = run_end s (i + 1) in
-    let l = run_from s i refl in
+    let l = run_from s i in
     let b = run_byte s i (e - 1) q (omega arith) (omega arith) in
     key_is s i q ∙ sym (last_end_stop (λ j. is_first (byte_at s j)) i e i refl l (no_mark _ b m))
