@@ -5,8 +5,8 @@
 ghost use Rattle.std.specs.Prelude.{length};
 ghost use Rattle.std.specs.Iterator.{at_most};
 
+use replay_body::areas::Lent;
 use replay_body::body::Body;
-use std::alloc::{AllocError, Global};
 use std::fs::File;
 use std::io::{Read, Write};
 use std::num::wrapping_add_u64;
@@ -75,8 +75,8 @@ impl fmt::Display for Kind {
 
 impl Kind {
     // Whether the proved function of this kind gives the answer that the record's body holds.
-    fn agrees(self, alloc: Global, body: Body<'_>) -> Result<bool, AllocError> {
-        Ok(match self {
+    fn agrees(self, body: Body<'_>, lent: &mut Lent) -> bool {
+        match self {
             Kind::Utf8 => replay_calls::texts::utf8_agrees(body),
             Kind::Escaped => replay_calls::texts::escaped_agrees(body),
             Kind::Key => replay_calls::texts::key_agrees(body),
@@ -87,9 +87,9 @@ impl Kind {
             Kind::Item => replay_calls::parts::item_agrees(body),
             Kind::Pool => replay_calls::pools::pool_agrees(body),
             Kind::Source => replay_calls::pools::source_agrees(body),
-            Kind::LookUp => replay_calls::sessions::look_ups_agree(alloc, body)?,
-            Kind::Annotate => replay_calls::sessions::annotations_agree(alloc, body)?,
-        })
+            Kind::LookUp => replay_calls::sessions::look_ups_agree(body, lent),
+            Kind::Annotate => replay_calls::sessions::annotations_agree(body, lent),
+        }
     }
 }
 
@@ -136,20 +136,14 @@ impl<'a> Iterator for Records<'a> {
 
 // Counts the records of this kind in a block. One cut off does not agree. The block's unused rest is zeros, which read as empty records of no
 // kind.
-fn count_block(
-    alloc: Global,
-    tally: &mut Tally,
-    kind: Kind,
-    block: &[u8],
-) -> Result<(), AllocError> {
+fn count_block(tally: &mut Tally, kind: Kind, block: &[u8], lent: &mut Lent) {
     for record in Records(block) {
         if record.len() >= 4 && record[0] == u8::from(kind) {
             let body = Body(&record[4..]);
             let is_whole = Body(record).length(1) == body.0.len();
-            tally.count(is_whole && kind.agrees(alloc, body)?);
+            tally.count(is_whole && kind.agrees(body, lent));
         }
     }
-    Ok(())
 }
 
 // The length of a block of the list, and the most blocks of it that are read.
@@ -159,10 +153,10 @@ const BLOCKS: u32 = 1000000;
 
 // The tally of a kind over the whole list, read by blocks.
 fn count_all<R: Read>(
-    alloc: Global,
     kind: Kind,
     list: &mut R,
     block: &mut [u8],
+    lent: &mut Lent,
 ) -> io::Result<Tally> {
     let mut tally = Tally::default();
     for _ in 0..BLOCKS {
@@ -170,7 +164,7 @@ fn count_all<R: Read>(
         if n == 0 {
             break;
         }
-        count_block(alloc, &mut tally, kind, &block[..n])?;
+        count_block(&mut tally, kind, &block[..n], lent);
     }
     Ok(tally)
 }
@@ -186,17 +180,17 @@ fn say<W: Write>(out: &mut W, kind: Kind, tally: Tally) -> io::Result<()> {
 
 // Replays a kind, and writes what became of it; where the list cannot be opened, why, to standard error.
 fn replay<R: Files + Print + Eprint>(
-    alloc: Global,
     rt: &R,
     kind: Kind,
     block: &mut [u8],
+    lent: &mut Lent,
 ) -> io::Result<()> {
     let path = "answers";
     match File::open(rt, path) {
         Ok(mut list) => say(
             &mut io::writer(rt),
             kind,
-            count_all(alloc, kind, &mut list, block)?,
+            count_all(kind, &mut list, block, lent)?,
         ),
         Err(error) => eprintln!(rt; "{path}: {error}"),
     }
@@ -204,10 +198,10 @@ fn replay<R: Files + Print + Eprint>(
 
 // Replays each kind.
 fn main(rt: HostRuntime) -> io::Result<()> {
-    let alloc = rt.alloc();
-    let mut block = vec![in alloc; 0u8; BLOCK]?;
+    let mut block = vec![in rt.alloc(); 0u8; BLOCK]?;
+    let mut lent = Lent::new(rt.alloc())?;
     for kind in KINDS {
-        replay(alloc, &rt, kind, &mut block)?;
+        replay(&rt, kind, &mut block, &mut lent)?;
     }
     Ok(())
 }

@@ -9,6 +9,9 @@ pub const UNUSED: u16 = 43690;
 // What an area of bytes holds where no call wrote.
 pub const BLANK: u8 = 170;
 
+// The longest text for which short areas are lent.
+const SHORT: usize = 1000;
+
 // The note and the areas that the calls of a session are lent.
 #[derive(Drop)]
 pub struct Areas {
@@ -21,9 +24,9 @@ pub struct Areas {
 }
 
 impl Areas {
-    // Areas with room for what is said of a text of `n` bytes. (Small ones for a short text: they are read and filled whole at each call.)
-    pub fn new(alloc: Global, n: usize) -> Result<Areas, AllocError> {
-        let (index, items, groups) = if n <= 1000 {
+    // Areas with room for what is said of a text of `n` bytes.
+    fn new(alloc: Global, n: usize) -> Result<Areas, AllocError> {
+        let (index, items, groups) = if n <= SHORT {
             (1024, 344, 256)
         } else {
             (65536, 21846, 16400)
@@ -44,6 +47,32 @@ impl Areas {
         self.groups.fill(UNUSED);
         self.references.fill(UNUSED);
         self.labels.fill(BLANK);
+    }
+}
+
+// The areas for short texts, and those for all others. (Two, since each call reads and fills its areas whole.)
+#[derive(Drop)]
+pub struct Lent {
+    short: Areas,
+    long: Areas,
+}
+
+impl Lent {
+    // All areas.
+    pub fn new(alloc: Global) -> Result<Lent, AllocError> {
+        Ok(Lent {
+            short: Areas::new(alloc, SHORT)?,
+            long: Areas::new(alloc, 65535)?,
+        })
+    }
+
+    // The areas for a text of `n` bytes.
+    pub fn for_text(&mut self, n: usize) -> &mut Areas {
+        if n <= SHORT {
+            &mut self.short
+        } else {
+            &mut self.long
+        }
     }
 }
 

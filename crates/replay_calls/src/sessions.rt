@@ -2,11 +2,10 @@
 // between them. Whether the proved call gives the stored answers; docs/DIFFERENCES.md has the body.
 use crate::numbers::numbers_of;
 use replay_body::annotation_part::StoredAnnotation;
-use replay_body::areas::Areas;
+use replay_body::areas::{Areas, Lent};
 use replay_body::body::Body;
 use replay_body::look_up_part::StoredLookUp;
 use replay_body::session::Session;
-use std::alloc::{AllocError, Global};
 
 // A call that a session stores, with its answer.
 trait Stored: Copy {
@@ -67,28 +66,28 @@ impl<'a> Stored for StoredAnnotation<'a> {
 }
 
 // Whether every call of a session, from `first` on, has the stored answer, and the index after them.
-fn agrees<S: Stored>(alloc: Global, session: Session<'_>, first: S) -> Result<bool, AllocError> {
-    let mut areas = Areas::new(alloc, session.text().len())?;
-    session.start(&mut areas);
+fn agrees<S: Stored>(session: Session<'_>, first: S, lent: &mut Lent) -> bool {
+    let areas = lent.for_text(session.text().len());
+    session.start(areas);
     let mut stored = first;
     for _ in 0..session.count() {
-        if !stored.ask(session.text(), &mut areas) {
-            return Ok(false);
-        }
         areas.clear();
+        if !stored.ask(session.text(), areas) {
+            return false;
+        }
         stored = stored.after();
     }
-    Ok(session.has_index(&areas))
+    session.has_index(areas)
 }
 
 // Whether look-ups on a text have the stored answers.
-pub fn look_ups_agree(alloc: Global, body: Body<'_>) -> Result<bool, AllocError> {
+pub fn look_ups_agree(body: Body<'_>, lent: &mut Lent) -> bool {
     let session = Session(body);
-    agrees(alloc, session, StoredLookUp(session.calls()))
+    agrees(session, StoredLookUp(session.calls()), lent)
 }
 
 // Whether annotations of a text have the stored answers.
-pub fn annotations_agree(alloc: Global, body: Body<'_>) -> Result<bool, AllocError> {
+pub fn annotations_agree(body: Body<'_>, lent: &mut Lent) -> bool {
     let session = Session(body);
-    agrees(alloc, session, StoredAnnotation(session.calls()))
+    agrees(session, StoredAnnotation(session.calls()), lent)
 }
