@@ -4,7 +4,6 @@
 
 ghost use Rattle.std.specs.Prelude.{◌≡◌, ◌<◌, length};
 ghost use Rattle.resolve.specs.Groups.{barred, judge};
-ghost use Rattle.resolve.specs.Resolve.{stored_close, close_after};
 ghost use Rattle.resolve.specs.Looks.{matched, Inside};
 
 use base::slices::byte_at;
@@ -37,21 +36,21 @@ pub struct Group {
     pub count: usize,
 }
 
-// The close that the index has for the bracket at `p`: a place not after it, outside the text or not at `]` counts as none.
-#[tactic(auto, unfolding(crate::specs::Resolve::stored_close, crate::specs::Resolve::as_close))]
-pub fn stored_close(text: &[u8], p: usize, index: &[u16]) -> Option<usize>
-    ensures { result ≡ stored_close text.now p index.now }
-{
-    let c = usize::from(index.get(p).copied().unwrap_or(0));
-    if p < c && c < text.len() && text[c] == b']' {
-        Some(c)
-    } else {
-        None
-    }
-}
-
 impl<'a> Indexed<'a> {
-    ghost use Rattle.resolve.specs.Resolve.{look_of};
+    ghost use Rattle.resolve.specs.Resolve.{stored_close, look_of, close_after};
+
+    // The close that the index has for the bracket at `p`: a place not after it, outside the text or not at `]` counts as none.
+    #[tactic(auto, unfolding(crate::specs::Resolve::stored_close, crate::specs::Resolve::as_close))]
+    pub fn stored_close(self, p: usize) -> Option<usize>
+        ensures { result ≡ stored_close self.entry.text.now p self.entry.index.now }
+    {
+        let c = usize::from(self.index.get(p).copied().unwrap_or(0));
+        if p < c && c < self.text.len() && self.text[c] == b']' {
+            Some(c)
+        } else {
+            None
+        }
+    }
 
     // What the bracket at `p` gives before any build: what the index says, once it is built, and else what the look at 64 bytes says. Where
     // that found no close there is none if it saw the text's end.
@@ -61,7 +60,7 @@ impl<'a> Indexed<'a> {
         ensures { result ≡ look_of self.entry.text.now p self.entry.note self.entry.index.now }
     {
         if self.note == BUILT {
-            return Look::Known(stored_close(self.text, p, self.index));
+            return Look::Known(self.stored_close(p));
         }
         let close = close_bracket(self.text, p, 64);
         if close.is_some() || self.text.len() - p <= 64 {
@@ -70,16 +69,16 @@ impl<'a> Indexed<'a> {
             Look::Build
         }
     }
-}
 
-// The close of the bracket at `p`, the index being built where the look asked for it.
-#[tactic(auto, unfolding(crate::specs::Resolve::close_after))]
-pub fn close_after(text: &[u8], p: usize, index: &[u16], look: Look) -> Option<usize>
-    ensures { result ≡ close_after text.now p index.now look }
-{
-    match look {
-        Look::Known(close) => close,
-        Look::Build => stored_close(text, p, index),
+    // The close of the bracket at `p`, the index being built where the look asked for it.
+    #[tactic(auto, unfolding(crate::specs::Resolve::close_after))]
+    pub fn close_after(self, p: usize, look: Look) -> Option<usize>
+        ensures { result ≡ close_after self.entry.text.now p self.entry.index.now look }
+    {
+        match look {
+            Look::Known(close) => close,
+            Look::Build => self.stored_close(p),
+        }
     }
 }
 
