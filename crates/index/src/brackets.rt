@@ -7,7 +7,7 @@ ghost use Rattle.index.specs.Passing.{turn_at};
 ghost use Rattle.index.specs.Scan.{step_index, step_records};
 ghost use Rattle.index.specs.Turn.{Ready};
 
-use crate::{Bracket, Scan, scan_plan, skip};
+use crate::{Bracket, Scan, Scanner};
 
 // A record, as the definition of a turn reads it.
 fn record_at(records: &mut [Bracket], i: usize) -> Bracket
@@ -34,11 +34,12 @@ fn step(text: &[u8], c: Scan, index: &mut [u16], records: &mut [Bracket]) -> Sca
         × (records.new ≡ step_records (turn_at text.now c records.old) records.old) }
 {
     let outer = record_at(records, c.depth.saturating_sub(1));
-    let plan = scan_plan(text, c, outer);
+    let scanner = Scanner { text };
+    let plan = scanner.scan_plan(c, outer);
     // both stores stand before `skip`: by `decide`, after it, a text of `[` alone takes 329 µs, and so 238
     store(records, plan.slot, plan.top);
     index[plan.place] = plan.mark;
-    skip(text, plan.next)
+    scanner.skip(plan.next)
 }
 
 // Builds the index of the text: clears its entries, takes the turns of the scan, and clears the records.
