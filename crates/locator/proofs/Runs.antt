@@ -1,25 +1,21 @@
 -- THEOREMS `RunsWhole` and `RulesPart`: which runs of letters a value takes in,
 -- and where it is not the Rust's.
-use Prim.Native.Nat.{ℕ, ◌+◌, ◌-◌, ◌≤◌, ◌<◌}
+use Prim.Native.Nat.{ℕ, ◌-◌, ◌≤◌, ◌<◌}
 use native.Mathlib.Omega.{arith}
 use mathlib.Core.Path.{◌≡◌, refl, sym, ◌∙◌, ap}
 use mathlib.Core.Logic.{◌⊎◌, inl, inr}
 use mathlib.Core.List.{List}
 use mathlib.Core.Bool.{Bool, true, false, ◌&&◌, ◌||◌, not, true≢false}
-use lib.Dec.{eqb, leb, ltb}
-use borrow.Author.Tests.{lt-leb, leb-true, eqb-true, eqb-false, ltb-true, ltb-false}
+use lib.Dec.{eqb, ltb}
+use borrow.Author.Tests.{eqb-false, ltb-true, ltb-false}
+use Rattle.std.proofs.lemmas.Bool.Decides.{nat_tests}
 use Rattle.base.specs.First.{first}
 use Rattle.base.specs.Lists.{byte_at}
-use Rattle.base.proofs.Bools.{and_right}
 use Rattle.base.proofs.Searches.{first_from, first_by, first_holds, first_before, first_fails}
-use Rattle.locator.specs.Locators.{is_digit, is_letter, is_roman, is_digit_or_mark, letters_end, roman_end, in_value, value_run}
+use Rattle.locator.specs.Locators.{is_letter, is_roman, is_digit_or_mark, letters_end, roman_end, in_value, value_run}
 use Rattle.locator.specs.Facts.{is_value, OtherRun, RunWhole, RunsWhole, old_run, Cut, RulesPart}
 use Rattle.locator.proofs.Parts.{run_from, run_by}
 use Rattle.locator.proofs.Scans.{unnot, run_inside}
-
-either : {P : Type 0} (a b : Bool) → (a ≡ true → P) → (b ≡ true → P) → a || b ≡ true → P
-either true b f g h = f refl
-either false b f g h = g h
 
 not_true : (b : Bool) → not b ≡ true → b ≡ false
 not_true true h = sym h
@@ -28,50 +24,24 @@ not_true false h = refl
 -- a Roman letter is a letter; a digit or mark is none
 roman_letter : (b : ℕ) → is_roman b ≡ true → is_letter b ≡ true
 unfolding is_roman
-roman_letter b =
-    either _ _ (either _ _ (either _ _ (either _ _ (either _ _ (either _ _ (either _ _ (either _ _ (either _ _ (either _ _ (either _ _
-    (either _ _ (either _ _ (is 73 refl) (is 86 refl)) (is 88 refl)) (is 76 refl)) (is 67 refl)) (is 68 refl)) (is 77 refl)) (is 105 refl))
-    (is 118 refl)) (is 120 refl)) (is 108 refl)) (is 99 refl)) (is 100 refl)) (is 109 refl)
-  where
-    is : (c : ℕ) → is_letter c ≡ true → eqb b c ≡ true → is_letter b ≡ true
-    is c h q = rw (eqb-true b c q) h
+roman_letter b h = grind (arith, nat_tests)
 
 mark_letter : (b : ℕ) → is_digit_or_mark b ≡ true → is_letter b ≡ false
 unfolding is_digit_or_mark
-mark_letter b =
-    either _ _ (either _ _ (either _ _ (either _ _ (either _ _ digit (is 46 refl)) (is 44 refl)) (is 38 refl)) (is 45 refl)) (is 32 refl)
-  where
-    is : (c : ℕ) → is_letter c ≡ false → eqb b c ≡ true → is_letter b ≡ false
-    is c h q = rw (eqb-true b c q) h
-
-    digit : is_digit b ≡ true → is_letter b ≡ false
-    digit q = let h = leb-true b 57 (and_right (leb 48 b) (leb b 57) q) in rw (lt-leb 65 b (omega arith), lt-leb 97 b (omega arith)) refl
+mark_letter b h = grind (arith, nat_tests)
 
 letter_mark : (b : ℕ) → is_letter b ≡ true → is_digit_or_mark b ≡ false
-letter_mark b h = go (is_digit_or_mark b) refl
-  where
-    go : (t : Bool) → is_digit_or_mark b ≡ t → t ≡ false
-    go true q = absurd (true≢false (sym h ∙ mark_letter b q))
-    go false q = refl
+letter_mark b h = grind (arith, mark_letter b)
 
 -- a byte that is in a value, and one of a run that is not
 module _ (s : List ℕ) (e k : ℕ) where
   in_value_lem : in_value s e k ≡ true → is_value (byte_at s k) ≡ true
   unfolding in_value is_value
-  in_value_lem = go (is_digit_or_mark (byte_at s k)) (is_roman (byte_at s k)) (eqb (roman_end s k e) (letters_end s k e))
-    where
-      go : (m r t : Bool) → m || (r && t) ≡ true → m || r ≡ true
-      go true r t h = refl
-      go false true t h = refl
-      go false false t h = h
+  in_value_lem h = grind arith
 
   in_run : in_value s e k ≡ true → is_letter (byte_at s k) ≡ true → roman_end s k e ≡ letters_end s k e
   unfolding in_value
-  in_run h l = go (is_roman (byte_at s k)) (eqb (roman_end s k e) (letters_end s k e)) refl (rw (letter_mark _ l) at h)
-    where
-      go : (r t : Bool) → eqb (roman_end s k e) (letters_end s k e) ≡ t → r && t ≡ true → roman_end s k e ≡ letters_end s k e
-      go r true q g = eqb-true _ _ q
-      go r false q g = absurd (true≢false (sym (and_right r false g)))
+  in_run h l = grind (arith, nat_tests, letter_mark (byte_at s k) l)
 
   other_value : is_letter (byte_at s k) ≡ true → is_roman (byte_at s k) ≡ false → is_value (byte_at s k) ≡ false
   unfolding is_value
@@ -80,16 +50,9 @@ module _ (s : List ℕ) (e k : ℕ) where
 -- letters up to `j` are passed
 letters_past : (s : List ℕ) (k j e : ℕ) → k ≤ j → j < e → ((x : ℕ) → k ≤ x → x ≤ j → is_letter (byte_at s x) ≡ true) → j < letters_end s k e
 unfolding letters_end
-letters_past s k j e l h n = go (ltb j (first f (e - k) k)) refl
-  where
-    f : ℕ → Bool
-    f x = not (is_letter (byte_at s x))
-
-    go : (t : Bool) → ltb j (first f (e - k) k) ≡ t → j < first f (e - k) k
-    go true q = ltb-true _ _ q
-    go false q =
-        let g = ltb-false j (first f (e - k) k) q in
-        absurd (true≢false (sym (n (first f (e - k) k) (first_from f (e - k) k) g) ∙ not_true _ (first_holds f (e - k) k (omega arith))))
+letters_past s k j e l h n =
+    let f : ℕ → Bool = λ x. not (is_letter (byte_at s x)) in
+    grind (arith, nat_tests, n (first f (e - k) k), first_from f (e - k) k, first_holds f (e - k) k)
 
 -- where a byte that no value may have, or a run that has another letter, stands
 module _ (s : List ℕ) (e k : ℕ) (h : k < e) (n : in_value s e k ≡ false) where
@@ -116,20 +79,11 @@ module _ (s : List ℕ) (e k : ℕ) (h : k < e) (n : in_value s e k ≡ false) w
       z = first L (e - k) k
 
       no_roman : is_letter (byte_at s z) ≡ false → R z ≡ true
-      no_roman l = go (is_roman (byte_at s z)) refl
-        where
-          go : (t : Bool) → is_roman (byte_at s z) ≡ t → not t ≡ true
-          go true p = absurd (true≢false (sym (roman_letter _ p) ∙ l))
-          go false p = refl
-
-      by : (t : Bool) → ltb z (k + (e - k)) ≡ t → q ≤ z
-      by true p =
-          let g = ltb-true z (k + (e - k)) p in
-          first_before R (e - k) k z (first_from L (e - k) k) (no_roman (not_true _ (first_holds L (e - k) k g)))
-      by false p = let g = ltb-false z (k + (e - k)) p in omega (arith, first_by R (e - k) k)
+      no_roman l = grind (arith, roman_letter (byte_at s z))
 
       less : q < z
-      less = let g = by _ refl in omega (arith, u)
+      less =
+          grind (arith, u, first_before R (e - k) k z (first_from L (e - k) k), no_roman, first_holds L (e - k) k, first_by R (e - k) k, first_from L (e - k) k)
 
   ends_there : (is_value (byte_at s k) ≡ false) ⊎ OtherRun s e k
   unfolding is_value in_value
@@ -162,22 +116,14 @@ runs_whole s v e = record {
     go : r < e → v < r → is_letter (byte_at s (r - 1)) ≡ true → (t : Bool) → is_letter (byte_at s r) ≡ t → t ≡ false
     go h l b false q = refl
     go h l b true q =
-        let i = unnot _ (first_fails f (e - v) v (r - 1) (omega arith) (omega arith)) in
-        let g = letters_past s (r - 1) r e (omega arith) h (λ x m n. two x m n (eqb x r) refl) in
+        let i : in_value s e (r - 1) ≡ true = unnot _ (first_fails f (e - v) v (r - 1) (omega arith) (omega arith)) in
+        let g = letters_past s (r - 1) r e (omega arith) h (λ x m n. grind (arith, nat_tests, b, q)) in
         absurd (true≢false (sym (run_inside s (r - 1) e (omega arith) (in_run s e (r - 1) i b) r (omega arith) g) ∙ stopped h))
-      where
-        two : (x : ℕ) → r - 1 ≤ x → x ≤ r → (t : Bool) → eqb x r ≡ t → is_letter (byte_at s x) ≡ true
-        two x m n true p = rw (eqb-true x r p) q
-        two x m n false p = let o = eqb-false x r p in let z : x ≡ r - 1 = omega arith in rw z b
 
 -- a value ends by every byte that no value may have
 ends_by : (s : List ℕ) (v e z : ℕ) → v ≤ z → is_value (byte_at s z) ≡ false → value_run s v e ≤ z
 unfolding value_run
-ends_by s v e z l n = first_before (λ k. not (in_value s e k)) (e - v) v z l (ap not (go (in_value s e z) refl))
-  where
-    go : (t : Bool) → in_value s e z ≡ t → t ≡ false
-    go true q = sym (in_value_lem s e z q) ∙ n
-    go false q = refl
+ends_by s v e z l n = grind (arith, in_value_lem s e z, first_before (λ k. not (in_value s e k)) (e - v) v z l)
 
 pub rules_part : RulesPart
 unfolding old_run
@@ -198,9 +144,8 @@ rules_part s v e = go (ltb new old) refl
     run_start : v ≤ new
     run_start = run_from s v e
 
-    longest : (t : Bool) → ltb old (v + (e - v)) ≡ t → new ≤ old
-    longest true q = ends_by s v e old (first_from f (e - v) v) (not_true _ (first_holds f (e - v) v (ltb-true _ _ q)))
-    longest false q = let h = ltb-false old (v + (e - v)) q in omega (arith, run_by s v e)
+    longest : new ≤ old
+    longest = grind (arith, ends_by s v e old (first_from f (e - v) v), first_holds f (e - v) v, run_by s v e)
 
     parts : new < old → (is_value (byte_at s new) ≡ false) ⊎ OtherRun s e new → Cut s v e old
     parts h (inl n) = absurd (true≢false (sym (unnot _ (first_fails f (e - v) v new run_start h)) ∙ n))
@@ -216,5 +161,5 @@ rules_part s v e = go (ltb new old) refl
         inr (h, parts h (w.ends (omega (arith, first_by f (e - v) v, run_start))))
     go false q =
         let h = ltb-false new old q in
-        let z : old ≡ new = omega (arith, longest _ refl) in
+        let z : old ≡ new = omega (arith, longest) in
         inl (z, (λ c. true≢false (sym c.3 ∙ rw z (w.uncut (rw (← z) c.0) (rw (← z) c.1) (rw (← z) c.2)))))

@@ -5,9 +5,8 @@ use native.Mathlib.Omega.{arith}
 use mathlib.Core.Path.{◌≡◌, refl, sym, ◌∙◌, ap}
 use mathlib.Core.List.{List}
 use lib.ListN.{length}
-use mathlib.Core.Bool.{Bool, true, false, ◌&&◌, ◌||◌, not}
-use lib.Dec.{eqb}
-use borrow.Author.Tests.{eq-eqb, eqb-true}
+use mathlib.Core.Bool.{Bool, true, false, not}
+use Rattle.std.proofs.lemmas.Bool.Decides.{nat_tests}
 use Rattle.base.specs.First.{first}
 use Rattle.base.specs.Lists.{byte_at}
 use Rattle.base.proofs.Searches.{first_from, first_by, first_fails, first_pass, first_out, first_stop, first_more}
@@ -17,14 +16,6 @@ use Rattle.locator.specs.Steps.{GoesOn}
 pub unnot : (b : Bool) → not b ≡ false → b ≡ true
 unnot true h = refl
 unnot false h = sym h
-
-or_right : (b : Bool) → b || true ≡ true
-or_right true = refl
-or_right false = refl
-
-and_no : (b : Bool) → b && false ≡ false
-and_no true = refl
-and_no false = refl
 
 -- the end of a run of bytes that pass a test
 abbrev run_of : (ℕ → Bool) → List ℕ → ℕ → ℕ → ℕ
@@ -45,7 +36,7 @@ module _ (s : List ℕ) (k e : ℕ) (h : k < e) where
       let r = unnot (is_roman (byte_at s x)) (first_fails (λ j. not (is_roman (byte_at s j))) (e - k) k x l m) in
       let u : run_of is_roman s x e ≡ run_of (λ b. is_letter b) s x e =
       sym (ends_there is_roman x l m) ∙ q ∙ ends_there (λ b. is_letter b) x l g in
-      rw (r, eq-eqb _ _ u) (or_right (is_digit_or_mark (byte_at s x)))
+      grind (arith, nat_tests, r, u)
 
   letters_from : k ≤ letters_end s k e
   unfolding letters_end
@@ -91,11 +82,4 @@ module _ (s : List ℕ) (k : ℕ) where
       pub step_stops : false ≡ is_digit_or_mark b → (k < n → letters_end s k (length s) ≡ n → ⊥) → value_run s k (length s) ≡ k
       unfolding value_run in_value
       step_stops t u =
-          sym
-          (first_stop ends k (length s) refl h
-          (rw (← q, ← t, ← z) (go (is_roman b) (eqb n (letters_end s k (length s))) refl refl)))
-        where
-          go : (r c : Bool) → is_roman b ≡ r → eqb n (letters_end s k (length s)) ≡ c → not (r && c) ≡ true
-          go false c x y = refl
-          go true false x y = refl
-          go true true x y = absurd (u (omega (arith, roman_some s k (length s) h (ap is_roman (sym q) ∙ x), z)) (sym (eqb-true _ _ y)))
+          sym (first_stop ends k (length s) refl h (grind (arith, nat_tests, q, t, z, u, roman_some s k (length s) h)))

@@ -8,14 +8,13 @@ use mathlib.Core.List.{List, [], ◌∷◌}
 use mathlib.Core.Bool.{Bool, true, false, ◌&&◌}
 use lib.ListN.{length, take, drop, length-drop}
 use lib.Seq.{drop-cons, take_all}
-use lib.Dec.{eqb, ltb}
-use borrow.Author.Tests.{lt-ltb, ltb-true}
+use lib.Dec.{eqb}
+use borrow.Author.Tests.{lt-ltb}
 use Rattle.std.specs.Char.{to_ascii_lowercase}
 use Rattle.std.proofs.lemmas.Grind.{common_steps}
 use Rattle.std.proofs.lemmas.Bool.Decides.{nat_tests}
 use Rattle.std.specs.List.{list_all, zip}
 use Rattle.base.specs.Lists.{byte_at}
-use Rattle.base.proofs.Bools.{and_left, and_right}
 use Rattle.locator.specs.Locators.{lower, fits}
 
 -- the library's small form of a letter is the definition's
@@ -40,16 +39,8 @@ fits_alike w s i h = rw (take_all (length s - i) (drop i s) (omega (arith, lengt
 pub fits_by : (w s : List ℕ) (i e : ℕ) → i ≤ e → fits w s i e ≡ true → i + length w ≤ e
 unfolding fits
 fits_by [] s i e h t = omega arith
-fits_by (x ∷ xs) s i e h t =
-    let front = and_left (ltb i e && eqb (lower (byte_at s i)) x) (fits xs s (i + 1) e) t in
-    let back = and_right (ltb i e && eqb (lower (byte_at s i)) x) (fits xs s (i + 1) e) t in
-    let room = ltb-true i e (and_left (ltb i e) (eqb (lower (byte_at s i)) x) front) in
-    omega (arith, fits_by xs s (i + 1) e (omega arith) back)
+fits_by (x ∷ xs) s i e h t = grind (arith, nat_tests, fits_by xs s (i + 1) e)
 
 -- a longer word than the rest of the text does not fit
 pub fits_no : (w s : List ℕ) (i : ℕ) → i ≤ length s → length s - i < length w → fits w s i (length s) ≡ false
-fits_no w s i l h = go (fits w s i (length s)) refl
-  where
-    go : (t : Bool) → fits w s i (length s) ≡ t → t ≡ false
-    go true q = absurd (omega (arith, fits_by w s i (length s) l q))
-    go false q = refl
+fits_no w s i l h = grind (arith, fits_by w s i (length s) l)
