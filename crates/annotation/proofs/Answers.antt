@@ -1,4 +1,5 @@
--- What the two sweeps leave, with the numbers and the references after them, is the answer of the call as run.
+-- What the two sweeps leave, with the numbers and the references
+-- after them, is the answer of the call as run.
 use Prim.Native.Nat.{ℕ, ◌*◌, ◌≤◌, min}
 use native.Mathlib.Omega.{arith}
 use mathlib.Core.Path.{◌≡◌, refl, sym, ◌∙◌, ap}

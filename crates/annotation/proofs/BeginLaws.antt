@@ -1,4 +1,5 @@
--- The first half of an annotation, in the form of the code's needs, and what the build after it asks for.
+-- The first half of an annotation, in the form of the code's goals,
+-- and what the build after it asks for.
 use Prim.Native.Nat.{ℕ, ◌≤◌}
 use mathlib.Core.Path.{◌≡◌, sym}
 use mathlib.Core.List.{List}

@@ -1,4 +1,5 @@
--- THEOREMS `ReferencesAgree` and `ContentAgrees`: the references by the records, and the whole content.
+-- THEOREMS `ReferencesAgree` and `ContentAgrees`:
+-- the references by the records, and the whole content.
 use Prim.Native.Nat.{ℕ, ◌+◌, ◌-◌, ◌*◌, ◌≤◌, ◌<◌}
 use native.Mathlib.Omega.{arith}
 use mathlib.Core.Path.{◌≡◌, sym, ◌∙◌, ap}

@@ -1,4 +1,5 @@
--- There are no more sources than items.
+-- There are no more
+-- sources than items.
 use Prim.Native.Nat.{ℕ, suc, ◌+◌, ◌≤◌}
 use native.Mathlib.Omega.{arith}
 use mathlib.Core.Path.{◌≡◌, ap}

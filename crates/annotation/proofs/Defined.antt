@@ -1,4 +1,5 @@
--- The sources of an annotation are defined: only groups whose keys all are get numbers.
+-- The sources of an annotation are defined:
+-- only groups whose keys all are get numbers.
 use Prim.Native.Nat.{ℕ, zero, suc, ◌+◌, ◌-◌, ◌≤◌, ◌<◌}
 use native.Mathlib.Omega.{arith}
 use mathlib.Core.Path.{◌≡◌, refl, sym, subst}

@@ -1,4 +1,5 @@
--- What is said item by item: one more item record, and all items of the groups, one after another.
+-- What is said item by item: one more item record,
+-- and all items of the groups, one after another.
 use Prim.Native.Nat.{ℕ, ◌+◌, ◌*◌, ◌<◌}
 use native.Mathlib.Omega.{arith}
 use mathlib.Core.Path.{◌≡◌, refl, sym, subst}

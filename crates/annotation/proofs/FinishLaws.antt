@@ -1,4 +1,5 @@
--- The second half of an annotation, in the form of the code's needs.
+-- The second half of an annotation,
+-- in the form of the code's goals.
 use Prim.Native.Nat.{ℕ, ◌≤◌}
 use native.Mathlib.Omega.{arith}
 use mathlib.Core.Path.{◌≡◌}

@@ -1,4 +1,5 @@
--- THEOREM `SweptFits`: the groups that a sweep finds close after their brackets and in the text, and have 3 bytes of text for each item.
+-- THEOREM `SweptFits`: the groups that a sweep finds close after their brackets
+-- and in the text, and have 3 bytes of text for each item.
 use Prim.Native.Nat.{ℕ, zero, suc, ◌<◌}
 use native.Mathlib.Omega.{arith}
 use mathlib.Core.List.{List, [], ◌∷◌, ◌++◌}

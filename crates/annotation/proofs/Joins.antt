@@ -1,4 +1,5 @@
--- The two ways of numbering agree: the last earlier item record with the same key has what the sources say of that key.
+-- The two ways of numbering agree: the last earlier item record
+-- with the same key has what the sources say of that key.
 use Prim.Native.Nat.{ℕ, suc, ◌+◌, ◌%◌, ◌≤◌, ◌<◌}
 use native.Mathlib.Omega.{arith}
 use native.Mathlib.Nat.{mod-eq_of_lt}

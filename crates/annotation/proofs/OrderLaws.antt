@@ -1,13 +1,16 @@
--- The numbers and the references after the sweep, in the form of the code's needs.
-use Prim.Native.Nat.{ℕ, ◌≤◌, ◌<◌}
-use mathlib.Core.Path.{◌≡◌, sym, ◌∙◌}
+-- The numbers and the references after the sweep,
+-- in the form of the code's goals.
+use Prim.Native.Nat.{ℕ, ◌≤◌, ◌<◌, min}
+use mathlib.Core.Path.{◌≡◌, refl, sym, ◌∙◌}
 use mathlib.Core.List.{List}
 use mathlib.Core.Bool.{true, false}
 use lib.ListN.{length}
 use borrow.Author.Tests.{le-leb, lt-leb}
 use Rattle.base.specs.Lists.{written}
 use Rattle.numbering.specs.Numbers.{Numbered, number_all}
+use Rattle.order.specs.Order.{reference_order}
 use Rattle.order.specs.References.{references_in, SourcesKnown}
+use Rattle.numbering.proofs.ModeLaws.{zero_same, all_same}
 use Rattle.numbering.specs.declared.Numbering.{Numbering}
 use Rattle.numbering.specs.Progress.{room_of, Agrees, Holds}
 use Rattle.std.specs.Prelude.{Some, None, Result, Ok}
@@ -89,5 +92,16 @@ module _ (text : List ℕ) (mode : ℕ) (pool : List ℕ) (n m : ℕ) (items gro
 
   pub sources_are : SourcesKnown text pool groups' items' n m k.sources
   sources_are = rw (all_agreed.sources, all_agreed.item_area, all_agreed.group_area) o.known
+
+-- at a number that is clamped to a mode's
+module _ (text : List ℕ) (mode : ℕ) (pool : List ℕ) (n m : ℕ) (items groups references labels : List ℕ) (r : Result Counts Refusal)
+    (items' groups' references' labels' : List ℕ) where
+  references_same : (t : Numbered) → references_in text pool t.groups t.items n m (min mode 1) t.sources ≡ references_in text pool t.groups t.items n m mode t.sources
+  unfolding references_in reference_order
+  references_same t = rw (zero_same mode) refl
+
+  pub ordered_same : Ordered text (min mode 1) pool n m items groups references labels r items' groups' references' labels'
+      → Ordered text mode pool n m items groups references labels r items' groups' references' labels'
+  ordered_same o = rw (all_same text mode pool n items groups, references_same (number_all text mode pool n items groups)) at o
 
 pub ruleset order_laws = (sources_few, sources_are, ordered_room, few_labels, few_references)

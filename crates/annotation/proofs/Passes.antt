@@ -1,4 +1,5 @@
--- THEOREMS `DefinitionsAgree` and `NumbersAgree`: the pass that numbers the records, against the tally of the paper.
+-- THEOREMS `DefinitionsAgree` and `NumbersAgree`: the pass
+-- that numbers the records, against the tally of the paper.
 use Prim.Native.Nat.{ℕ, zero, suc, ◌+◌, ◌*◌, ◌≤◌, ◌<◌}
 use native.Mathlib.Omega.{arith}
 use native.Mathlib.Numerals.{add-one}

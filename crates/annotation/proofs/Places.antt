@@ -1,4 +1,5 @@
--- What one more use of a key does to the places and the uses of keys among the sources.
+-- What one more use of a key does to the places
+-- and the uses of keys among the sources.
 use Prim.Native.Nat.{ℕ, suc, ◌+◌, ◌≤◌, ◌<◌}
 use native.Mathlib.Omega.{arith}
 use mathlib.Core.Path.{◌≡◌, refl, ap}

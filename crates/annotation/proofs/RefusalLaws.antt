@@ -1,4 +1,5 @@
--- What holds where nothing refuses an annotation before the sweep, and how far the numbers of refusals go.
+-- What holds where nothing refuses an annotation before the sweep,
+-- and how far the numbers of refusals go.
 use Prim.Native.Nat.{ℕ, ◌≤◌}
 use native.Mathlib.Omega.{arith}
 use mathlib.Core.Path.{◌≡◌, refl}

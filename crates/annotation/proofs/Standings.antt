@@ -1,4 +1,5 @@
--- THEOREM `StandingsStated`: the standing of each group is what the paper says, for groups that stand apart from left to right.
+-- THEOREM `StandingsStated`: the standing of each group is what the paper says,
+-- for groups that stand apart from left to right.
 use Prim.Native.Nat.{ℕ, ◌-◌, ◌≤◌, ◌<◌}
 use native.Mathlib.Omega.{arith}
 use native.Mathlib.Decide.{dec_le}

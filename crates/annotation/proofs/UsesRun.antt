@@ -1,4 +1,5 @@
--- THEOREMS `RecordsUsed` and `SourcesUsed`: the uses in the item records, of the sources, and the final ones.
+-- THEOREMS `RecordsUsed` and `SourcesUsed`: the uses in the
+-- item records, of the sources, and the final ones.
 use Prim.Native.Nat.{ℕ, ◌+◌, ◌*◌, ◌<◌}
 use native.Mathlib.Omega.{arith}
 use mathlib.Core.Path.{◌≡◌, refl, sym, ◌∙◌, ap}

@@ -1,4 +1,5 @@
--- Document 01, Ten numbers: what refuses an annotation before the sweep.
+-- Document 01, Ten numbers:
+-- what refuses an annotation before the sweep.
 use Rattle.std.specs.Prelude.{ℕ, List, not, ltb}
 use Rattle.base.specs.Pick.{pick}
 use Rattle.utf8.specs.Refusal.{after_text}

@@ -1,4 +1,5 @@
--- Document 01, Layouts: the standing of a group, by the definition line that it stands in and by the definitions of its keys.
+-- Document 01, Layouts: the standing of a group, by the definition line
+-- that it stands in and by the definitions of its keys.
 use Rattle.std.specs.Prelude.{ℕ, ◌≤◌, ◌<◌, ◌≡◌, List, [], ◌∷◌, ◌⊎◌, true, false}
 use Rattle.base.specs.Lists.{byte_at}
 use Rattle.base.specs.Sorted.{Each}

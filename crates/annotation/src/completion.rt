@@ -3,44 +3,40 @@
 ghost use Rattle.std.specs.Prelude.{◌≡◌};
 ghost use Rattle.annotation.specs.Halves.{CanFinish, Finished};
 
-use crate::after_sweep::number_and_order;
 use crate::answer::{Annotation, refuse_ten};
 use crate::preparation::Begun;
 use base::refusal::Refusal;
 use lookup::note_after;
+use resolve::Indexed;
 use sweep::sweep;
 
 // An annotation from the build on. 10 comes only after the whole sweep. (The four areas stay parameters of their own, and no struct: a clause
 // would name what they hold at the end as `areas.exit.1.1.0.now`, and each call would have to say that it keeps all four references.)
 #[tactic(auto, using(crate::proofs::FinishLaws::finish_laws))]
 pub fn finish<'a>(
-    text: &'a [u8],
-    note: u8,
+    indexed: Indexed<'a>,
     prepared: Result<Begun<'a>, Refusal>,
-    index: &mut [u16],
     items: &mut [u16],
     groups: &mut [u16],
     references: &mut [u16],
     labels: &mut [u8],
 ) -> Annotation
-    requires { CanFinish text.now note prepared index.old items.old groups.old }
-    ensures { Finished text.now note prepared.entry index.old items.old groups.old references.old
-        labels.old result items.new groups.new references.new labels.new
-        × (index.new ≡ index.old) }
+    requires { CanFinish indexed.text.now indexed.note prepared indexed.index.now items.old groups.old }
+    ensures { Finished indexed.entry.text.now indexed.entry.note prepared.entry indexed.entry.index.now items.old groups.old references.old
+        labels.old result items.new groups.new references.new labels.new }
 {
     let begun = match prepared {
         Ok(begun) => begun,
         Err(refusal) => return Annotation {
             counts: Err(refusal),
-            note,
+            note: indexed.note,
         },
     };
-    let note = note_after(begun.swept.wants, note);
-    let swept = sweep(text, note, index, begun.swept, items, groups);
+    let note = note_after(begun.swept.wants, indexed.note);
+    let swept = sweep(Indexed { note, ..indexed }, begun.swept, items, groups);
     if swept.fits {
-        let counts = number_and_order(
-            text, begun.mode, begun.pool, swept, items, groups, references, labels,
-        );
+        let begun = Begun { swept, ..begun };
+        let counts = begun.number_and_order(indexed.text, items, groups, references, labels);
         return Annotation { counts, note };
     }
     let counts = refuse_ten(items, groups, references, labels);

@@ -10,6 +10,7 @@ use base::mode::Mode;
 use base::refusal::Refusal;
 use lookup::is_too_few;
 use pool::Pool;
+use resolve::Indexed;
 use sweep::group_records::SweepState;
 use sweep::{start, sweep};
 use utf8::check_text;
@@ -22,7 +23,8 @@ pub struct Begun<'a> {
     pub swept: SweepState,
 }
 
-// Refuses an annotation before the sweep, or gives its mode and its pool; `index` and `records` are how many of these are lent.
+// Refuses an annotation before the sweep, or gives its mode and its pool; `index` and `records` are how many of these are lent. `mode` is a
+// number, since C gives any byte, and `Mode::try_from` refuses what is none.
 #[tactic(auto, using(utf8::proofs::Characters::accepted_after, utf8::proofs::Characters::refused_after), unfolding(crate::specs::Refusal::annotate_refusal))]
 fn check_annotate<'a>(
     text: &[u8],
@@ -38,9 +40,7 @@ fn check_annotate<'a>(
 {
     check_text(text)?;
     let mode = Mode::try_from(mode)?;
-    let Some(pool) = Pool::new(pool) else {
-        return Err(Refusal::PoolBroken);
-    };
+    let pool = Pool::try_from(pool)?;
     if is_too_few(text, index, records) {
         return Err(Refusal::IndexTooShort);
     }
@@ -50,21 +50,18 @@ fn check_annotate<'a>(
 // An annotation up to the build: `records` bracket records are lent.
 #[tactic(auto, using(crate::proofs::BeginLaws::prepared_short, crate::proofs::BeginLaws::prepared_counted))]
 pub fn prepare<'a>(
-    text: &[u8],
+    indexed: Indexed,
     mode: u8,
     pool: &'a [u8],
-    note: u8,
-    index: &mut [u16],
     records: usize,
     items: &mut [u16],
     groups: &mut [u16],
 ) -> Result<Begun<'a>, Refusal>
-    ensures { PreparedBy text.now mode pool.now note index.old records items.old groups.old result
-        items.new groups.new
-        × (index.new ≡ index.old) }
+    ensures { PreparedBy indexed.entry.text.now mode pool.now indexed.entry.note indexed.entry.index.now records items.old groups.old
+        result items.new groups.new }
 {
-    let (mode, pool) = check_annotate(text, mode, pool, index.len(), records)?;
-    let swept = sweep(text, note, index, start(), items, groups);
+    let (mode, pool) = check_annotate(indexed.text, mode, pool, indexed.index.len(), records)?;
+    let swept = sweep(indexed, start(), items, groups);
     Ok(Begun { mode, pool, swept })
 }
 

@@ -1,5 +1,7 @@
-// The public calls. Each takes any arguments, and answers by a Result whose numbers and values a definition gives (specs/Values of its crate).
+// The public calls. Each takes any arguments and answers by a Result, with the note beside it where an index is lent; a definition gives its
+// numbers and values (specs/Values of its crate).
 // The layouts of records and areas, the note, the refusals and what each leaves behind are in include/citations.h, the manual of these calls.
+// A note and a mode are numbers, since C gives any byte: a note that is not 1 comes back as it was, and a mode that is none is refused.
 #![tactic(auto)]
 
 ghost use Rattle.std.specs.Prelude.{◌≡◌};
@@ -18,6 +20,7 @@ pub use index::Bracket;
 pub use locator::Locator;
 pub use lookup::LookUp;
 pub use resolve::Group;
+use resolve::Indexed;
 
 // The group at the bracket at `at`: the place of its close, the count of its items and the note, and the item records at the front of `items`.
 // Refusals: 1, 2, 3, 4, 9, 5, 10.
@@ -32,10 +35,11 @@ pub fn look_up(
     ensures { LookUpPromise text.now at note index.old records.old items.old
         result index.new records.new items.new }
 {
-    let n = index::brackets::count(records);
-    let prepared = lookup::prepare(text, at, note, index, n);
+    let indexed = Indexed { text, note, index };
+    let prepared = lookup::prepare(indexed, at, records.len());
     index::brackets::build_when(lookup::wants_build(prepared), text, index, records);
-    lookup::finish(text, at, note, prepared, index, items)
+    let indexed = Indexed { text, note, index };
+    lookup::finish(indexed, at, prepared, items)
 }
 
 // The groups of the text: the counts of groups, items, sources and label bytes and the note, and at the front of each area its records:
@@ -58,12 +62,11 @@ pub fn annotate<'a>(
         AnnotatePromise text.now mode pool.now note index.old records.old given
         result index.new records.new left }
 {
-    let n = index::brackets::count(records);
-    let prepared = prepare(text, mode, pool, note, index, n, items, groups);
+    let indexed = Indexed { text, note, index };
+    let prepared = prepare(indexed, mode, pool, records.len(), items, groups);
     index::brackets::build_when(wants_build(prepared), text, index, records);
-    finish(
-        text, note, prepared, index, items, groups, references, labels,
-    )
+    let indexed = Indexed { text, note, index };
+    finish(indexed, prepared, items, groups, references, labels)
 }
 
 // How many item records any annotation of the text needs at most. Refusals: 1, 2.

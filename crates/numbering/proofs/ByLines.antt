@@ -1,4 +1,5 @@
--- Definitions from the records: they depend on no number, use, label or standing, and are those of the paper.
+-- Definitions from the records: they depend on no number, use,
+-- label or standing, and are those of the paper.
 use Prim.Native.Nat.{ℕ, suc, ◌+◌, ◌-◌, ◌*◌, ◌<◌}
 use native.Mathlib.Omega.{arith}
 use mathlib.Core.Path.{◌≡◌, refl, sym, ◌∙◌, ap}

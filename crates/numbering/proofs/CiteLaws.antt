@@ -1,4 +1,5 @@
--- A numbered item, and those of a group, in the form of the needs.
+-- A numbered item, and those of a group,
+-- in the form of the goals.
 use Prim.Native.Nat.{ℕ, ◌+◌, ◌-◌, ◌*◌, ◌≤◌, ◌<◌, min}
 use native.Mathlib.Omega.{arith}
 use mathlib.Core.Path.{◌≡◌, refl, sym, ◌∙◌, ap}

@@ -1,9 +1,14 @@
--- The keys of a group, in the form of the needs.
-use Prim.Native.Nat.{ℕ, suc, ◌+◌, ◌-◌, ◌≤◌, ◌<◌}
+-- The keys of a group,
+-- in the form of the goals.
+use Prim.Native.Nat.{ℕ, zero, suc, ◌+◌, ◌<◌}
 use native.Mathlib.Omega.{arith}
 use mathlib.Core.Path.{◌≡◌, refl, sym, ◌∙◌, ap}
 use mathlib.Core.List.{List}
-use mathlib.Core.Bool.{Bool, true, false}
+use mathlib.Core.Bool.{Bool, true, false, and-false}
+use lib.ListN.{length}
+use Rattle.std.specs.Bool.{MatchBool}
+use Rattle.std.specs.List.{range_with_len, AllWithin, HoldsAt}
+use Rattle.std.proofs.lemmas.List.FromFn.{get_or-range_with_len, length-range_with_len}
 use Rattle.std.specs.Prelude.{Option, Some, None, is_some}
 use Rattle.definition.specs.Defs.{is_defined}
 use Rattle.definition.specs.declared.defined.Definition.{Definition}
@@ -27,21 +32,29 @@ defined_is text pool groups items n k d p q e = e ∙ sym (some_defined text poo
 
 pub ruleset defined_laws = (defined_is)
 
--- every key of the records from `k` up to `end`
-module _ (text pool groups items : List ℕ) (n end k : ℕ) {w : Bool} (p : w ≡ keys_defined text pool groups items n (end - k) k) where
-  pub keys_end : end ≤ k → true ≡ w
+-- the keys of `m` records from `k` on
+module _ (text pool groups items : List ℕ) (n : ℕ) where
+  keys_all : (m k : ℕ) → ((i : ℕ) → i < m → key_defined text pool groups items n (k + i) ≡ true) → true ≡ keys_defined text pool groups items n m k
   unfolding keys_defined
-  keys_end h = let z : end - k ≡ 0 = omega arith in sym (p ∙ rw z refl)
+  keys_all zero k h = refl
+  keys_all (suc m) k h =
+      let z : k + 0 ≡ k = omega arith in
+      let t : key_defined text pool groups items n k ≡ true = rw z at (h 0 (omega arith)) in
+      rw t (keys_all m (k + 1) (λ i l. let e : k + suc i ≡ k + 1 + i = omega arith in rw e at (h (suc i) (omega arith))))
 
-  pub keys_more : {b : Bool} → k < end → b ≡ key_defined text pool groups items n k → b ≡ true
-      → w ≡ keys_defined text pool groups items n (end - (k + 1)) (k + 1)
+  keys_some : (m k i : ℕ) → i < m → key_defined text pool groups items n (k + i) ≡ false → false ≡ keys_defined text pool groups items n m k
   unfolding keys_defined
-  keys_more h q t =
-      let a : end - k ≡ suc (end - (k + 1)) = omega arith in
-      p ∙ rw (a, ← q, t) refl
+  keys_some zero k i l h = absurd (omega arith)
+  keys_some (suc m) k zero l h = let z : k + 0 ≡ k = omega arith in rw (rw z at h) refl
+  keys_some (suc m) k (suc i) l h =
+      let e : k + suc i ≡ k + 1 + i = omega arith in
+      rw (← keys_some m (k + 1) i (omega arith) (rw e at h), and-false) refl
 
-  pub keys_stop : {b : Bool} → k < end → b ≡ key_defined text pool groups items n k → b ≡ false → false ≡ w
-  unfolding keys_defined
-  keys_stop h q t = let a : end - k ≡ suc (end - (k + 1)) = omega arith in sym (p ∙ rw (a, ← q, t) refl)
-
-pub ruleset keys_laws = (keys_end, keys_more, keys_stop)
+  pub keys_by : (k m : ℕ) (r : Bool) → MatchBool r
+      (AllWithin (λ j. key_defined text pool groups items n j ≡ true) (range_with_len k m) 0 (length (range_with_len k m)))
+      ((i : ℕ) × (i < length (range_with_len k m)) × HoldsAt (λ j. key_defined text pool groups items n j ≡ false) (range_with_len k m) i)
+      → r ≡ keys_defined text pool groups items n m k
+  keys_by k m true h = keys_all m k (λ i l. rw get_or-range_with_len at (h i 0 (omega arith) (rw length-range_with_len l)))
+  keys_by k m false h =
+      let l : h.0 < m = rw length-range_with_len at h.1 in
+      keys_some m k h.0 l (rw get_or-range_with_len at (h.2 0))

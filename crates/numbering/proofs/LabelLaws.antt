@@ -1,20 +1,25 @@
--- The label of an item record, in the form of the needs.
+-- The label of an item record,
+-- in the form of the goals.
 use Prim.Native.Nat.{ℕ, ◌+◌, ◌≤◌, ◌<◌}
 use native.Mathlib.Omega.{arith}
 use mathlib.Core.Path.{◌≡◌, refl, sym, ◌∙◌, ap}
 use mathlib.Core.List.{List, []}
-use mathlib.Core.Bool.{Bool, true, false}
-use mathlib.Core.Option.{none, get_or}
+use mathlib.Core.Bool.{Bool, true}
+use mathlib.Core.Option.{get_or}
 use lib.ListN.{length, take, drop, length-take, length-drop}
 use lib.Dec.{eqb}
-use borrow.Author.Tests.{eq-eqb, eqb-true}
+use borrow.Author.Tests.{eqb-true}
 use Rattle.std.specs.Prelude.{Option as Answer, Some, None, IfSome}
 use Rattle.base.proofs.Bools.{and_three}
 use Rattle.base.proofs.Lasts.{last_holds}
 use Rattle.base.proofs.Sames.{same_true}
-use Rattle.pool.specs.Readers.{lent}
+use Rattle.base.specs.Lent.{lent}
 use Rattle.source.specs.Years.{written_year}
-use Rattle.definition.specs.declared.defined.AuthorYear.{AuthorYear}
+use Rattle.base.specs.Modes.{mode_number}
+use Rattle.base.specs.declared.mode.Mode.{Mode}
+use Rattle.base.specs.declared.mode.Mode.TheVariants.{Number, AuthorYear}
+use Rattle.decimal.specs.Decimal.{decimal}
+use Rattle.definition.specs.declared.defined.AuthorYear.{AuthorYear as Gift}
 use Rattle.definition.specs.declared.defined.Definition.{Definition}
 use Rattle.definition.specs.Parts.{Gives}
 use Rattle.definition.specs.Defs.{def_author, def_year}
@@ -25,41 +30,42 @@ use Rattle.definition.specs.Definitions.{definition_in}
 use Rattle.records.specs.Records.{key_in, suppressed_in}
 use Rattle.records.specs.Fields.{item_field}
 use Rattle.definition.specs.Defined.{defined_as}
-use Rattle.uses.specs.Uses.{same_label, last_alike, Found}
+use Rattle.base.specs.Found.{Found}
+use Rattle.uses.specs.Uses.{same_label, last_alike}
 use Rattle.numbering.specs.declared.Numbering.{Numbering}
 use Rattle.numbering.specs.Numbers.{record_label}
 use Rattle.numbering.specs.Progress.{Alike, LabelStands, Labelled}
 use Rattle.records.specs.Widths.{item_number, item_marks, item_label, item_label_length}
 
-module _ (text pool groups items : List ℕ) (mode n k number : ℕ) where
+module _ (text pool groups items : List ℕ) (mode : Mode) (n k number : ℕ) where
   abbrev L : List ℕ
-  L = record_label text mode pool groups items n k number
+  L = record_label text (mode_number mode) pool groups items n k number
 
-  -- mode 0: by number alone
-  plain : mode ≡ 0 → label_by mode false number [] none ≡ L
+  -- by number alone
+  plain : mode ≡ Number → decimal number ≡ L
   unfolding label_text label_by
-  plain p = rw (eq-eqb mode 0 p) refl
+  plain p = rw p refl
 
-  pub plain_length : {r : ℕ} → mode ≡ 0 → r ≡ length (label_by mode false number [] none) → r ≡ length L
+  pub plain_length : {r : ℕ} → mode ≡ Number → r ≡ length (decimal number) → r ≡ length L
   plain_length p e = e ∙ ap length (plain p)
 
-  pub plain_area : (out : List ℕ) {o : List ℕ} → mode ≡ 0 → o ≡ fitted (label_by mode false number [] none) out → o ≡ fitted L out
+  pub plain_area : (out : List ℕ) {o : List ℕ} → mode ≡ Number → o ≡ fitted (decimal number) out → o ≡ fitted L out
   plain_area out p e = e ∙ ap (λ (l : List ℕ). fitted l out) (plain p)
 
   -- by what was found
-  module _ (d : Answer Definition) (v : AuthorYear) {key : List ℕ} {b : Bool} (p : key ≡ key_in text items k)
+  module _ (d : Answer Definition) (v : Gift) {key : List ℕ} {b : Bool} (m : mode ≡ AuthorYear) (p : key ≡ key_in text items k)
       (q : defined_as text groups n pool d ≡ definition_in text groups items n pool key)
       (g : Gives v (def_author (defined_as text groups n pool d)) (def_year (defined_as text groups n pool d)))
       (e : b ≡ suppressed_in items k) where
-    named : label_by mode b number (get_or (lent v.author) []) (written_year v.year) ≡ L
+    named : label_by 1 b number (get_or (lent v.author) []) (written_year v.year) ≡ L
     unfolding label_text
-    named = rw (g.author_as, g.year_as, q, e, p) refl
+    named = rw (m, g.author_as, g.year_as, q, e, p) refl
 
-    pub named_length : {r : ℕ} → r ≡ length (label_by mode b number (get_or (lent v.author) []) (written_year v.year)) → r ≡ length L
+    pub named_length : {r : ℕ} → r ≡ length (label_by 1 b number (get_or (lent v.author) []) (written_year v.year)) → r ≡ length L
     named_length h = h ∙ ap length named
 
     pub named_area : (out : List ℕ) {o : List ℕ}
-        → o ≡ fitted (label_by mode b number (get_or (lent v.author) []) (written_year v.year)) out → o ≡ fitted L out
+        → o ≡ fitted (label_by 1 b number (get_or (lent v.author) []) (written_year v.year)) out → o ≡ fitted L out
     named_area out h = h ∙ ap (λ (l : List ℕ). fitted l out) named
 
 pub ruleset label_laws = (plain_length, plain_area, named_length, named_area)

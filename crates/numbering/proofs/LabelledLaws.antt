@@ -1,4 +1,5 @@
--- The labels so far: none before the first group, and one more after each item that is numbered, in the form of the needs.
+-- The labels so far: none before the first group, and one more
+-- after each item that is numbered, in the form of the goals.
 use Prim.Native.Nat.{ℕ, zero, suc, ◌+◌, ◌-◌, ◌*◌, ◌≤◌, ◌<◌}
 use native.Mathlib.Omega.{arith}
 use mathlib.Core.Path.{◌≡◌, refl, sym, ◌∙◌}

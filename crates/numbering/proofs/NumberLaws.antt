@@ -1,4 +1,5 @@
--- The items of a group, and all groups, in the form of the needs.
+-- The items of a group, and all groups,
+-- in the form of the goals.
 use Prim.Native.Nat.{ℕ, zero, suc, ◌+◌, ◌*◌, ◌≤◌, ◌<◌}
 use native.Mathlib.Omega.{arith}
 use mathlib.Core.Path.{◌≡◌, refl, sym, ◌∙◌}

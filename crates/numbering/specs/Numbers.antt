@@ -1,4 +1,5 @@
--- Follows the code; nothing to believe: numbers, uses and labels as the code writes them into the records, record by record.
+-- Follows the code; nothing to believe: numbers, uses and labels as
+-- the code writes them into the records, record by record.
 use Rattle.std.specs.Prelude.{ℕ, zero, suc, ◌+◌, ◌*◌, List, [], ◌++◌, Bool, true, ◌&&◌, not, length, set, eqb}
 use Rattle.base.specs.Pick.{pick}
 use Rattle.records.specs.Widths.{group_width, group_standing, group_count, group_first}

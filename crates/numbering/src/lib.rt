@@ -1,4 +1,5 @@
-// Numbers, uses and labels, over item and group records.
+// Numbers, uses and labels,
+// over item and group records.
 #![tactic(auto)]
 
 pub mod numbers;
@@ -6,6 +7,8 @@ pub mod numbers;
 ghost use Rattle.std.specs.Prelude.{◌≡◌, ◌≤◌, ◌<◌};
 ghost use Rattle.definition.specs.Lines.{LinesBelow};
 ghost use Rattle.records.specs.Bounds.{record_bound};
+ghost use Rattle.numbering.specs.Numbers.{number_all};
+ghost use Rattle.numbering.specs.Progress.{room_of, Holds, Unnumbered};
 
 use base::mode::Mode;
 use pool::Pool;
@@ -58,4 +61,34 @@ impl Setting<'_> {
         }
         Some(s)
     }
+}
+
+// The groups as `Setting::number_groups` numbers them, at any mode number: each above 1 counts as 1. The library itself calls the method,
+// whose setting has a `Mode`.
+pub fn number_groups<'a>(
+    text: &'a [u8],
+    mode: u8,
+    pool: Pool<'a>,
+    n: usize,
+    lines: usize,
+    m: usize,
+    items: &mut [u16],
+    groups: &mut [u16],
+    labels: &mut [u8],
+) -> Option<Numbering>
+    requires { (n ≤ 65535) × Unnumbered m items.old × LinesBelow text.now groups.old items.old n lines }
+    ensures holds { Holds (number_all text.now mode pool.entry.bytes.now n items.old groups.old)
+        (room_of labels.old) labels.old result items.new groups.new labels.new }
+    ensures lines { LinesBelow text.now groups.new items.new n lines }
+{
+    let mode = Mode::clamped(mode);
+    let setting = Setting {
+        text,
+        pool,
+        mode,
+        n,
+        m,
+        lines,
+    };
+    setting.number_groups(items, groups, labels)
 }

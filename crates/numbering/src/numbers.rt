@@ -1,4 +1,7 @@
 // Numbers, uses and labels, written into the records and the label bytes, group by group.
+// `as` narrows a number, since the check proves that it fits; `try_from` would answer a refusal that cannot come.
+// `k < record_bound` is a clause: with a `u32` in place of `k` each call would cast the counter of a loop. The counts `s` and the areas are
+// parameters of their own, and no struct with the facts that tie them: groups are lent only for reading while items are written.
 ghost use Rattle.std.specs.Prelude.{◌≡◌, ◌<◌, ◌≤◌, length, IfSome};
 ghost use Rattle.base.specs.Modes.{mode_number};
 ghost use Rattle.label.specs.Areas.{fitted, fitted_at};
@@ -10,10 +13,12 @@ ghost use Rattle.records.specs.Bounds.{record_bound, source_bound};
 use crate::{Numbering, Setting};
 use base::mode::Mode;
 use definition::Definitions;
+use pool::Pool;
 use records::{
     GROUP_COUNT, GROUP_FIRST, GROUP_STANDING, GROUP_WIDTH, ITEM_LABEL, ITEM_LABEL_LENGTH,
     ITEM_WIDTH, field, key_in, put, suppressed_in,
 };
+use standing::Standing;
 
 // Whether the key of item record `k` is defined.
 #[tactic(auto, using(crate::proofs::GroupLaws::defined_laws))]
@@ -26,19 +31,13 @@ fn is_defined(definitions: &Definitions, k: usize) -> bool
     definitions.find(key).is_some()
 }
 
-// Whether the keys of the `count` item records from `first` on are.
-#[tactic(auto, using(crate::proofs::GroupLaws::keys_laws))]
+// Whether the keys of the `count` item records from `first` on are all defined.
 fn all_defined(definitions: &Definitions, first: usize, count: usize) -> bool
     requires { (first < 65536) × (count < 65536) }
     ensures { result ≡ keys_defined definitions.now.text.now definitions.now.pool.bytes.now definitions.now.groups.now
         definitions.now.items.now definitions.now.n count first }
 {
-    for k in first..first + count {
-        if !is_defined(definitions, k) {
-            return false;
-        }
-    }
-    true
+    (first..first + count).all(|k| is_defined(definitions, k))
 }
 
 // The label of item record `k` with the number `number` at the front of `out`, where it fits. Its length.
@@ -52,17 +51,19 @@ fn label_in(definitions: &Definitions, mode: Mode, k: usize, number: u16, out: &
         definitions.now.items.now definitions.now.n k number)
         out.old }
 {
-    if mode == Mode::Number {
-        return label::write_label(mode, false, number, None, None, out);
+    match mode {
+        Mode::Number => label::write_number(number, out),
+        Mode::AuthorYear => {
+            let key = key_in(definitions.text, definitions.items, k);
+            let given = definitions.given_by(definitions.find(key));
+            let suppressed = suppressed_in(definitions.items, k);
+            label::write_author_year(suppressed, number, given, out)
+        }
     }
-    let key = key_in(definitions.text, definitions.items, k);
-    let given = definitions.given_by(definitions.find(key));
-    let suppressed = suppressed_in(definitions.items, k);
-    label::write_label(mode, suppressed, number, given.author, given.year, out)
 }
 
-// An item record before `k` that has the label of record `k` with the number `number`, if one is known and looked for: none is in mode 0,
-// and for the first use of a source.
+// An item record before `k` that has the label of record `k` with the number `number`, if one is known and looked for. None is in the mode
+// `Number`, whose labels are written as fast as they are copied, nor for the first use of a source.
 #[tactic(auto, using(crate::proofs::LabelLaws::before_laws))]
 fn labelled_before(
     text: &[u8],
@@ -122,7 +123,23 @@ fn write_label_of(
     }
 }
 
-impl Setting<'_> {
+impl<'a> Setting<'a> {
+    // Where keys are defined, by the records as they are so far.
+    pub fn definitions(self, groups: &'a [u16], items: &'a [u16]) -> Definitions<'a>
+        requires { LinesBelow self.text.now groups.now items.now self.n self.lines }
+        ensures { (result.text ≡ self.entry.text) × (result.pool ≡ self.entry.pool) × (result.groups.now ≡ groups.now) × (result.items.now ≡ items.now)
+            × (result.n ≡ self.entry.n) × (result.lines ≡ self.entry.lines) }
+    {
+        Definitions {
+            text: self.text,
+            pool: self.pool,
+            groups,
+            items,
+            n: self.n,
+            lines: self.lines,
+        }
+    }
+
     // Item record `k` with its number, its use and its label; nothing where the label does not fit, and then the areas may hold anything.
     fn cite(
         &self,
@@ -143,15 +160,8 @@ impl Setting<'_> {
     {
         let at = s.label_bytes;
         let left = labels.len().min(65535) - at;
-        let c = uses::count_in(self.text, items, 0 < self.pool.bytes.len(), s.sources, k);
-        let definitions = Definitions {
-            text: self.text,
-            pool: self.pool,
-            groups,
-            items,
-            n: self.n,
-            lines: self.lines,
-        };
+        let c = uses::count_in(self.text, items, !self.pool.is_empty(), s.sources, k);
+        let definitions = self.definitions(groups, items);
         let len = write_label_of(&definitions, self.mode, self.m, k, c.number, s, labels);
         if left < len {
             return None;
@@ -163,7 +173,7 @@ impl Setting<'_> {
         })
     }
 
-    // The `count` item records from `first` on, so.
+    // The `count` item records from `first` on with their numbers, uses and labels, as `cite` gives each its own.
     fn cite_from(
         &self,
         first: usize,
@@ -208,23 +218,56 @@ impl Setting<'_> {
         ensures labelled { IfSome result (λ r. Labelled self.now.text.now (mode_number self.now.mode) self.now.pool.bytes.now self.now.n
             self.now.m r items.new groups.new labels.new) }
     {
-        if field::<GROUP_WIDTH>(groups, g, GROUP_STANDING) == 0 {
+        let standing = field::<GROUP_WIDTH>(groups, g, GROUP_STANDING);
+        if standing == usize::from(u16::from(Standing::DefinitionLine)) {
             return Some(s);
         }
         let first = field::<GROUP_WIDTH>(groups, g, GROUP_FIRST);
         let count = field::<GROUP_WIDTH>(groups, g, GROUP_COUNT);
-        let definitions = Definitions {
-            text: self.text,
-            pool: self.pool,
-            groups,
-            items,
-            n: self.n,
-            lines: self.lines,
-        };
+        let definitions = self.definitions(groups, items);
         if !all_defined(&definitions, first, count) {
             return Some(s);
         }
-        put(groups, GROUP_WIDTH * g + GROUP_STANDING, 2);
+        put(
+            groups,
+            GROUP_WIDTH * g + GROUP_STANDING,
+            Standing::Numbered.into(),
+        );
         self.cite_from(first, count, s, items, groups, labels)
     }
+}
+
+// Group record `g` as `Setting::number_group` numbers it, at any mode number: each above 1 counts as 1. The library itself calls the method,
+// whose setting has a `Mode`.
+pub fn number_group<'a>(
+    text: &'a [u8],
+    mode: u8,
+    pool: Pool<'a>,
+    n: usize,
+    lines: usize,
+    m: usize,
+    g: usize,
+    s: Numbering,
+    items: &mut [u16],
+    groups: &mut [u16],
+    labels: &mut [u8],
+) -> Option<Numbering>
+    requires { (n < record_bound) × (g < record_bound) × (s.sources < 549755813888) × (s.label_bytes ≤ room_of labels.old)
+        × LinesBelow text.now groups.old items.old n lines
+        × Labelled text.now mode pool.bytes.now n m s items.old groups.old labels.old }
+    ensures advances { Advances 65535 (λ t. number_group text.now mode pool.entry.bytes.now n t g)
+        s result items.old groups.old labels.old items.new groups.new labels.new }
+    ensures lines { LinesBelow text.now groups.new items.new n lines }
+    ensures labelled { IfSome result (λ r. Labelled text.now mode pool.entry.bytes.now n m r items.new groups.new labels.new) }
+{
+    let mode = Mode::clamped(mode);
+    let setting = Setting {
+        text,
+        pool,
+        mode,
+        n,
+        m,
+        lines,
+    };
+    setting.number_group(g, s, items, groups, labels)
 }

@@ -1,4 +1,5 @@
--- `annotation::theorems` meets its contract: the theorems of the files that it names.
+-- `annotation::theorems` meets its contract:
+-- the theorems of the files that it names.
 use Rattle.annotation.proofs.Truth.{annotate_true, annotate_leaves, annotate_keeps}
 use Rattle.annotation.proofs.Uses.{uses_added_lem}
 use Rattle.annotation.proofs.Numbers.{sources_in_order, sources_differ, numbers_are_places, numbers_stay}

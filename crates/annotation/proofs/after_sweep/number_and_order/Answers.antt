@@ -1,16 +1,12 @@
--- The answers of `annotation::after_sweep::number_and_order`: the labels have no room, the references have none, or both have it.
-use Rattle.annotation.proofs.OrderLaws.{ordered_room, few_labels, few_references}
+-- The answers of `annotation::after_sweep::number_and_order`: what the method asks and leaves at a mode's number, it
+-- does at each number that is clamped to it.
+use Rattle.numbering.proofs.ModeLaws.{all_same}
+use Rattle.annotation.proofs.OrderLaws.{ordered_same}
 use Rattle.annotation.proofs.after_sweep.number_and_order.Goals as goal
 
-pub returns-in_default : goal.returns-in_default
-returns-in_default c =
-    let a = c.number_groups.auto in few_labels _ _ _ _ _ _ _ _ _ c.refuse_ten.ensures a.items a.groups a.labels c.in_default.ensures.holds
-
-pub returns-then-references-sources : goal.returns-then-references-sources
-returns-then-references-sources c =
-    let a = c.number_groups.auto in
-    few_references _ _ _ _ _ _ _ _ _ c.refuse_ten-then-references-sources.ensures a.items a.groups a.labels c.in-Some.ensures.holds
-    c.if-references-sources.true
+pub number_and_order-requires : goal.number_and_order-requires
+number_and_order-requires c =
+    (c.requires.0, c.requires.1, c.requires.2, rw (c.clamped-mode.ensures, all_same c.args.text.now c.args.mode _ _ _ _) c.requires.3)
 
 pub returns : goal.returns
-returns c = ordered_room _ _ _ _ _ _ _ _ _ c.in-Some.ensures.holds c.if-references-sources.false c.order_references.ensures
+returns c = ordered_same _ _ _ _ _ _ _ _ _ _ _ _ _ _ (rw c.clamped-mode.ensures at c.number_and_order.ensures)

@@ -1,6 +1,5 @@
 -- The answers of `annotation::completion::finish`: what `number_and_order` requires follows from what the first half left, from the second sweep
 -- and from what they say of the call as run.
-use Rattle.std.proofs.Common.{refl}
 use borrow.Author.Rules.{rules}
 use Rattle.annotation.proofs.FinishLaws.{finish_laws, groups_short, items_short, numbers_none, numbers_known, finished_room}
 use Rattle.annotation.proofs.completion.finish.Goals as goal
@@ -21,4 +20,4 @@ number_and_order-counts-requires c =
 
 pub returns-then-swept : goal.returns-then-swept
 returns-then-swept c =
-    (finished_room _ _ _ _ _ _ _ c.in-Ok.is c.note_after-note.ensures c.sweep-swept.ensures c.if-swept.true c.number_and_order-counts.ensures, refl)
+    finished_room _ _ _ _ _ _ _ c.in-Ok.is c.note_after-note.ensures c.sweep-swept.ensures c.if-swept.true c.number_and_order-counts.ensures

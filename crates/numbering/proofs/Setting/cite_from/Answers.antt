@@ -1,4 +1,5 @@
--- The answers of `Setting::cite_from`: one item more, and one whose label does not fit.
+-- The answers of `Setting::cite_from`: one item more,
+-- and one whose label does not fit.
 use Rattle.numbering.proofs.NumberLaws.{cites_start, cites_more, cites_over}
 use Rattle.numbering.proofs.Setting.cite_from.Goals as goal
 

@@ -1,4 +1,5 @@
--- The invariant of `Setting::cite_from`: the areas advanced by the first `i` items, the definition lines lie below `lines`, and the labels so far stand.
+-- The invariant of `Setting::cite_from`: the areas advanced by the first `i` items,
+-- the definition lines lie below `lines`, and the labels so far stand.
 use Rattle.std.proofs.Common.{Some}
 use Rattle.base.specs.Modes.{mode_number}
 use Rattle.definition.specs.Lines.{LinesBelow}

@@ -1,4 +1,5 @@
--- The answers of `Setting::number_groups`: one group more, one with a label that does not fit, and all.
+-- The answers of `Setting::number_groups`: one group more,
+-- one with a label that does not fit, and all.
 use Rattle.std.proofs.Common.{◌≡◌, arith}
 use Rattle.numbering.proofs.LabelledLaws.{labelled_start}
 use Rattle.numbering.proofs.NumberLaws.{groups_start, groups_more, groups_over, groups_end}

@@ -1,9 +1,10 @@
--- The answers of `numbering::numbers::label_in`: the label by what was found.
+-- The answers of `numbering::numbers::label_in`:
+-- the label by what was found.
 use Rattle.numbering.proofs.LabelLaws.{named_area}
 use Rattle.numbering.proofs.numbers.label_in.Goals as goal
 
-pub returns-clause-area : goal.returns-clause-area
-returns-clause-area c =
+pub returns-in-AuthorYear-clause-area : goal.returns-in-AuthorYear-clause-area
+returns-in-AuthorYear-clause-area c =
     named_area c.args.definitions.now.text.now c.args.definitions.now.pool.bytes.now c.args.definitions.now.groups.now c.args.definitions.now.items.now
-    _ c.args.definitions.now.n c.args.k c.args.number c.find.result c.given_by-given.result c.key_in-key.ensures c.find.ensures.result_value
-    c.given_by-given.ensures c.suppressed_in-suppressed.ensures _ c.write_label-2.ensures.1
+    c.args.mode c.args.definitions.now.n c.args.k c.args.number c.find.result c.given_by-given.result c.in-AuthorYear.is c.key_in-key.ensures
+    c.find.ensures.result_value c.given_by-given.ensures c.suppressed_in-suppressed.ensures _ c.write_author_year.ensures.1
