@@ -1,4 +1,5 @@
--- Follows the code; nothing to believe: what a key is defined as, by the records and the pool.
+-- Follows the code; nothing to believe: what a key is defined as,
+-- by the records and the pool.
 use Rattle.std.specs.Prelude.{ℕ, List}
 use Rattle.std.proofs.Math.Option.{Option}
 use Rattle.definition.specs.Defs.{Def}

@@ -1,4 +1,5 @@
--- Follows the code; nothing to believe: the first entry of a pool that defines a key.
+-- Follows the code; nothing to believe: the first entry of a pool
+-- that defines a key.
 use Rattle.std.specs.Prelude.{ℕ, List, Bool}
 use Rattle.base.specs.First.{first}
 use Rattle.pool.specs.Layout.{count_of, entry_at}

@@ -1,4 +1,5 @@
--- Follows the code; nothing to believe: definition lines among the records.
+-- Follows the code; nothing to believe: definition lines among the records,
+-- and below which record all of them lie.
 use Rattle.std.specs.Prelude.{ℕ, ◌≤◌, ◌<◌, ◌≡◌, List, Bool, false, ◌&&◌, eqb}
 use Rattle.base.specs.LastPlace.{last}
 use Rattle.base.specs.Lists.{same}

@@ -1,4 +1,5 @@
--- Sources by the numbers of their definitions: these have the ranks of the sources, and lead back to the sources' numbers.
+-- Sources by the numbers of their definitions:
+-- these have the ranks of the sources, and lead back to the sources' numbers.
 use Prim.Native.Nat.{ℕ, ◌+◌, ◌-◌, ◌≤◌, ◌<◌}
 use native.Mathlib.Omega.{arith}
 use native.Mathlib.Numerals.{add-one}
@@ -217,8 +218,6 @@ module _ (text pool groups items : List ℕ) (n m : ℕ) (before : List ℕ) whe
         let k = length-map (ranked sources) (definition_of text pool groups items n m) in
         o ∙ rw (f, b, p) (written_over (defined sources) (ranked sources) before (omega arith))
 
-pub ruleset definition_laws = (definitions_start, definitions_more, definitions_sorted, sources_back)
-
 -- the pass that puts the numbers of the sources for those of their definitions
 module _ (text pool groups items : List ℕ) (n m : ℕ) (before : List ℕ) where
   pub back_start : before ≡ written (map (source_by text pool groups items n m) (take 0 before)) before
@@ -250,5 +249,3 @@ back_all text pool groups items n m s area e h p =
     let k : take (length (take s area)) (take s area) ≡ take s area = take_all (length (take s area)) (take s area) (omega arith) in
     let l : length (map f (take s area)) ≡ s = length-map (take s area) f ∙ length-take-le s area h in
     rw (p, e, k) (written_part (map f (take s area)) area s l h)
-
-pub ruleset back_laws = (back_start, back_more, back_all)

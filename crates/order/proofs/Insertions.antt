@@ -1,4 +1,5 @@
--- Numbers inserted by their ranks, and reference order: every number once, in order, and the same by ranks that agree.
+-- Numbers inserted by their ranks, and reference order:
+-- every number once, in order, and the same by ranks that agree.
 use Prim.Native.Nat.{ℕ, zero, suc, ◌+◌, ◌≤◌, ◌<◌}
 use native.Mathlib.Omega.{arith}
 use native.Mathlib.Numerals.{add-one}

@@ -1,4 +1,5 @@
--- The library's order of two slices and its search by halves, as the paper's words.
+-- The library's order of two slices and its search by halves,
+-- as the paper's words.
 use Rattle.std.proofs.Common.{◌≡◌, ℕ, ◌<◌, ◌≤◌, List, [], ◌∷◌, length, take, get_or, Bool, true, false, not, eqb, ltb, cond, Some, Less, Equal, Greater, refl, sym, ◌∙◌, arith}
 use mathlib.Core.Bool.{true≢false}
 use borrow.Author.Tests.{lt-ltb, le-ltb, eq-eqb, ne_eqb, ltb-true, ltb-false, eqb-true, eqb-false}

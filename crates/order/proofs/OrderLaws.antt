@@ -1,4 +1,5 @@
--- Reference order, in the form of the needs.
+-- Reference order, in the form of the goals:
+-- an insertion by rank, the numbers in order, and a mode by its number.
 use Prim.Native.Nat.{ℕ, zero, suc, ◌+◌, ◌-◌, ◌≤◌, ◌<◌, min}
 use native.Mathlib.Omega.{arith}
 use native.Mathlib.Numerals.{add-one}

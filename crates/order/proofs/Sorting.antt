@@ -1,4 +1,5 @@
--- The order of bytes, and numbers in order.
+-- The order of bytes, and numbers in order:
+-- what is less, and what follows for places of a list in order.
 use Prim.Native.Nat.{ℕ, zero, suc, ◌≤◌, ◌<◌}
 use native.Mathlib.Omega.{arith}
 use mathlib.Core.Path.{◌≡◌, refl, sym, ◌∙◌}

@@ -1,4 +1,5 @@
--- Follows the code; nothing to believe: ranks, numbers and reference order, by the definitions that the code passes.
+-- Follows the code; nothing to believe: ranks, numbers and reference order,
+-- by the definitions that the code passes.
 use Rattle.std.specs.Prelude.{ℕ, List}
 use Rattle.definition.specs.declared.Definitions.{Definitions}
 use Rattle.order.specs.Ordered.{rank_by, definition_of, source_by}

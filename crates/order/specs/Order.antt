@@ -1,4 +1,5 @@
--- Document 01, Added by design: the order of bytes, and reference order by it (the sort in `render_refs_list`).
+-- Document 01, Added by design: the order of bytes,
+-- and reference order by it (the sort in `render_refs_list`).
 use Rattle.std.specs.Prelude.{ℕ, zero, suc, ◌+◌, List, [], ◌∷◌, Bool, true, false, eqb, ltb}
 use Rattle.std.proofs.Math.Option.{Option, get_or}
 use Rattle.base.specs.Pick.{pick}

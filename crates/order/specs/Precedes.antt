@@ -1,4 +1,5 @@
--- Document 01, Added by design: a list in reference order.
+-- Document 01, Added by design: a list in reference order,
+-- by which of two numbers comes first.
 use Rattle.std.specs.Prelude.{ℕ, ◌<◌, ◌≡◌, List, ◌⊎◌, true}
 use Rattle.order.specs.Order.{less}
 

@@ -1,4 +1,5 @@
--- Follows the code; nothing to believe: reference order, from the records.
+-- Follows the code; nothing to believe: reference order,
+-- from the records.
 use Rattle.std.specs.Prelude.{ℕ, ◌≤◌, ◌≡◌, List, Bool, true, eqb}
 use Rattle.base.specs.First.{first}
 use Rattle.definition.specs.Defs.{is_defined}

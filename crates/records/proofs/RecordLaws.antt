@@ -1,4 +1,5 @@
--- Item records, in the form of the needs of the code that writes them.
+-- Item records, in the form of the goals of the code that writes them:
+-- how long they are, that places fit, and the walk over the pieces of a group.
 use Prim.Native.Nat.{ℕ, suc, ◌+◌, ◌-◌, ◌*◌, ◌≤◌}
 use native.Mathlib.Omega.{arith}
 use mathlib.Core.Path.{◌≡◌, refl, sym, ◌∙◌, ap}

@@ -1,4 +1,5 @@
--- Follows the code; nothing to believe: bounds below which the code's sums over records fit its numbers.
+-- Follows the code; nothing to believe: bounds below which the code's sums over records
+-- fit its numbers.
 use Rattle.std.specs.Prelude.{ℕ}
 
 -- more records than any area has: the number of one, times a record's width, fits 64 bits

@@ -1,4 +1,5 @@
--- Theorems: what stands where in an item record, and its mark.
+-- Theorems: what stands where in an item record,
+-- and its mark.
 use Rattle.std.specs.Prelude.{ℕ, ◌≡◌, true, false, length, get_or}
 use Rattle.base.specs.declared.Span.{Span}
 use Rattle.locator.specs.Answers.{code_of, value_of, suffix_of}

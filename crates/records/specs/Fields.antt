@@ -1,4 +1,5 @@
--- Document 01, Layouts: item and group records as they lie in the lent areas. What is past an area's end counts as 0.
+-- Document 01, Layouts: item and group records as they lie in the lent areas.
+-- What is past an area's end counts as 0.
 use Rattle.std.specs.Prelude.{ℕ, ◌+◌, ◌*◌, List, get_or}
 use Rattle.records.specs.Widths.{item_width, group_width}
 

@@ -1,4 +1,5 @@
--- Document 01, Layouts: item records.
+-- Document 01, Layouts: item records,
+-- of an item, and of all items of a group.
 use Rattle.std.specs.Prelude.{ℕ, ◌*◌, length}
 use mathlib.Core.List.{List, ◌∷◌, ◌++◌, flat_map}
 use Rattle.base.specs.Pick.{pick}

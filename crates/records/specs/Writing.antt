@@ -1,5 +1,6 @@
--- Follows the code; nothing to believe: item records as they are written, and the pairs that fit one.
-use Rattle.std.specs.Prelude.{ℕ, ◌+◌, ◌≤◌, ◌<◌, ◌≡◌, List, [], ◌∷◌, true, length, set, Option, Some, None}
+-- Follows the code; nothing to believe: item records as they are written,
+-- and the pairs that fit one.
+use Rattle.std.specs.Prelude.{◌≤◌, ◌<◌, ◌≡◌, ℕ, List, [], true, length, Option, Some, None}
 use Rattle.base.specs.declared.Span.{Span}
 use Rattle.locator.specs.declared.Locator.{Locator}
 use Rattle.locator.specs.Answers.{value_of, suffix_of}
@@ -11,11 +12,6 @@ use Rattle.records.specs.ItemRecords.{unnumbered_record, records_length}
 unfoldable pub piece_record : Option Item → List ℕ
 piece_record (Some it) = unnumbered_record it
 piece_record None = []
-
--- a row after some numbers were put at `k` and the places after it
-unfoldable pub put_at : ℕ → List ℕ → List ℕ → List ℕ
-put_at k [] row = row
-put_at k (v ∷ vs) row = put_at (k + 1) vs (set row k v)
 
 -- a pair that fits a record
 abbrev pub Narrow : Span → Type 0

@@ -12,7 +12,7 @@ use crate::ITEM_WIDTH;
 use item::{GroupPieces, Item, parse_item};
 use locator::{code_of, suffix_of, value_of};
 
-// The record of an item.
+// The record of an item. The check proves that each `as` fits; `try_from` would answer a refusal that cannot come.
 #[tactic(auto, unfolding(crate::specs::ItemRecords::unnumbered_record, crate::specs::ItemRecords::item_record, crate::specs::ItemRecords::marks_of))]
 fn record_of(item: Item) -> [u16; ITEM_WIDTH]
     requires { NarrowItem item }
@@ -51,7 +51,8 @@ fn write_piece(text: &[u8], from: usize, to: usize, row: &mut [u16])
     }
 }
 
-// The records of the items of the group at `p` with its close at `c`, at the front of `items`.
+// The records of the items of the group at `p` with its close at `c`, at the front of `items`. (`n` is counted: `zip` with `chunks_exact_mut` was
+// tried, and the proof did not close, since what stands in the area after such a walk is not known.)
 pub fn write_records(text: &[u8], p: usize, c: usize, items: &mut [u16])
     requires { Writable text.now p c items.old }
     ensures { items.new ≡ written (records_of (group_of text.now p c)) items.old }

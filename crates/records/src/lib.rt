@@ -1,4 +1,5 @@
-// Item and group records as they lie in the lent areas. Any numbers may stand there: what is past the end of an area counts as 0.
+// Item and group records as they lie in the lent areas. Any numbers may stand there: what is past the end of an area counts as 0. An area is flat,
+// and a record is read by its number and a place in it: C lends an area of numbers.
 #![tactic(auto)]
 
 pub mod item_records;
@@ -71,7 +72,9 @@ pub fn put(area: &mut [u16], i: usize, v: u16)
     }
 }
 
-// The number at place `c` of record `k`, in an area of records of `WIDTH` numbers: `ITEM_WIDTH` for items, `GROUP_WIDTH` for groups.
+// The number at place `c` of record `k`, in an area of records of `WIDTH` numbers: `ITEM_WIDTH` for items, `GROUP_WIDTH` for groups. That `k` is
+// below `record_bound` is a clause, here and below, and no narrower type: `u32` was the other choice, and each call would cast the counter of a
+// loop.
 #[tactic(auto, unfolding(crate::specs::Fields::field_at))]
 pub fn field<const WIDTH: usize>(area: &[u16], k: usize, c: usize) -> usize
     requires { (WIDTH < 65536) × (k < record_bound) × (c < 65536) }
@@ -100,7 +103,7 @@ pub fn suppressed_in(items: &[u16], k: usize) -> bool
     field::<ITEM_WIDTH>(items, k, ITEM_MARKS) == 1
 }
 
-// Whether it has no prefix, no locator, and is not suppressed.
+// Whether item record `k` has no prefix and no locator, and is not suppressed.
 #[tactic(auto, unfolding(crate::specs::Records::bare_in))]
 pub fn bare_in(items: &[u16], k: usize) -> bool
     requires { k < record_bound }

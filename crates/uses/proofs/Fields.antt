@@ -1,4 +1,5 @@
--- Item and group records in the lent areas: what stands at a place, and what a write leaves.
+-- Item and group records in the lent areas:
+-- what stands at a place, and what a write leaves.
 use Prim.Native.Nat.{ℕ, suc, ◌+◌, ◌*◌, ◌≤◌, ◌<◌}
 use native.Mathlib.Omega.{arith}
 use mathlib.Core.Path.{◌≡◌, ◌∙◌, ap}

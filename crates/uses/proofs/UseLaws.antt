@@ -1,10 +1,10 @@
 -- Numbers and uses, in the form of the goals:
 -- by the last record with the same key, or by none.
-use Prim.Native.Nat.{ℕ, zero, suc, ◌+◌, ◌%◌, ◌<◌}
+use Prim.Native.Nat.{ℕ, ◌+◌, ◌%◌, ◌<◌}
 use native.Mathlib.Omega.{arith}
-use mathlib.Core.Path.{◌≡◌, refl, sym, ◌∙◌}
+use mathlib.Core.Path.{◌≡◌, refl, ◌∙◌}
 use mathlib.Core.List.{List}
-use mathlib.Core.Bool.{Bool, true, false}
+use mathlib.Core.Bool.{Bool}
 use borrow.Author.Tests.{lt-ltb, le-ltb}
 use Rattle.base.specs.Pick.{pick}
 use Rattle.base.specs.LastPlace.{last}
@@ -13,7 +13,7 @@ use Rattle.uses.specs.Uses.{last_use, number_in, use_in, sources_in}
 use Rattle.uses.specs.Uses.{Counts}
 use Rattle.base.specs.Found.{Found}
 use Rattle.records.proofs.Founds.{found_last}
-use Rattle.std.specs.Prelude.{Option, Some, None}
+use Rattle.std.specs.Prelude.{Option}
 use Rattle.std.specs.Option.{unwrap_or}
 use Rattle.records.specs.Widths.{item_number, item_use}
 

@@ -67,18 +67,14 @@ pub fn last_alike(text: &[u8], items: &[u16], k: usize, number: usize) -> Option
 }
 
 // The use after the use `before`; 0 without a pool.
-fn next_use(pooled: bool, before: usize) -> u16
-    requires { before < 65536 }
+fn next_use(pooled: bool, before: u16) -> u16
     ensures { result ≡ pick pooled ((before + 1) % 65536) 0 }
 {
-    if pooled {
-        ((before + 1) % 65536) as u16
-    } else {
-        0
-    }
+    if pooled { before.wrapping_add(1) } else { 0 }
 }
 
-// The number and the use of item record `k`, with `sources` before it.
+// The number and the use of item record `k`, with `sources` before it. (`%`: `sources` may be more than a record's number holds.) The check proves
+// that each `as` fits; `try_from` would answer a refusal that cannot come.
 pub fn count_in(text: &[u8], items: &[u16], pooled: bool, sources: usize, k: usize) -> Count
     requires { (k < record_bound) × (sources < source_bound) }
     ensures { Counts text.now items.now pooled sources k result }
@@ -86,7 +82,7 @@ pub fn count_in(text: &[u8], items: &[u16], pooled: bool, sources: usize, k: usi
     match last_use(text, items, k) {
         Some(j) => Count {
             number: field::<ITEM_WIDTH>(items, j, ITEM_NUMBER) as u16,
-            use_index: next_use(pooled, field::<ITEM_WIDTH>(items, j, ITEM_USE)),
+            use_index: next_use(pooled, field::<ITEM_WIDTH>(items, j, ITEM_USE) as u16),
             sources,
         },
         None => Count {

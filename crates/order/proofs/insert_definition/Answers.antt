@@ -1,4 +1,5 @@
--- The answers of `order::insert_definition`: the library's search ends at the place of the rank, and the turned part is the insertion.
+-- The answers of `order::insert_definition`:
+-- the library's search ends at the place of the rank, and the turned part is the insertion.
 use Rattle.std.proofs.Common.{◌≡◌, rules, arith, length, ◌≤◌}
 use Rattle.std.proofs.lemmas.List.Sorted.{IsPartitionPoint-from_clause}
 use Rattle.std.proofs.Math.Seq.{length-take-le}

@@ -1,4 +1,5 @@
--- The invariant of `order::order_by_number`: the first `i` places hold their numbers.
+-- The invariant of `order::order_by_number`:
+-- the first `i` places hold their numbers.
 use Rattle.std.proofs.Common.{◌≡◌}
 use Rattle.base.specs.Lists.{written, up_from}
 use Rattle.order.proofs.order_by_number.Given as goal

@@ -1,3 +1,5 @@
+-- The answers of `uses::count_in`:
+-- the key was used before, or it was not.
 use Rattle.uses.proofs.UseLaws.{counts_again, counts_first}
 use Rattle.uses.proofs.count_in.Goals as goal
 

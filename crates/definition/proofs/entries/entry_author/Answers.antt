@@ -1,4 +1,5 @@
--- The answers of `definition::entries::entry_author`: an entry without a name, and one with a first name.
+-- The answers of `definition::entries::entry_author`:
+-- an entry without a name, and one with a first name.
 use Rattle.std.proofs.Common.{sym, ◌∙◌}
 use Rattle.definition.proofs.EntryLaws.{author_none, author_first}
 use Rattle.definition.proofs.entries.entry_author.Goals as goal

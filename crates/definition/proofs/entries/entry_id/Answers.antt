@@ -1,4 +1,5 @@
--- The answers of `definition::entries::entry_id`: the field 1, or no bytes.
+-- The answers of `definition::entries::entry_id`:
+-- the field 1, or no bytes.
 use Rattle.std.proofs.Common.{refl}
 use Rattle.definition.proofs.EntryLaws.{id_read}
 use Rattle.definition.proofs.entries.entry_id.Goals as goal

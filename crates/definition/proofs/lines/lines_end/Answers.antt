@@ -1,4 +1,5 @@
--- The answers of `definition::lines::lines_end`: no group record from there on starts a definition line.
+-- The answers of `definition::lines::lines_end`:
+-- no group record from there on starts a definition line.
 use Rattle.std.proofs.Common.{rules}
 use Rattle.definition.specs.Lines.{defines_in}
 use Rattle.definition.proofs.LineLaws.{below_end}

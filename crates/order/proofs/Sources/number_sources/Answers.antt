@@ -1,4 +1,5 @@
--- The answers of `Sources::number_sources`: one more source's number, and what lies after the front.
+-- The answers of `Sources::number_sources`:
+-- one more source's number, and what lies after the front.
 use Rattle.std.proofs.Common.{arith, length, take}
 use Rattle.order.proofs.Definitions.{back_start, back_more, back_all}
 use Rattle.order.proofs.Sources.number_sources.Goals as goal

@@ -1,4 +1,5 @@
--- The invariant of `Sources::number_sources`: the first places hold the numbers of the sources for those of their definitions.
+-- The invariant of `Sources::number_sources`:
+-- the first places hold the numbers of the sources for those of their definitions.
 use Rattle.std.proofs.Common.{◌≡◌, map, take}
 use Rattle.base.specs.Lists.{written}
 use Rattle.order.specs.ByDefinitions.{source_of}

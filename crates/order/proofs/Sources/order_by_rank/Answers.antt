@@ -1,4 +1,5 @@
--- The answers of `Sources::order_by_rank`: the sources lead back from their definitions.
+-- The answers of `Sources::order_by_rank`:
+-- the sources lead back from their definitions.
 use Rattle.order.proofs.Definitions.{sources_back}
 use Rattle.order.proofs.Sources.order_by_rank.Goals as goal
 

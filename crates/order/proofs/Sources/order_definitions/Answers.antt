@@ -1,4 +1,5 @@
--- The answers of `Sources::order_definitions`: one more definition, into those in order.
+-- The answers of `Sources::order_definitions`:
+-- one more definition, into those in order.
 use Rattle.std.proofs.Common.{arith}
 use Rattle.order.proofs.Definitions.{definitions_start, definitions_sorted, definitions_more}
 use Rattle.order.proofs.Sources.order_definitions.Goals as goal

@@ -1,4 +1,5 @@
--- The invariant of `Sources::order_definitions`: the numbers of the definitions of the first `i` sources are in order at the front of the area.
+-- The invariant of `Sources::order_definitions`:
+-- the numbers of the definitions of the first `i` sources are in order at the front of the area.
 use Rattle.std.proofs.Common.{◌≡◌, [], map}
 use Rattle.base.specs.Lists.{written}
 use Rattle.order.specs.Order.{inserted_from}

@@ -1,4 +1,5 @@
--- The answers of `order::ranks::number_of_key`: the search ends among the records.
+-- The answers of `order::ranks::number_of_key`:
+-- the search ends among the records.
 use Rattle.std.proofs.Common.{rules, arith}
 use Rattle.uses.specs.Uses.{used_at}
 use Rattle.order.proofs.RankLaws.{use_below}

@@ -1,3 +1,5 @@
+-- The answers of `records::item_records::write_piece`:
+-- the places of an item that was parsed fit a record.
 use Rattle.std.proofs.Common.{arith}
 use Rattle.records.proofs.RecordLaws.{item_narrow}
 use Rattle.records.proofs.item_records.write_piece.Goals as goal

@@ -1,4 +1,5 @@
--- The answers of `records::item_records::write_records`: the walk begins with all pieces, a piece is written, and none is left.
+-- The answers of `records::item_records::write_records`:
+-- the walk begins with all pieces, a piece is written, and none is left.
 use Rattle.std.proofs.Common.{ap, ◌∙◌, arith}
 use Rattle.item.specs.Walk.{pieces_left}
 use Rattle.records.proofs.RecordLaws.{writing_start, next_inside, next_room, writing_next, writing_end}

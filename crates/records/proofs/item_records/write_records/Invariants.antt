@@ -1,4 +1,5 @@
--- The records of the pieces that are left, put into `items` from `n` on, give the area as it is to be.
+-- The invariant of `records::item_records::write_records`:
+-- the records of the pieces that are left, put into `items` from `n` on, give the area as it is to be.
 use Rattle.item.specs.Walk.{pieces_left}
 use Rattle.records.proofs.RecordLaws.{Writing}
 use Rattle.records.proofs.item_records.write_records.Given as goal
