@@ -1,6 +1,6 @@
 -- Escapes, and the ends of trimmed stretches,
 -- unrolled at a place.
-use Prim.Native.Nat.{ℕ, zero, suc, ◌+◌, ◌-◌, ◌%◌, ◌≤◌, ◌<◌}
+use Prim.Native.Nat.{ℕ, zero, suc, ◌+◌, ◌-◌, ◌%◌, ◌<◌}
 use native.Mathlib.Omega.{arith}
 use mathlib.Core.Path.{◌≡◌, refl, sym, ◌∙◌, ap}
 use mathlib.Core.List.{List}
@@ -9,8 +9,9 @@ use lib.Dec.{eqb, ltb}
 use borrow.Author.Tests.{eq-eqb, ne_eqb, eqb-true, eqb-false, lt-ltb, le-ltb}
 use Rattle.base.specs.Pick.{pick}
 use Rattle.base.specs.Lists.{byte_at}
+use Rattle.base.specs.First.{first}
 use Rattle.base.specs.Last.{last_end}
-use Rattle.base.proofs.Searches.{first_out, first_stop, first_more}
+use Rattle.base.proofs.Searches.{first_stop}
 use Rattle.base.proofs.Lasts.{last_end_stop, last_end_more}
 use Rattle.text.specs.Escape.{slashes, escaped_at}
 use Rattle.white.specs.White.{is_white}
@@ -47,18 +48,9 @@ escaped_next s i = go (eqb (byte_at s i) 92)
 
 -- trims --------------------------------------------------------------------------------------------------------------------------
 
-module _ (s : List ℕ) (i e : ℕ) {w : ℕ} (p : w ≡ trim_start s i e) where
-  pub start_out : e ≤ i → i ≡ w
-  unfolding trim_start
-  start_out = first_out (λ k. not (is_white s k)) i e p
-
-  pub start_stop : {b : Bool} → i < e → b ≡ is_white s i → b ≡ false → i ≡ w
-  unfolding trim_start
-  start_stop h q f = first_stop (λ k. not (is_white s k)) i e p h (ap not (sym q ∙ f))
-
-  pub start_more : {b : Bool} → i < e → b ≡ is_white s i → b ≡ true → w ≡ trim_start s (i + 1) e
-  unfolding trim_start
-  start_more h q t = first_more (λ k. not (is_white s k)) i e p h (ap not (sym q ∙ t))
+pub start_stop : (s : List ℕ) (i e : ℕ) {w : ℕ} → w ≡ trim_start s i e → {b : Bool} → i < e → b ≡ is_white s i → b ≡ false → i ≡ w
+unfolding trim_start
+start_stop s i e p h q f = first_stop (λ k. not (is_white s k)) i e p h (ap not (sym q ∙ f))
 
 module _ (s : List ℕ) (a i : ℕ) {w : ℕ} (p : w ≡ trim_end s a i) where
   pub end_stop : {b : Bool} → a < i → b ≡ is_white s (i - 1) → b ≡ false → i ≡ w
@@ -70,9 +62,10 @@ module _ (s : List ℕ) (a i : ℕ) {w : ℕ} (p : w ≡ trim_end s a i) where
   end_more h q t = last_end_more (λ k. not (is_white s k)) a i a p h (ap not (sym q ∙ t))
 
 -- a byte is white where a trimmed stretch of this byte alone begins after it
-pub white_one_lem : (s : List ℕ) (i : ℕ) {k : ℕ} → k ≡ trim_start s i (i + 1) → ltb i k ≡ is_white s i
-white_one_lem s i {k} p = go (is_white s i) refl
+pub white_one_lem : (s : List ℕ) (i : ℕ) → ltb i (trim_start s i (i + 1)) ≡ is_white s i
+unfolding trim_start first
+white_one_lem s i = let z : i + 1 - i ≡ 1 = omega arith in rw z (go (is_white s i))
   where
-    go : (t : Bool) → is_white s i ≡ t → ltb i k ≡ t
-    go true q = let r = start_out s (i + 1) (i + 1) (start_more s i (i + 1) p (omega arith) (sym q) refl) (omega arith) in lt-ltb i k (omega arith)
-    go false q = let r = start_stop s i (i + 1) p (omega arith) (sym q) refl in le-ltb i k (omega arith)
+    go : (t : Bool) → ltb i (pick (not t) i (i + 1)) ≡ t
+    go true = lt-ltb i (i + 1) (omega arith)
+    go false = le-ltb i i (omega arith)
