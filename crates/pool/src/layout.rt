@@ -87,7 +87,7 @@ fn is_pair(pool: &[u8], i: usize, at: usize) -> bool
 }
 
 // Whether `count` entries stand end to end, from after their pairs to the pool's end. (No `all`: each entry begins where the one before it
-// ends, and the closure would have to change that place.)
+// ends, and the closure would have to change that place. `count` is read off the pool's front by the caller, which tests it first.)
 #[tactic(auto, using(std::proofs::lemmas::Grind::common_steps), unfolding(crate::specs::Layout::entries_good, crate::specs::Steps::pair_good))]
 fn are_entries(pool: &[u8], count: usize) -> bool
     requires { 2 + 4 * count ≤ length pool.now }
