@@ -14,7 +14,8 @@ use base::mode::Mode;
 use definition::Definitions;
 use ranks::{definition_of, rank_by, source_by};
 
-// The sources with the numbers from 1 to `sources`: where their keys are defined, and the `m` item records that number them.
+// The sources with the numbers from 1 to `sources`: where their keys are defined, and the `m` item records that number them. That there is room
+// for them in `references` is a clause of each method: that area is lent for one call, and nothing holds it.
 #[derive(Clone, Copy)]
 pub struct Sources<'a> {
     pub definitions: Definitions<'a>,
