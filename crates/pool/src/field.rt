@@ -23,7 +23,8 @@ pub fn field_end(bytes: &[u8], at: usize) -> usize
     at + 3 + u16_at(bytes, at + 1)
 }
 
-// The field at the front of some bytes, and the bytes after it.
+// The field at the front of some bytes, and the bytes after it. (By `field_end`: a pattern of the first three bytes would say a second time how
+// a length is read.)
 #[tactic(auto, using(crate::proofs::PartLaws::split_laws))]
 pub fn split_field(bytes: &[u8]) -> Option<(Field, &[u8])>
     ensures { MatchOption result (has_field bytes.now ≡ false) (λ p. Split bytes.now (field_lent p.0) p.1.now) }

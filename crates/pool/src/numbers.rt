@@ -15,7 +15,8 @@ pub fn u16_at(bytes: &[u8], i: usize) -> usize
     usize::from(u16::from_le_bytes([bytes[i], bytes[i + 1]]))
 }
 
-// The number, with its sign, of the eight bytes from `i` on. Those past the end are 0.
+// The number, with its sign, of the eight bytes from `i` on. Those past the end are 0. (The eight are written out: with `array::from_fn` in their
+// place the proof did not close.)
 #[tactic(auto, using(crate::proofs::NumberLaws::sign_eight, crate::proofs::NumberLaws::eight_bytes))]
 pub fn signed_at(bytes: &[u8], i: usize) -> i64
     requires { i ≤ length bytes.now }
