@@ -6,7 +6,7 @@ ghost use Rattle.base.specs.Lists.{byte_at, part};
 
 use crate::search::first_place;
 
-// The byte at the place `at`; 0 past the end.
+// The byte at the place `at`; 0 past the end. (A function for its contract: contracts and laws speak of the definition `byte_at`.)
 pub fn byte_at(s: &[u8], at: usize) -> u8
     ensures { result ≡ byte_at s.now at }
 {

@@ -6,7 +6,7 @@ ghost use Rattle.std.specs.Prelude.{◌≡◌, ◌≤◌, length};
 ghost use Rattle.base.specs.Lists.{written};
 ghost use Rattle.decimal.specs.Decimal.{decimal};
 
-// How many digits `n` has.
+// How many digits `n` has. (`as`: `usize` has no `From<u32>`.)
 #[tactic(auto, using(crate::proofs::Laws::count_laws))]
 pub fn digit_count(n: u64) -> usize
     ensures { result ≡ length (decimal n) }
