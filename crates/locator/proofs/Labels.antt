@@ -6,13 +6,12 @@ use mathlib.Core.Path.{◌≡◌, refl, sym}
 use mathlib.Core.List.{List, [], ◌∷◌}
 use mathlib.Core.Bool.{Bool, true, false, ◌&&◌, true≢false}
 use lib.ListN.{length, get_or}
-use lib.Dec.{leb, ltb}
-use borrow.Author.Tests.{leb-true}
+use lib.Dec.{ltb}
 use Rattle.std.proofs.lemmas.Option.{none-some}
 use Rattle.std.proofs.lemmas.Bool.Decides.{nat_tests}
 use Rattle.base.specs.Ascii.{ascii}
 use Rattle.base.specs.Lists.{byte_at}
-use Rattle.base.proofs.Bools.{and_left, and_right}
+use Rattle.base.proofs.Bools.{and_left}
 use Rattle.locator.specs.declared.Label.{Label}
 use Rattle.std.specs.Prelude.{Some, None}
 use Rattle.locator.specs.declared.Term.TheVariants.{Page}
@@ -20,10 +19,7 @@ use Rattle.locator.specs.Matchers.{Matcher, matchers}
 use Rattle.locator.specs.Locators.{is_digit, lower, fits, may_follow, label, stands, match_in, or_page, label_of}
 use Rattle.locator.proofs.Words.{fits_by}
 
--- a digit is its own small form, and below every letter and sign
-digit_by : (b : ℕ) → is_digit b ≡ true → b ≤ 57
-digit_by b t = leb-true b 57 (and_right (leb 48 b) (leb b 57) t)
-
+-- a digit is its own small form
 digit_lower : (b : ℕ) → is_digit b ≡ true → lower b ≡ b
 unfolding lower
 digit_lower b t = grind (arith, nat_tests)

@@ -38,10 +38,6 @@ module _ (s : List ℕ) (k e : ℕ) (h : k < e) where
       sym (ends_there is_roman x l m) ∙ q ∙ ends_there (λ b. is_letter b) x l g in
       grind (arith, nat_tests, r, u)
 
-  letters_from : k ≤ letters_end s k e
-  unfolding letters_end
-  letters_from = first_from (λ j. not (is_letter (byte_at s j))) (e - k) k
-
   letters_by : letters_end s k e ≤ k + (e - k)
   unfolding letters_end
   letters_by = first_by (λ j. not (is_letter (byte_at s j))) (e - k) k

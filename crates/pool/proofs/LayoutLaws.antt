@@ -14,7 +14,7 @@ use Rattle.pool.specs.Fields.{Field, follows, content_good, fields_good, good_fr
 use Rattle.pool.specs.Layout.{end_of, entries_good}
 use Rattle.pool.specs.Steps.{has_field, Split, good_rest, pair_good}
 use Rattle.pool.proofs.FieldLaws.{fields_end, fill_next, fill_end}
-use Rattle.pool.proofs.PartLaws.{split_shorter, good_next, good_of_part}
+use Rattle.pool.proofs.PartLaws.{split_shorter, good_next}
 
 -- a field that may follow has a tag above 0
 pub follows_some : (last t : ℕ) → follows last t ≡ true → 0 < t
