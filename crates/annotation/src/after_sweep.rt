@@ -36,14 +36,13 @@ impl<'a> Begun<'a> {
     {
         let Begun { mode, pool, swept } = *self;
         let (n, m) = (swept.groups, swept.items);
-        let lines = lines_end(text, groups, items, n);
         let setting = Setting {
             text,
             pool,
             mode,
             n,
             m,
-            lines,
+            lines: lines_end(text, groups, items, n),
         };
         let Some(numbers) = setting.number_groups(items, groups, labels) else {
             return refuse_ten(items, groups, references, labels); // the labels have no room
@@ -52,13 +51,12 @@ impl<'a> Begun<'a> {
         if references.len() < sources {
             return refuse_ten(items, groups, references, labels);
         }
-        let definitions = setting.definitions(groups, items);
-        Sources {
-            definitions,
+        let ordered = Sources {
+            definitions: setting.definitions(groups, items),
             m,
             sources,
-        }
-        .order(mode, references);
+        };
+        ordered.order(mode, references);
         Ok(Counts {
             groups: n,
             items: m,

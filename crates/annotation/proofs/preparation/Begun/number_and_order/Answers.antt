@@ -15,6 +15,6 @@ returns-then-references-sources c =
 
 pub returns : goal.returns
 returns c =
-    let d = c.definitions-definitions.ensures in
+    let d = c.definitions.ensures in
     ordered_room _ _ _ _ _ _ _ _ _ c.in-Some.ensures.holds c.if-references-sources.false
     (rw (d.0, d.1, d.2, d.3, d.4) at c.order.ensures)
