@@ -1,5 +1,5 @@
--- Follows the code; nothing to believe:
--- what a turn of the scan asks of the lent areas.
+-- Follows the code; nothing to believe: what a turn of the scan asks
+-- of the lent areas.
 use Rattle.std.specs.Prelude.{ℕ, ◌-◌, ◌<◌, List, length}
 use Rattle.index.specs.declared.Bracket.{Bracket}
 use Rattle.index.specs.declared.Scan.{Scan}

@@ -1,5 +1,5 @@
--- Follows the code; nothing to believe:
--- what the code holds on the way through the records.
+-- Follows the code; nothing to believe: what the code holds on the way
+-- through the records.
 use Rattle.std.specs.Prelude.{ℕ, ◌+◌, ◌*◌, ◌<◌, ◌≤◌, min, ◌≡◌, List, length, take, drop, leb, Option, is_some, IfSome}
 use Rattle.base.specs.Lists.{written}
 use Rattle.numbering.specs.declared.Numbering.{Numbering}
