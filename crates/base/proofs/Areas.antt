@@ -5,7 +5,7 @@ use native.Mathlib.Omega.{arith}
 use mathlib.Core.Path.{◌≡◌, refl, sym, ◌∙◌}
 use mathlib.Core.List.{List, [], ◌∷◌, ◌++◌, append_assoc, append-nil}
 use lib.ListN.{length, take, drop, set, length-append, length-take, length-drop, drop_of_length-le}
-use lib.Seq.{take_all, take-length, take_at, drop_at, drop-drop, drop-append-add, drop-cons, set_at, length-take-le}
+use lib.Seq.{take_all, take_at, drop_at, drop-drop, drop-append-add, drop-cons, set_at, length-take-le}
 use Rattle.base.specs.Lists.{written}
 
 -- an area that was written is as long as it was
@@ -36,11 +36,6 @@ unfolding written
 written_byte s₀ s out k x e q h =
     let l : length (out ++ (x ∷ [])) ≡ suc (length out) = simp length-append (omega arith) in
     rw (e, drop-cons s₀ (length out) 0 h, set_at out _ (drop (suc (length out)) s₀) x k (sym q), l) (sym (append_assoc out (x ∷ []) (drop (suc (length out)) s₀)))
-
--- what was copied
-pub copied : (b s : List ℕ) {out : List ℕ} → out ≡ take (length b) b ++ drop (length b) s → out ≡ written b s
-unfolding written
-copied b s e = e ∙ rw take-length refl
 
 -- the rest of an area has room for what it and the front have room for together
 pub rest_room : (s : List ℕ) (k n : ℕ) → k + n ≤ length s → n ≤ length (take (length s - k) (drop k s))

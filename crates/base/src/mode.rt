@@ -46,7 +46,7 @@ impl TryFrom<u8> for Mode {
 impl From<Mode> for u8 {
     ghost from_gives = { λ mode number. number ≡ mode_number mode };
 
-    // The number of a mode.
+    // The number of a mode, for callers of what takes any number, as `Mode::clamped` does.
     fn from(mode: Mode) -> u8 {
         mode as u8
     }

@@ -84,7 +84,7 @@ fn find_winner(text: &[u8], a: usize, e: usize) -> Option<usize>
 
 // A good item whose parts are not read yet: its trimmed stretch, from `start` up to `end`, and the place of its `@`.
 #[derive(Clone, Copy)]
-struct Found {
+struct GoodItem {
     start: usize,
     end: usize,
     at: usize,
@@ -92,16 +92,16 @@ struct Found {
 
 // The good item in the stretch from `start` to `end`.
 #[tactic(auto, using(crate::proofs::Laws::item_laws))]
-fn find_item(text: &[u8], start: usize, end: usize) -> Option<Found>
+fn find_item(text: &[u8], start: usize, end: usize) -> Option<GoodItem>
     requires { end ≤ length text.now }
-    ensures { MatchOption result (item_of text.now start end ≡ None) (λ f. (f.at < f.end) × (f.end ≤ length text.now) × (item_of text.now start end ≡ Some (item_at text.now f.start f.end f.at (key_end text.now (f.at + 1))))) }
+    ensures { MatchOption result (item_of text.now start end ≡ None) (λ g. (g.at < g.end) × (g.end ≤ length text.now) × (item_of text.now start end ≡ Some (item_at text.now g.start g.end g.at (key_end text.now (g.at + 1))))) }
 {
     let item = trim(text, start, end);
     if item.end <= item.start {
         return None;
     }
     let at = find_winner(text, item.start, item.end)?;
-    Some(Found {
+    Some(GoodItem {
         start: item.start,
         end: item.end,
         at,
@@ -160,8 +160,8 @@ pub fn parse_item(text: &[u8], start: usize, end: usize) -> Option<Item>
     requires { end ≤ length text.now }
     ensures { result ≡ item_of text.now start end }
 {
-    let found = find_item(text, start, end)?;
-    Some(item_at(text, found.start, found.end, found.at))
+    let good = find_item(text, start, end)?;
+    Some(item_at(text, good.start, good.end, good.at))
 }
 
 // A piece of the text, the places from `from` up to `to`.
