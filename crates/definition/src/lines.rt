@@ -1,5 +1,6 @@
 // Definition lines among the group records: whether one starts at a record, where the last of all starts, and the last of a key.
 // `defines_in` and `lines_end` take the text and the records one by one: what they find is `lines`, without which no `Definitions` is made.
+// That `g` is below `record_bound` is a clause, since `records::field` asks for it: with a `u32` each call would cast the counter of a search.
 ghost use Rattle.std.specs.Prelude.{◌≡◌, ◌<◌};
 ghost use Rattle.base.specs.Found.{Found};
 ghost use Rattle.definition.specs.Lines.{defines_in, LinesBelow};

@@ -158,7 +158,8 @@ pub fn write_author_year(suppressed: bool, number: u16, given: AuthorYear, out: 
     label.fit(out)
 }
 
-// The label of an item by a mode's number, where it fits. Its length.
+// The label of an item by a mode's number, where it fits. Its length. It takes any number, as a caller of it may have one; the library itself
+// calls `write_number` and `write_author_year`.
 #[tactic(auto, unfolding(crate::specs::Labels::label_by))]
 pub fn write_label(
     mode: u8,

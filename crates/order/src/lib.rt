@@ -103,7 +103,7 @@ impl Sources<'_> {
 }
 
 // The numbers of the `sources` sources in reference order by a mode's number, at the front of `references`: each mode but 0 is by author and
-// year.
+// year. It takes any number, as a caller of it may have one; the library itself calls `Sources::order`.
 #[tactic(auto, using(crate::proofs::OrderLaws::mode_laws))]
 pub fn order_references(
     definitions: &Definitions,

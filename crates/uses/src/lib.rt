@@ -24,7 +24,8 @@ pub struct Count {
 }
 
 // Whether item record `j` is numbered, and has the key `key`. That a record's number is below `record_bound` is a clause of each function here,
-// and no narrower type: `u32` was the other choice, and each call would cast the counter of a loop.
+// and no narrower type: `u32` was the other choice, and each call would cast the counter of a loop. `text` and `items` are two
+// parameters: a value made of both would be made anew for each record, since the records are written in between.
 #[tactic(auto, using(base::proofs::Sames::same_pointwise))]
 pub fn is_use(text: &[u8], items: &[u16], j: usize, key: &[u8]) -> bool
     requires { j < record_bound }
