@@ -51,8 +51,9 @@ fn write_piece(text: &[u8], from: usize, to: usize, row: &mut [u16])
     }
 }
 
-// The records of the items of the group at `p` with its close at `c`, at the front of `items`. (`n` is counted: `zip` with `chunks_exact_mut` was
-// tried, and the proof did not close, since what stands in the area after such a walk is not known.)
+// The records of the items of the group at `p` with its close at `c`, at the front of `items`. (`n` is counted: `zip` with
+// `chunks_exact_mut` and `enumerate` were tried, and the proofs did not close: what stands in the area after the one, and that the count of the
+// other stays below 2^64, was not found.)
 pub fn write_records(text: &[u8], p: usize, c: usize, items: &mut [u16])
     requires { Writable text.now p c items.old }
     ensures { items.new ≡ written (records_of (group_of text.now p c)) items.old }
