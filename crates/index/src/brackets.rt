@@ -10,9 +10,9 @@ ghost use Rattle.index.specs.Turn.{Ready};
 use crate::{Bracket, Scan, Scanner};
 
 // A record, as the definition of a turn reads it.
-fn record_at(records: &mut [Bracket], i: usize) -> Bracket
-    requires { i < length records.old }
-    ensures { (result ≡ get_or records.old i blank) × (records.new ≡ records.old) }
+fn record_at(records: &[Bracket], i: usize) -> Bracket
+    requires { i < length records.now }
+    ensures { result ≡ get_or records.now i blank }
 {
     records[i]
 }

@@ -8,12 +8,12 @@ use Rattle.index.proofs.brackets.step.Goals as goal
 
 pub store-requires : goal.store-requires
 store-requires c =
-    rw (ap (λ (p : Plan). p.slot) (turned c.args.text.now c.args.c c.args.records.now c.scan_plan-plan.ensures refl c.record_at-outer.ensures.0 c.saturating_sub.ensures), c.record_at-outer.ensures.1)
+    rw (ap (λ (p : Plan). p.slot) (turned c.args.text.now c.args.c c.args.records.now c.scan_plan-plan.ensures refl c.record_at-outer.ensures c.saturating_sub.ensures))
     c.requires.slot
 
 pub bounds-index-plan : goal.bounds-index-plan
 bounds-index-plan c =
-    rw (ap (λ (p : Plan). p.place) (turned c.args.text.now c.args.c c.args.records.now c.scan_plan-plan.ensures refl c.record_at-outer.ensures.0 c.saturating_sub.ensures))
+    rw (ap (λ (p : Plan). p.place) (turned c.args.text.now c.args.c c.args.records.now c.scan_plan-plan.ensures refl c.record_at-outer.ensures c.saturating_sub.ensures))
     c.requires.place
 
 pub offset_bounds-index-plan : goal.offset_bounds-index-plan
@@ -22,8 +22,8 @@ offset_bounds-index-plan c = let h = bounds-index-plan c in search rules
 pub returns : goal.returns
 unfolding step_index step_records
 returns c =
-    let t = turned c.args.text.now c.args.c c.args.records.now c.scan_plan-plan.ensures c.skip.ensures c.record_at-outer.ensures.0 c.saturating_sub.ensures in (
+    let t = turned c.args.text.now c.args.c c.args.records.now c.scan_plan-plan.ensures c.skip.ensures c.record_at-outer.ensures c.saturating_sub.ensures in (
       ap (λ (p : Plan). p.next) t,
       ap (λ (p : Plan). step_index p c.args.index.now) t,
-      c.store.ensures ∙ rw c.record_at-outer.ensures.1 (ap (λ (p : Plan). step_records p c.args.records.now) t),
+      c.store.ensures ∙ ap (λ (p : Plan). step_records p c.args.records.now) t,
     )
