@@ -20,7 +20,8 @@ pub fn first_place<F: Fn(usize) -> bool>(a: usize, e: usize, test: F) -> usize
     a.max(e)
 }
 
-// The place after the last one from `a` up to `e` at which `test` answers true, or `a`.
+// The place after the last one from `a` up to `e` at which `test` answers true, or `a`. (Beside `last_place`: callers ask where what follows begins,
+// which is a place in any case.)
 pub fn after_last<F: Fn(usize) -> bool>(a: usize, e: usize, test: F) -> usize
     requires { (i : ℕ) → a ≤ i → i < e → F.pre test i }
     ensures { (p : ℕ → Bool) → ((i : ℕ) (r : Bool) → a ≤ i → i < e → F.post test i r → r ≡ p i) → result ≡ last_end p (e - a) a a }

@@ -13,7 +13,8 @@ pub fn byte_at(s: &[u8], at: usize) -> u8
     s.get(at).copied().unwrap_or(0)
 }
 
-// The first place from `a` up to `e` that holds the byte `b`, or the later of `a` and `e`.
+// The first place from `a` up to `e` that holds the byte `b`, or the later of `a` and `e`. (Beside `skip_byte`, which has `!=`: each has the definition
+// that its callers' clauses name.)
 pub fn find_byte(s: &[u8], b: u8, a: usize, e: usize) -> usize
     requires { e ≤ length s.now }
     ensures { result ≡ first_of b s.now a e }
@@ -29,7 +30,8 @@ pub fn skip_byte(s: &[u8], b: u8, a: usize, e: usize) -> usize
     first_place(a, e, |i| s[i] != b)
 }
 
-// The `len` bytes from `at` on, or none where that is no part of `s`.
+// The `len` bytes from `at` on, or none where that is no part of `s`. (By two tests: `get` and `and_then` in their place were tried, and the proof did
+// not close.)
 #[tactic(auto, using(crate::proofs::Parts::part_laws))]
 pub fn part_of<'a>(s: &'a [u8], at: usize, len: usize) -> &'a [u8]
     ensures { result.now ≡ part s.now at (at + len) }

@@ -79,7 +79,7 @@ fn find_winner(text: &[u8], a: usize, e: usize) -> Option<usize>
     ensures { MatchOption result (e ≤ winner text.now a e) (λ i. (i ≡ winner text.now a e) × (i < e)) }
 {
     let i = first_place(a, e, |i| wins_at(text, e, i));
-    if i < e { Some(i) } else { None }
+    (i < e).then_some(i)
 }
 
 // A good item whose parts are not read yet: its trimmed stretch, from `start` up to `end`, and the place of its `@`.
