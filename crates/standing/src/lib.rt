@@ -66,10 +66,9 @@ impl<'a> GroupAt<'a> {
         if self.group.count != 1 {
             return false;
         }
-        match parse_item(self.text, items_start(self.text, self.at), self.group.close) {
-            Some(item) => is_bare(item),
-            None => false,
-        }
+        parse_item(self.text, items_start(self.text, self.at), self.group.close).is_some_and(
+            is_bare,
+        )
     }
 
     // Whether the group starts a definition line.
