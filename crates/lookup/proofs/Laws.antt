@@ -100,16 +100,16 @@ module _ (s : List ℕ) (at : ℕ) (d : Option ℕ) (items : List ℕ) {m : Opti
 
 pub ruleset answer_laws = (answer_none, items_none, answer_few, items_few, answer_found, items_found, matched_writable)
 
--- the second half of a look-up: `p` is what the first half prepared
-module _ (s : List ℕ) (at : ℕ) {p : Result Look Refusal} (index items : List ℕ) where
+-- the second half of a look-up: `p` is what the first half prepared, and `r` the group or the refusal
+module _ (s : List ℕ) (at note : ℕ) {p : Result Look Refusal} (index items : List ℕ) where
   module _ {e : Refusal} (q : p ≡ Err e) where
-    pub finished_refused : (note : ℕ) → ◌≡◌ {A = LookUp} (record { group = Err e; note = note }) (finished_of s at note p index items)
+    pub group_refused : Err e ≡ (finished_of s at note p index items).group
     unfolding finished_of
-    finished_refused note = rw q
+    group_refused = rw q
 
-    pub finished_as_it_was : items ≡ finished_items s at p index items
+    pub refused_items : items ≡ finished_items s at p index items
     unfolding finished_items
-    finished_as_it_was = rw q
+    refused_items = rw q
 
   module _ {l : Look} (q : p ≡ Ok l) where
     pub finish_short : CanFinish s at p → length s ≤ 65535
@@ -122,21 +122,32 @@ module _ (s : List ℕ) (at : ℕ) {p : Result Look Refusal} (index items : List
       pub finish_inside : CanFinish s at p → Inside s at d
       finish_inside h = rw k (after_inside s at index l (rw q at h).2)
 
-      pub finished_answered : (note : ℕ) {r : Result Group Refusal} {b : Bool} {n : ℕ} → r ≡ look_up_group (look_up_answers (judge s at d) items) → b ≡ prepared_wants p
-          → n ≡ note_after b note → ◌≡◌ {A = LookUp} (record { group = r; note = n }) (finished_of s at note p index items)
-      unfolding finished_of look_up_returns prepared_wants
-      finished_answered note r b n = rw (r, n, b, q, k)
+      pub group_answered : {r : Result Group Refusal} → r ≡ look_up_group (look_up_answers (judge s at d) items) → r ≡ (finished_of s at note p index items).group
+      unfolding finished_of look_up_returns
+      group_answered r = rw (r, q, k)
 
-      pub finished_left : (look_up_answers (judge s at d) items).items ≡ finished_items s at p index items
+      pub answered_items : (look_up_answers (judge s at d) items).items ≡ finished_items s at p index items
       unfolding finished_items
-      finished_left = rw (q, k)
+      answered_items = rw (q, k)
 
-pub ruleset finish_laws = (
-  finished_refused,
-  finished_as_it_was,
+pub ruleset group_laws = (
+  group_refused,
+  refused_items,
   finish_short,
   finish_there,
   finish_inside,
-  finished_answered,
-  finished_left,
+  group_answered,
+  answered_items,
 )
+
+-- the answer of a look-up, by its group and by whether a build was asked for
+pub finished_with : (s : List ℕ) (at note : ℕ) (p : Result Look Refusal) (index items : List ℕ) {r : Result Group Refusal} {b : Bool} {n : ℕ}
+    → r ≡ (finished_of s at note p index items).group → b ≡ prepared_wants p → n ≡ note_after b note
+    → ◌≡◌ {A = LookUp} (record { group = r; note = n }) (finished_of s at note p index items)
+unfolding finished_of look_up_returns prepared_wants note_after
+finished_with s at note p index items g w k = rw (g, k, w) (go p)
+  where
+    go : (p : Result Look Refusal)
+        → ◌≡◌ {A = LookUp} (record { group = (finished_of s at note p index items).group; note = note_after (prepared_wants p) note }) (finished_of s at note p index items)
+    go (Ok l) = refl
+    go (Err e) = refl
