@@ -67,11 +67,11 @@ fn attributes_before<'a>(text: &'a [u8], close: usize, end: usize) -> &'a [u8]
     ensures { result.now ≡ attributes_of text.now close end }
 {
     let start = after_spaces(text, close);
-    if text.len() <= start || text[start] != b'{' {
+    if text.get(start) != Some(&b'{') {
         return &[];
     }
     let brace = brace_or_break(text, start, end);
-    if end <= brace || text[brace] != b'}' {
+    if end <= brace || text.get(brace) != Some(&b'}') {
         return &[];
     }
     &text[start + 1..brace]

@@ -1,4 +1,4 @@
-// Reference order: the numbers of the sources, in mode 1 by the bytes of their authors or keys.
+// Reference order: the numbers of the sources, in the mode `AuthorYear` by the bytes of their authors or keys.
 // `Sources` is what they are ordered from, and its method `order` orders them.
 #![tactic(auto)]
 

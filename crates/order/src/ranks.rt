@@ -46,7 +46,8 @@ pub fn definition_of(definitions: &Definitions, m: usize, k: usize) -> u16
     definitions.number_of(definitions.find(key))
 }
 
-// The number of the first of the `m` item records that is numbered and has the key `key`.
+// The number of the first of the `m` item records that is numbered and has the key `key`; that of record `m` where there is none, as in
+// `first_with`.
 #[tactic(auto, using(crate::proofs::RankLaws::use_laws), unfolding(crate::specs::References::number_of_key))]
 fn number_of_key(text: &[u8], items: &[u16], m: usize, key: &[u8]) -> usize
     requires { m < record_bound }

@@ -9,3 +9,7 @@ record_bound = 4294967296
 -- more sources than any text has
 abbrev pub source_bound : ℕ
 source_bound = 1099511627776
+
+-- half of it: more sources than there are before any group
+abbrev pub half_source_bound : ℕ
+half_source_bound = 549755813888

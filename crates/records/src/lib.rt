@@ -14,6 +14,7 @@ ghost use Rattle.records.specs.Bounds.{record_bound};
 pub const ITEM_WIDTH: usize = 16;
 
 // Where the numbers of an item record stand: the offset and the length of each pair, the label code, the marks, the number, the use.
+// All are named, also those that nothing reads by name: the table is the layout.
 pub const ITEM_PREFIX: usize = 0;
 
 pub const ITEM_PREFIX_LENGTH: usize = 1;
@@ -56,7 +57,7 @@ pub const GROUP_COUNT: usize = 3;
 
 pub const GROUP_STANDING: usize = 4;
 
-// The number at place `i` of an area; 0 past its end.
+// The number at place `i` of an area; 0 past its end. A function for its contract: `get_or` is what the clauses of its callers say.
 pub fn number_at(area: &[u16], i: usize) -> usize
     ensures { (result ≡ get_or area.now i 0) × (result < 65536) }
 {
