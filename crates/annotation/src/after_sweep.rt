@@ -1,6 +1,6 @@
 // An annotation after the whole sweep: numbers, uses, labels and references,
 // or 10 where the labels or the references have no room.
-ghost use Rattle.std.specs.Prelude.{◌≡◌, ◌≤◌};
+ghost use Rattle.std.specs.Prelude.{◌≤◌};
 ghost use Rattle.base.specs.Modes.{mode_number};
 ghost use Rattle.numbering.specs.Numbers.{number_all};
 ghost use Rattle.numbering.specs.Progress.{Unnumbered};

@@ -13,7 +13,8 @@ pub struct Counts {
     pub label_bytes: usize,
 }
 
-// The answer of the annotation call; a definition (specs/Values) gives the paper's numbers for each case.
+// The answer of the annotation call; a definition (specs/Values) gives the paper's numbers for each case. `note` is a number:
+// C gives any byte, and one that is not 1 comes back as it was where no index is built.
 #[derive(Clone, Copy)]
 pub struct Annotation {
     pub counts: Result<Counts, Refusal>,

@@ -1,6 +1,5 @@
 // An annotation from the build of the index on: the rest of the sweep,
 // and the answer of the whole call.
-ghost use Rattle.std.specs.Prelude.{◌≡◌};
 ghost use Rattle.annotation.specs.Halves.{CanFinish, Finished};
 
 use crate::answer::{Annotation, refuse_ten};

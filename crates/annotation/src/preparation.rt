@@ -1,6 +1,6 @@
 // An annotation up to the build of the index: what refuses it before the sweep,
 // and the sweep up to a bracket that wants a build.
-ghost use Rattle.std.specs.Prelude.{◌≡◌, MatchResult};
+ghost use Rattle.std.specs.Prelude.{◌≡◌, length, MatchResult};
 ghost use Rattle.base.specs.Modes.{mode_number};
 ghost use Rattle.base.specs.Refusals.{number_of};
 ghost use Rattle.annotation.specs.Refusal.{annotate_refusal};
@@ -23,25 +23,24 @@ pub struct Begun<'a> {
     pub swept: SweepState,
 }
 
-// Refuses an annotation before the sweep, or gives its mode and its pool; `index` and `records` are how many of these are lent. `mode` is a
-// number, since C gives any byte, and `Mode::try_from` refuses what is none.
+// Refuses an annotation before the sweep, or gives its mode and its pool; `records` bracket records are lent. `mode` is a number, since C
+// gives any byte, and `Mode::try_from` refuses what is none.
 #[tactic(auto, using(utf8::proofs::Characters::accepted_after, utf8::proofs::Characters::refused_after), unfolding(crate::specs::Refusal::annotate_refusal))]
 fn check_annotate<'a>(
-    text: &[u8],
+    indexed: Indexed,
     mode: u8,
     pool: &'a [u8],
-    index: usize,
     records: usize,
 ) -> Result<(Mode, Pool<'a>), Refusal>
-    ensures { let number = annotate_refusal text.now mode pool.now index records in
+    ensures { let number = annotate_refusal indexed.entry.text.now mode pool.now (length indexed.entry.index.now) records in
         MatchResult result
         (λ checked. (number ≡ 0) × (mode_number checked.0 ≡ mode) × (checked.1.bytes.now ≡ pool.now))
         (λ refusal. number_of refusal ≡ number) }
 {
-    check_text(text)?;
+    check_text(indexed.text)?;
     let mode = Mode::try_from(mode)?;
     let pool = Pool::try_from(pool)?;
-    if is_too_few(text, index, records) {
+    if is_too_few(indexed.text, indexed.index.len(), records) {
         return Err(Refusal::IndexTooShort);
     }
     Ok((mode, pool))
@@ -60,7 +59,7 @@ pub fn prepare<'a>(
     ensures { PreparedBy indexed.entry.text.now mode pool.now indexed.entry.note indexed.entry.index.now records items.old groups.old
         result items.new groups.new }
 {
-    let (mode, pool) = check_annotate(indexed.text, mode, pool, indexed.index.len(), records)?;
+    let (mode, pool) = check_annotate(indexed, mode, pool, records)?;
     let swept = sweep(indexed, start(), items, groups);
     Ok(Begun { mode, pool, swept })
 }

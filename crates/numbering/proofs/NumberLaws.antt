@@ -1,6 +1,6 @@
 -- The items of a group, and all groups,
 -- in the form of the goals.
-use Prim.Native.Nat.{ℕ, zero, suc, ◌+◌, ◌*◌, ◌≤◌, ◌<◌}
+use Prim.Native.Nat.{ℕ, zero, suc, ◌+◌, ◌-◌, ◌*◌, ◌≤◌, ◌<◌}
 use native.Mathlib.Omega.{arith}
 use mathlib.Core.Path.{◌≡◌, refl, sym, ◌∙◌}
 use mathlib.Core.List.{List}
@@ -45,21 +45,24 @@ module _ (text : List ℕ) (mode : ℕ) (pool : List ℕ) (n : ℕ) where
 
   module _ (first : ℕ) (s : Numbering) (items groups labels : List ℕ) where
     pub cites_start : s.label_bytes ≤ room_of labels
-        → Advances 0 (λ t. cite_from text mode pool n 0 t first) s (Some s) items groups labels items groups labels
+        → Advances (first - first) (λ t. cite_from text mode pool n (first - first) t first) s (Some s) items groups labels items groups labels
     unfolding cite_from
-    cites_start h = kept 0 (λ t. t) s items groups labels h (λ t a b. refl)
+    cites_start h = let z : first - first ≡ 0 = omega arith in rw z (kept 0 (λ t. t) s items groups labels h (λ t a b. refl))
 
-    pub cites_more : {i : ℕ} {r : Numbering} (q : Option Numbering) {i1 l1 i2 l2 : List ℕ}
-        → Advances i (λ t. cite_from text mode pool n i t first) s (Some r) items groups labels i1 groups l1
-        → Advances 1 (λ t. cite_in text mode pool n t (first + i)) r q i1 groups l1 i2 groups l2
-        → Advances (i + 1) (λ t. cite_from text mode pool n (i + 1) t first) s q items groups labels i2 groups l2
-    cites_more {i} q x y = as_step q (then q x y) (omega arith) (λ t. cites_next i t first)
+    pub cites_more : {k : ℕ} {r : Numbering} (q : Option Numbering) {i1 l1 i2 l2 : List ℕ} → first ≤ k
+        → Advances (k - first) (λ t. cite_from text mode pool n (k - first) t first) s (Some r) items groups labels i1 groups l1
+        → Advances 1 (λ t. cite_in text mode pool n t k) r q i1 groups l1 i2 groups l2
+        → Advances (k + 1 - first) (λ t. cite_from text mode pool n (k + 1 - first) t first) s q items groups labels i2 groups l2
+    cites_more {k} q h x y =
+        let e : first + (k - first) ≡ k = omega arith in
+        let z : k + 1 - first ≡ k - first + 1 = omega arith in
+        rw z (as_step q (then q x y) (omega arith) (λ t. rw e at (cites_next (k - first) t first)))
 
-    pub cites_over : {i m : ℕ} {r : Numbering} {i1 l1 i2 l2 : List ℕ} → i < m
-        → Advances i (λ t. cite_from text mode pool n i t first) s (Some r) items groups labels i1 groups l1
-        → Advances 1 (λ t. cite_in text mode pool n t (first + i)) r None i1 groups l1 i2 groups l2
+    pub cites_over : {k m : ℕ} {r : Numbering} {i1 l1 i2 l2 : List ℕ} → first ≤ k → k < first + m
+        → Advances (k - first) (λ t. cite_from text mode pool n (k - first) t first) s (Some r) items groups labels i1 groups l1
+        → Advances 1 (λ t. cite_in text mode pool n t k) r None i1 groups l1 i2 groups l2
         → Advances m (λ t. cite_from text mode pool n m t first) s None items groups labels i2 groups l2
-    cites_over {i} {m} h x y = over_more (cites_more None x y) (λ t. cites_mono (i + 1) m t first (omega arith))
+    cites_over {k} {m} h l x y = over_more (cites_more None h x y) (λ t. cites_mono (k + 1 - first) m t first (omega arith))
 
   -- a group -----------------------------------------------------------------------------------------------------------------------
 

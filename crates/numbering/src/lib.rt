@@ -4,7 +4,7 @@
 
 pub mod numbers;
 
-ghost use Rattle.std.specs.Prelude.{◌≡◌, ◌≤◌, ◌<◌};
+ghost use Rattle.std.specs.Prelude.{◌≤◌, ◌<◌};
 ghost use Rattle.definition.specs.Lines.{LinesBelow};
 ghost use Rattle.records.specs.Bounds.{record_bound};
 ghost use Rattle.numbering.specs.Numbers.{number_all};

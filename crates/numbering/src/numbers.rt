@@ -193,8 +193,8 @@ impl<'a> Setting<'a> {
             self.now.m r items.new groups.now labels.new) }
     {
         let mut so_far = s;
-        for i in 0..count {
-            so_far = self.cite(first + i, so_far, items, groups, labels)?;
+        for k in first..first + count {
+            so_far = self.cite(k, so_far, items, groups, labels)?;
         }
         Some(so_far)
     }

@@ -4,6 +4,7 @@ use borrow.Author.Rules.{rules}
 use Rattle.annotation.proofs.FinishLaws.{finish_laws, groups_short, items_short, numbers_none, numbers_known, finished_room}
 use Rattle.annotation.proofs.completion.finish.Goals as goal
 
+-- without this line the check stops short: `using` on the function does not find what the second sweep asks for
 pub sweep-swept-requires : goal.sweep-swept-requires
 sweep-swept-requires c = search (finish_laws, rules)
 
