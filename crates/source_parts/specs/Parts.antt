@@ -15,3 +15,12 @@ pub record Holds (text before : List ℕ) (t : Text) : Type 0 where
   pub count : t.len ≡ min (length text) 18446744073709551615
   pub size : length t.area.now ≡ length before
   pub area : length text ≤ length before → t.area.now ≡ written text before
+
+-- the text that an area held is `edit` of it now, in the same area
+pub record Edits (edit : List ℕ → List ℕ) (before after : Text) : Type 0 where
+  pub held : (text area : List ℕ) → Holds text area before → Holds (edit text) area after
+  pub same_area : after.area.ghost_name ≡ before.area.ghost_name
+
+-- `bytes` were added to it
+abbrev pub Adds : List ℕ → Text → Text → Type 0
+Adds bytes before after = Edits (λ text. text ++ bytes) before after

@@ -2,14 +2,14 @@
 // together at the front of an area.
 #![tactic(auto)]
 
-ghost use Rattle.std.specs.Prelude.{◌≡◌, ◌++◌, ◌≤◌, List, ℕ, length, min};
+ghost use Rattle.std.specs.Prelude.{◌≡◌, ◌≤◌, length, min};
 ghost use Rattle.base.specs.Lists.{written};
 ghost use Rattle.pool.specs.Views.{name_lent};
 ghost use Rattle.source.specs.Years.{written_year};
 ghost use Rattle.source_parts.specs.Joined.{beside};
 ghost use Rattle.source_parts.specs.Names.{name_of};
 ghost use Rattle.source_parts.specs.Parens.{in_parens};
-ghost use Rattle.source_parts.specs.Parts.{part_text, Holds};
+ghost use Rattle.source_parts.specs.Parts.{part_text, Adds, Edits};
 
 use pool::names::NameParts;
 use source::Year;
@@ -103,16 +103,14 @@ pub struct Text<'a> {
 impl Text<'_> {
     // Adds bytes.
     pub fn push(&mut self, bytes: &[u8])
-        ensures pushed { (text before : List ℕ) → Holds text before self.old → Holds (text ++ bytes.now) before self.new }
-        ensures same_area { self.new.area.ghost_name ≡ self.old.area.ghost_name }
+        ensures { Adds bytes.now self.old self.new }
     {
         self.push_part(Part::plain(bytes));
     }
 
     // Adds a part.
     pub fn push_part(&mut self, part: Part)
-        ensures pushed { (text before : List ℕ) → Holds text before self.old → Holds (text ++ part_text part.entry) before self.new }
-        ensures same_area { self.new.area.ghost_name ≡ self.old.area.ghost_name }
+        ensures { Adds (part_text part.entry) self.old self.new }
     {
         let start = self.len;
         self.len = start.saturating_add(part.len());
@@ -123,9 +121,7 @@ impl Text<'_> {
 
     // Adds a part with `separator` before it; an empty one falls out together with that.
     pub fn join(&mut self, separator: &[u8], part: Part)
-        ensures joined { (text before : List ℕ) → Holds text before self.old
-            → Holds (beside separator.now text (part_text part.entry)) before self.new }
-        ensures same_area { self.new.area.ghost_name ≡ self.old.area.ghost_name }
+        ensures { Edits (λ text. beside separator.now text (part_text part.entry)) self.old self.new }
     {
         if part.len() == 0 {
             return;

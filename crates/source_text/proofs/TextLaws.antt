@@ -15,19 +15,19 @@ use Rattle.base.specs.Fold.{fold}
 use Rattle.base.specs.Lists.{written}
 use Rattle.base.proofs.Areas.{written_none}
 use Rattle.pool.specs.Fields.{Field}
-use Rattle.pool.specs.Entries.{Name, Entry, field_with, names_in, entry_of}
+use Rattle.pool.specs.Entries.{Name, Entry, field_with, entry_of}
 use Rattle.source.specs.Entry.{is_empty, year_of}
 use Rattle.source_parts.specs.declared.Text.{Text}
 use Rattle.source_parts.specs.Joined.{beside}
 use Rattle.source_parts.specs.Names.{name_of}
 use Rattle.source_parts.specs.Parens.{in_parens}
-use Rattle.source_parts.specs.Parts.{Holds}
+use Rattle.source_parts.specs.Parts.{Holds, Edits}
 use Rattle.source_text.specs.Text.{add_name, names_of, head_of, ended, body_of, source_text_of}
 
 -- the year beside the names
 module _ (e : Entry) where
-  pub head_year : {t : List ℕ} {y : Option (List ℕ)} → y ≡ year_of e → t ≡ in_parens y → beside (32 ∷ []) (names_of e) t ≡ head_of e
-  unfolding head_of
+  pub head_year : {t : List ℕ} {y : Option (List ℕ)} → y ≡ year_of e → t ≡ in_parens y → beside (32 ∷ []) (fold add_name [] e.names) t ≡ head_of e
+  unfolding head_of names_of
   head_year y p = rw (p, y) refl
 
   -- and the stop
@@ -51,15 +51,17 @@ module _ (e : Entry) where
 pub nothing_held : (t : Text) → t.len ≡ 0 → Holds [] t.area.now t
 nothing_held t z = record { count = z; size = refl; area = λ h. written_none t.area.now }
 
-pub names_step : (text t : List ℕ) (n : Name) (ns others : List Name) {w : List ℕ} → w ≡ fold add_name text ns → ns ≡ n ∷ others → t ≡ name_of n
-    → w ≡ fold add_name (beside (59 ∷ 32 ∷ []) text t) others
+pub names_step : {ns others : List Name} {n : Name} {t : List ℕ} {a b last : Text} → ns ≡ n ∷ others → t ≡ name_of n
+    → Edits (λ text. beside (59 ∷ 32 ∷ []) text t) a b → Edits (λ text. fold add_name text others) b last → Edits (λ text. fold add_name text ns) a last
 unfolding fold add_name
-names_step text t n ns others g e p = g ∙ rw (e, p) refl
+names_step e p q r = rw e record {
+  held = λ text area h. r.held _ area (rw p at q.held text area h);
+  same_area = r.same_area ∙ q.same_area;
+}
 
-pub names_end : (fs : List Field) (text : List ℕ) (a b : List Name) → fold add_name [] a ≡ fold add_name text b → b ≡ [] → a ≡ names_in fs
-    → text ≡ names_of (entry_of fs)
-unfolding fold names_of entry_of
-names_end fs text a b g e p = sym (g ∙ rw e refl) ∙ rw p refl
+pub names_end : {ns : List Name} (t : Text) → ns ≡ [] → Edits (λ text. fold add_name text ns) t t
+unfolding fold
+names_end t e = rw e record { held = λ text area h. h; same_area = refl }
 
 -- the title beside the head
 pub body_title : (fs : List Field) (o : Answer (Bor (List ℕ))) (d t : Bor (List ℕ)) {x : List ℕ} → d.now ≡ [] → t ≡ unwrap_or o d → lent o ≡ field_with 8 fs

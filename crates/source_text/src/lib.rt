@@ -2,13 +2,14 @@
 // and the call that writes it into an area.
 #![tactic(auto)]
 
-ghost use Rattle.std.specs.Prelude.{◌≡◌, ◌≤◌, [], List, ℕ, length, min};
+ghost use Rattle.std.specs.Prelude.{◌≡◌, ◌≤◌, length, min};
+ghost use Rattle.base.specs.Fold.{fold};
 ghost use Rattle.base.specs.Lists.{written};
 ghost use Rattle.pool.specs.Entries.{entry_of};
 ghost use Rattle.pool.specs.Views.{fields_left};
-ghost use Rattle.source_parts.specs.Parts.{Holds};
+ghost use Rattle.source_parts.specs.Parts.{Edits};
 ghost use Rattle.source_text.specs.Call.{source_text_call};
-ghost use Rattle.source_text.specs.Text.{names_of, source_text_of};
+ghost use Rattle.source_text.specs.Text.{add_name, source_text_of};
 ghost use Rattle.source_text.specs.Values.{source_text_values, source_text_numbers, source_text_answer};
 
 use base::refusal::Refusal;
@@ -16,11 +17,9 @@ use pool::Pool;
 use pool::fields::{Fields, tag};
 use source_parts::{Part, Text};
 
-// Adds the names of an entry, joined, to an empty text.
+// Joins the names of an entry to a text.
 fn add_names(fields: Fields, text: &mut Text)
-    ensures names { (before : List ℕ) → Holds [] before text.old
-        → Holds (names_of (entry_of (fields_left fields.entry))) before text.new }
-    ensures same_area { text.new.area.ghost_name ≡ text.old.area.ghost_name }
+    ensures { Edits (λ so_far. fold add_name so_far (entry_of (fields_left fields.entry)).names) text.old text.new }
 {
     for name in fields.names() {
         text.join(b"; ", Part::name(name));

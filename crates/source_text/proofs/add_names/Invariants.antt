@@ -1,17 +1,13 @@
--- `add_names`: the text is the names so far,
--- in the same area.
-use Rattle.std.proofs.Common.{◌≡◌, List, [], ℕ}
+-- `add_names`: the names are joined,
+-- once those that are left are.
 use Rattle.base.specs.Fold.{fold}
 use Rattle.pool.specs.Views.{names_left}
-use Rattle.source_parts.specs.Parts.{Holds}
+use Rattle.source_parts.specs.declared.Text.{Text}
+use Rattle.source_parts.specs.Parts.{Edits}
 use Rattle.source_text.specs.Text.{add_name}
 use Rattle.source_text.proofs.add_names.Given as goal
 
--- the names so far, after an empty text
 abbrev pub invariant-loop-name : goal.invariant-loop-name
 invariant-loop-name l =
-    ((before : List ℕ) → Holds [] before l.initial.text
-    → (out : List ℕ)
-    × Holds out before l.text
-    × (fold add_name [] (names_left l.initial.name-iterator) ≡ fold add_name out (names_left l.name-iterator)))
-    × (l.text.area.ghost_name ≡ l.initial.text.area.ghost_name)
+    (last : Text) → Edits (λ text. fold add_name text (names_left l.name-iterator)) l.text last
+    → Edits (λ text. fold add_name text (names_left l.initial.name-iterator)) l.initial.text last

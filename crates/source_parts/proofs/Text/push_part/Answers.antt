@@ -5,8 +5,10 @@ use Rattle.source_parts.specs.Parts.{part_text}
 use Rattle.source_parts.proofs.PartLaws.{push_room}
 use Rattle.source_parts.proofs.Text.push_part.Goals as goal
 
-pub returns-then-self-clause-pushed : goal.returns-then-self-clause-pushed
-returns-then-self-clause-pushed c =
-    λ text before h.
-    push_room text before (part_text c.args.part) c.write.new.out c.args.self.now _ h c.len.ensures c.saturating_add-self.ensures (omega arith) (omega arith)
-    c.write.ensures refl
+pub returns-then-self : goal.returns-then-self
+returns-then-self c = record {
+  held = λ text before h.
+      push_room text before (part_text c.args.part) c.write.new.out c.args.self.now _ h c.len.ensures c.saturating_add-self.ensures (omega arith) (omega arith)
+      c.write.ensures refl;
+  same_area = refl;
+}
