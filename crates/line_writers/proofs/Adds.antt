@@ -4,26 +4,20 @@ use Rattle.std.proofs.Common.{ℕ, ◌≡◌, ◌≤◌, refl, sym, ◌∙◌, a
 use mathlib.Core.List.{append-nil}
 use Rattle.decimal.specs.Decimal.{decimal}
 use Rattle.source_parts.specs.declared.Text.{Text}
-use Rattle.source_parts.specs.Parts.{Holds}
+use Rattle.source_parts.specs.Parts.{Holds, Adds}
 use Rattle.source_parts.proofs.PartLaws.{holds_as}
 use Rattle.base.specs.Areas.{Wrote}
 use Rattle.base.specs.Lists.{written}
 use Rattle.base.proofs.Areas.{written_none, written_front}
-use Rattle.line_writers.specs.Writes.{Adds}
 
 -- nothing
 pub adds_none : (t : Text) → Adds [] t t
-adds_none t = record { pushed = λ text area h. holds_as (sym (append-nil text)) h; same_area = refl }
-
--- what a call of `push` ensures
-pub pushed_adds : (bytes : List ℕ) {a b : Text} → ((text area : List ℕ) → Holds text area a → Holds (text ++ bytes) area b)
-    → b.area.ghost_name ≡ a.area.ghost_name → Adds bytes a b
-pushed_adds bytes p s = record { pushed = p; same_area = s }
+adds_none t = record { held = λ text area h. holds_as (sym (append-nil text)) h; same_area = refl }
 
 -- one text after the other
 pub adds_both : {x y whole : List ℕ} {a b c : Text} → whole ≡ x ++ y → Adds x a b → Adds y b c → Adds whole a c
 adds_both {x} {y} e p q = record {
-  pushed = λ text area h. rw e (holds_as (append_assoc text x y) (q.pushed (text ++ x) area (p.pushed text area h)));
+  held = λ text area h. rw e (holds_as (append_assoc text x y) (q.held (text ++ x) area (p.held text area h)));
   same_area = q.same_area ∙ p.same_area;
 }
 
@@ -53,7 +47,7 @@ module _ (bytes area : List ℕ) (a : Text) (z : a.len ≡ 0) (s : a.area.now �
   pub front_wrote : {last : List ℕ} {b : Text} → length bytes ≤ length area → length area ≤ 18446744073709551615
       → (a.area.ghost_name ≡ b.area.ghost_name → last ≡ b.area.now) → Adds bytes a b → Wrote bytes area last b.len
   front_wrote h l e p =
-      let w = p.pushed [] area starts in
+      let w = p.held [] area starts in
       let c = w.count in
       record { count = omega arith; area = e (sym p.same_area) ∙ w.area h }
 

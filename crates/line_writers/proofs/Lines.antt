@@ -18,7 +18,8 @@ use Rattle.base.proofs.Refusals.{number_some}
 use Rattle.annotation.specs.declared.answer.Counts.{Counts}
 use Rattle.line_writers.specs.Lines.{group_part, item_part, item_line, item_lines, lines_of, group_lines, count_line, refused_line, answer_lines}
 use Rattle.source_parts.specs.declared.Text.{Text}
-use Rattle.line_writers.specs.Writes.{Adds, answer_by}
+use Rattle.source_parts.specs.Parts.{Adds}
+use Rattle.line_writers.specs.Writes.{answer_by}
 use Rattle.base.specs.Areas.{Wrote}
 use Rattle.line_writers.proofs.Adds.{adds_both, adds_as, Along, along_start, along_next, along_end, front_wrote}
 use Rattle.records.specs.Widths.{item_code, item_number, group_place, group_length, group_standing, group_first, group_count, item_width, group_width}

@@ -1,18 +1,11 @@
--- Follows the code; nothing to believe: what the writers of the lines add to a text in an area,
--- and an answer by what it returned.
-use Rattle.std.specs.Prelude.{ℕ, ◌≡◌, List, [], ◌++◌, Result, Ok, Err}
-use Rattle.source_parts.specs.Parts.{Holds}
-use Rattle.source_parts.specs.declared.Text.{Text}
+-- Follows the code; nothing to believe: an answer by what it returned
+-- and by its records.
+use Rattle.std.specs.Prelude.{ℕ, List, [], Result, Ok, Err}
 use Rattle.annotation.specs.Call.{Annotated}
 use Rattle.annotation.specs.Content.{areas}
 use Rattle.annotation.specs.declared.answer.Counts.{Counts}
 use Rattle.base.specs.declared.refusal.Refusal.{Refusal}
 use Rattle.base.specs.Refusals.{number_of}
-
--- `bytes` were added to the text that an area held, in the same area
-pub record Adds (bytes : List ℕ) (before after : Text) : Type 0 where
-  pub pushed : (text area : List ℕ) → Holds text area before → Holds (text ++ bytes) area after
-  pub same_area : after.area.ghost_name ≡ before.area.ghost_name
 
 -- an answer by what it returned and by the records in the areas; the listing asks for no more of it
 abbrev pub answer_by : Result Counts Refusal → List ℕ → List ℕ → Annotated

@@ -7,9 +7,10 @@ ghost use Rattle.decimal.specs.Decimal.{decimal};
 ghost use Rattle.base.specs.Areas.{Wrote};
 ghost use Rattle.base.specs.Refusals.{number_of};
 ghost use Rattle.line_writers.specs.Lines.{group_part, item_part, item_line, lines_of, group_lines, count_line, refused_line, answer_lines};
-ghost use Rattle.line_writers.specs.Writes.{Adds, answer_by};
+ghost use Rattle.line_writers.specs.Writes.{answer_by};
 ghost use Rattle.records.specs.Widths.{group_width, item_width};
 ghost use Rattle.records.specs.Bounds.{record_bound};
+ghost use Rattle.source_parts.specs.Parts.{Adds};
 
 use annotation::answer::Counts;
 use base::refusal::Refusal;
@@ -32,6 +33,7 @@ pub struct Answer<'a> {
 fn put_number(out: &mut Text<'_>, n: usize, end: u8)
     ensures { Adds (decimal n ++ (end ∷ [])) out.old out.new }
 {
+    // 20 digits, which no `u64` exceeds. (`as` widens: `u64` has no `From<usize>`.)
     let mut digits = [0u8; 20];
     decimal::write_decimal(&mut digits, n as u64);
     out.push(&digits[..decimal::digit_count(n as u64)]);
@@ -118,7 +120,7 @@ fn put_counts(out: &mut Text<'_>, c: Counts)
     put_count(out, b"sources ", c.sources, b'\n');
 }
 
-// The line of a refusal by its number, at the front of `area`. How many bytes.
+// The line of a refusal by its number, at the front of `area`. How many bytes. (A number and no `Refusal`: it writes any number, as before.)
 pub fn put_refused(number: usize, area: &mut [u8]) -> usize
     requires { length (refused_line number) ≤ length area.old }
     ensures { Wrote (refused_line number) area.old area.new result }
