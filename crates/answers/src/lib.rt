@@ -1,8 +1,6 @@
 // The answer areas of the C names: the numbers of an answer as `u32`s at the front of a lent area, the rest of which stays as it was.
-// `has_room` says whether an area can hold them; the writers ask for that, and that each number fits.
+// `has_room` says whether an area can hold them; the writers ask for that, and that each number fits: so casts are by `as`, and no `try_from`.
 #![tactic(auto)]
-
-// The casts are by `as`, since the check proves that each number fits: `try_from` would answer a refusal that cannot come.
 
 ghost use Rattle.std.specs.Prelude.{[], ◌∷◌, ◌++◌, ◌≡◌, ◌≤◌, ◌-◌, leb, length, replicate};
 ghost use Rattle.annotation.specs.Values.{annotation_values};

@@ -12,13 +12,10 @@ use answers::{
 };
 use index::Bracket;
 
-// A slice is a pointer and a length in elements. `mode` and `note` are numbers and no enums: C gives any byte, `Mode::try_from` refuses what is no
-// mode, and each note but 1 says that the index is not built.
-
-// The test for room, which all five calls begin with, stays in each of them: a function that takes the call as a closure would be no plainer,
-// since its contract would have to say of every closure what it leaves in up to seven areas.
-
-// calls::look_up; answer: number, close, item count, note.
+// calls::look_up; answer: number, close, item count, note. A slice is a pointer and a length in elements. `mode` and `note` are numbers and no
+// enums in each call: C gives any byte, `Mode::try_from` refuses what is no mode, and each note but 1 says that the index is not built. The test for
+// room stays in each of the five calls: a function that takes the call as a closure would be no plainer, since its contract would have to say of
+// every closure what it leaves in up to seven areas.
 #[tactic(auto, using(crate::proofs::Laws::room, crate::proofs::Laws::look_up_fit), unfolding(crate::specs::Areas::after_look_up, crate::specs::Areas::look_up_done))]
 pub fn citations_look_up(
     text: &[u8],

@@ -8,11 +8,9 @@ ghost use Rattle.exports.specs.Areas.{look_up_areas, after_look_up, annotate_are
 
 use index::Bracket;
 
-// A slice is a pointer and a length in elements. `answer` gets the number (0 accepted), then the values in the paper's order; a call with a shorter
-// one does nothing. `mode` and `note` are numbers and no enums: C gives any byte, `Mode::try_from` refuses what is no mode, and each note but 1
-// says that the index is not built.
-
-// exports::citations_look_up; answer: number, close, item count, note.
+// exports::citations_look_up; answer: number, close, item count, note. A slice is a pointer and a length in elements. `answer` gets the number
+// (0 accepted), then the values in the paper's order; each call with a shorter one does nothing. `mode` and `note` are numbers and no enums: C gives
+// any byte, `Mode::try_from` refuses what is no mode, and each note but 1 says that the index is not built.
 #[unsafe(no_mangle)]
 pub extern "C" fn citations_look_up(
     text: &[u8],

@@ -6,7 +6,7 @@ use std::io;
 use std::io::Write;
 
 fn main(rt: HostRuntime) -> io::Result<()> {
-    // one byte more than the longest text, which tells a text that is too long
+    // arrays, so that the program needs no heap; one byte more than the longest text, which tells a text that is too long
     let mut text = [0u8; 4097];
     let n = reading::read_full(&mut rt.stdin(), &mut text)?;
     let mut out = [0u8; listing_lines::ROOM];

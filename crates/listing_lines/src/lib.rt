@@ -52,6 +52,7 @@ pub fn list(text: &[u8], out: &mut [u8; ROOM]) -> usize
     if LONGEST < n {
         return line_writers::put_refusal(Refusal::TextTooLong, out);
     }
+    // arrays and no `Vec`: `list` promises its lines for every text, and a `Vec` may have no memory
     let mut index = [0u16; LONGEST];
     let mut items = [0u16; records::ITEM_WIDTH * LONGEST];
     let mut groups = [0u16; records::GROUP_WIDTH * LONGEST];

@@ -21,9 +21,7 @@ const BLANK: Bracket = Bracket {
     bad: 0,
 };
 
-// `mode` and `note` are numbers and no enums, as in `calls`: C gives any byte, and `Mode::try_from` refuses what is no mode.
-
-// `calls::look_up`.
+// `calls::look_up`. (`note`, and `mode` below, are numbers and no enums, as in `calls`: C gives any byte, and `Mode::try_from` refuses what is no mode.)
 pub fn look_up(text: &[u8], at: usize, note: u8, index: &mut [u16], items: &mut [u16]) -> LookUp
     ensures { let records = replicate 65535 blank in
         let ran = look_up_run text.now at note index.old records items.old in

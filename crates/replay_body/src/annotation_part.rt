@@ -2,6 +2,7 @@
 // Whether the areas of an answer hold what is stored.
 use crate::areas::{Areas, BLANK, UNUSED, holds_bytes, holds_numbers};
 use crate::body::Body;
+use base::refusal::Refusal;
 
 // What a body holds from an annotation on.
 #[derive(Clone, Copy)]
@@ -69,9 +70,9 @@ impl<'a> StoredAnnotation<'a> {
         StoredAnnotation(self.pool_on().after(self.0.number(2)))
     }
 
-    // What an area holds behind the answer: zeros after refusal 10, else what it held.
+    // What an area holds behind the answer: zeros where there was no room, else what it held.
     fn behind<T: Copy + Default>(self, unused: T) -> T {
-        if self.0.number(4) == 10 {
+        if self.0.number(4) == usize::from(u8::from(Refusal::NoRoom)) {
             T::default()
         } else {
             unused

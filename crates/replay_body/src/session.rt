@@ -4,6 +4,7 @@ ghost use Rattle.std.specs.Prelude.{◌≤◌};
 
 use crate::areas::{Areas, is_all};
 use crate::body::Body;
+use resolve::BUILT;
 
 // The body of a record of calls.
 #[derive(Clone, Copy)]
@@ -52,11 +53,11 @@ impl<'a> Session<'a> {
         self.0.after(10 + self.index_length())
     }
 
-    // Makes note and index area what the first call is lent: the stored index where the note is 1, and what is left over.
+    // Makes note and index area what the first call is lent: the stored index where the note says that it is built, and what is left over.
     pub fn start(self, areas: &mut Areas) {
         areas.note = self.first_note();
         areas.index.fill(self.left_over());
-        if areas.note != 1 {
+        if areas.note != BUILT {
             return;
         }
         let n = self.text().len().min(areas.index.len());
@@ -79,15 +80,15 @@ impl<'a> Session<'a> {
             .eq(self.entries().chunks_exact(4).map(entry_of))
     }
 
-    // Whether the index area is as it should be after the calls: built with the note 1, as it was with another.
+    // Whether the index area is as it should be after the calls: built where the note says so, else as it was.
     pub fn has_index(self, areas: &Areas) -> bool {
-        let n = if areas.note == 1 {
+        let n = if areas.note == BUILT {
             self.text().len()
         } else {
             0
         };
         areas.index.split_at_checked(n).is_some_and(|(built, rest)| {
-            (areas.note != 1 || self.has_entries(built)) && is_all(rest, self.left_over())
+            (areas.note != BUILT || self.has_entries(built)) && is_all(rest, self.left_over())
         })
     }
 }
