@@ -45,11 +45,7 @@ impl<'a> Indexed<'a> {
         ensures { result ≡ stored_close self.entry.text.now p self.entry.index.now }
     {
         let c = usize::from(self.index.get(p).copied().unwrap_or(0));
-        if p < c && c < self.text.len() && self.text[c] == b']' {
-            Some(c)
-        } else {
-            None
-        }
+        (p < c && c < self.text.len() && self.text[c] == b']').then_some(c)
     }
 
     // What the bracket at `p` gives before any build: what the index says, once it is built, and else what the look at 64 bytes says. Where
