@@ -24,6 +24,8 @@ pub fn finish<'a>(
     ensures { Finished indexed.entry.text.now indexed.entry.note prepared.entry indexed.entry.index.now items.old groups.old references.old
         labels.old result items.new groups.new references.new labels.new }
 {
+    // A `match` and no `?`: the note is an answer beside the `Result`, also where that is a refusal. An inner function for `?` would have these
+    // six parameters and both clauses again.
     let begun = match prepared {
         Ok(begun) => begun,
         Err(refusal) => return Annotation {

@@ -1,12 +1,10 @@
 -- The answers of `annotation::completion::finish`: what `number_and_order` requires follows from what the first half left, from the second sweep
 -- and from what they say of the call as run.
-use borrow.Author.Rules.{rules}
-use Rattle.annotation.proofs.FinishLaws.{finish_laws, groups_short, items_short, numbers_none, numbers_known, finished_room}
+use Rattle.annotation.proofs.FinishLaws.{goes_short, goes_counted, groups_short, items_short, numbers_none, numbers_known, finished_room}
 use Rattle.annotation.proofs.completion.finish.Goals as goal
 
--- without this line the check stops short: `using` on the function does not find what the second sweep asks for
 pub sweep-swept-requires : goal.sweep-swept-requires
-sweep-swept-requires c = search (finish_laws, rules)
+sweep-swept-requires c = (goes_short c.requires c.in-Ok.is, goes_counted c.requires c.in-Ok.is)
 
 pub number_and_order-counts-requires : goal.number_and_order-counts-requires
 number_and_order-counts-requires c =
