@@ -164,7 +164,7 @@ pub fn parse_item(text: &[u8], start: usize, end: usize) -> Option<Item>
     Some(item_at(text, good.start, good.end, good.at))
 }
 
-// A piece of the text, the places from `from` up to `to`.
+// A piece of the text, the places from `from` up to `to`. (No `Range<usize>`: that is an iterator of its own, and no `Copy`.)
 #[derive(Clone, Copy)]
 pub struct Piece {
     pub from: usize,

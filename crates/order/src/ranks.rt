@@ -1,5 +1,5 @@
 // The bytes that sources are ordered by, and sources by the numbers of their definitions. `m` is below `record_bound` by a clause of each function
-// here, and by no type: those that are public take the number alone, as they did. The check proves that each `as` fits; `try_from` would answer
+// here, and by no type: those that are public take the number alone, and no struct that holds it. The check proves that each `as` fits; `try_from` would answer
 // a refusal that cannot come.
 ghost use Rattle.std.specs.Prelude.{◌≡◌, ◌<◌, ◌≤◌};
 ghost use Rattle.order.specs.References.{first_with, number_of_key};
