@@ -114,8 +114,8 @@ module _ (text : List ℕ) (at close count : ℕ) (s : SweepState) (items groups
     (l : inside ≡ in_line text s.inside s.from (group_of text at close))
     (q : b ≡ (s.fits && records_fit (s.items + count) (s.groups + 1) (length items) (length groups))) where
   -- the state after it
-  after_counted : (t : Bool) → b ≡ t → Counted text (after_group s close count inside t) (length items) (length groups)
-  after_counted t e =
+  after_counted : Counted text (after_group s close count inside b) (length items) (length groups)
+  after_counted =
       let z = count_by text at close count s (length items) (length groups) h in
       let i = h.counted.items_by in
       let g = h.counted.groups_by in
@@ -123,7 +123,7 @@ module _ (text : List ℕ) (at close count : ℕ) (s : SweepState) (items groups
         at_by = omega (arith, h.stands.inside);
         items_by = omega (arith, h.stands.after, h.later);
         groups_by = omega (arith, h.stands.after, h.later);
-        room = λ f. and_right s.fits _ (sym q ∙ e ∙ f);
+        room = λ f. and_right s.fits _ (sym q ∙ f);
       }
 
   counts_items : s.items + count ≡ s.items + item_count (group_of text at close ∷ [])
@@ -146,9 +146,9 @@ module _ (text : List ℕ) (at close count : ℕ) (s : SweepState) (items groups
   unfolding records_length group_of
   records_count = records_length_lem (group_of text at close)
 
-  pub recorded_not : {r : SweepState} → b ≡ false → r ≡ after_group s close count inside false
-      → RecordedOne text at close s items groups r items groups
-  recorded_not {r} f e = rw e
+  pub recorded_not : {r : SweepState} {items' groups' : List ℕ} → b ≡ false → items' ≡ items → groups' ≡ groups → r ≡ after_group s close count inside b
+      → RecordedOne text at close s items groups r items' groups'
+  recorded_not {r} {items'} {groups'} f i g e = rw e
       record {
         next = refl;
         no_build = refl;
@@ -157,19 +157,19 @@ module _ (text : List ℕ) (at close count : ℕ) (s : SweepState) (items groups
           items_counted = counts_items;
           line = after_line;
           end = after_end;
-          fitted = sym f ∙ q;
-          item_area = refl;
-          group_area = refl;
-          items_recorded = λ z. absurd (true≢false (sym z));
-          groups_recorded = λ z. absurd (true≢false (sym z));
+          fitted = q;
+          item_area = ap length i;
+          group_area = ap length g;
+          items_recorded = λ z. absurd (true≢false (sym z ∙ f));
+          groups_recorded = λ z. absurd (true≢false (sym z ∙ f));
         };
-        counted = after_counted false f;
+        counted = after_counted;
       }
 
   pub recorded_fits : {r : SweepState} {standing : ℕ} {items' groups' : List ℕ} → b ≡ true → standing ≡ pick inside 0 1
       → items' ≡ written_at (item_width * s.items) (records_of (group_of text at close)) items
       → groups' ≡ written_at (group_width * s.groups) (at ∷ (close + 1 - at) ∷ s.items ∷ count ∷ standing ∷ []) groups
-      → r ≡ after_group s close count inside true
+      → r ≡ after_group s close count inside b
       → RecordedOne text at close s items groups r items' groups'
   recorded_fits {r} {standing} {items'} {groups'} t d i g e =
       let n = items_room text at close count s (length items) (length groups) h q t in
@@ -184,11 +184,11 @@ module _ (text : List ℕ) (at close count : ℕ) (s : SweepState) (items groups
           items_counted = counts_items;
           line = after_line;
           end = after_end;
-          fitted = sym t ∙ q;
+          fitted = q;
           item_area = ap length i ∙ written_length (item_width * s.items) items (records_of (group_of text at close)) (omega arith);
           group_area = ap length g ∙ written_length (group_width * s.groups) groups (at ∷ (close + 1 - at) ∷ s.items ∷ count ∷ standing ∷ []) k;
           items_recorded = λ z. i ∙ rw items_alone refl;
           groups_recorded = λ z. g ∙ rw (record_alone text s.items at close count s.inside s.from h.stands.counts, d, l) refl;
         };
-        counted = after_counted true t;
+        counted = after_counted;
       }

@@ -14,8 +14,9 @@ use resolve::Group;
 use standing::{GroupAt, Standing, standing_of};
 
 // Where a sweep stands: its place, the counts of the groups and items so far, whether the last group stands in a definition line and
-// where it ended, whether all records so far fitted, and whether the bracket at its place wants a build. `fits` and `wants` stay flags: each
-// pair of values occurs, and a sweep that no longer fits goes on, to count and to ask for its build.
+// where it ended, whether all records so far fitted, and whether the bracket at its place wants a build. `inside` and `from` stay two: the
+// sweep promises where the last group ended whether or not that stands in a definition line. `fits` and `wants` stay flags: each pair of
+// values occurs, and a sweep that no longer fits goes on, to count and to ask for its build.
 #[derive(Clone, Copy)]
 pub struct SweepState {
     pub at: usize,
@@ -102,7 +103,8 @@ pub fn record_group(
     let Group { close, count } = group;
     let place = GroupAt { text, at, group };
     let inside = place.is_in_line(s.inside, s.from);
-    if has_room(s, count, items.len(), groups.len()) {
+    let fits = has_room(s, count, items.len(), groups.len());
+    if fits {
         write_items(text, at, close, s.items, items);
         write_group(
             groups,
@@ -113,7 +115,6 @@ pub fn record_group(
             count,
             standing_of(inside),
         );
-        return after_group(s, close, count, inside, true);
     }
-    after_group(s, close, count, inside, false)
+    after_group(s, close, count, inside, fits)
 }

@@ -1,12 +1,14 @@
--- The answers of `sweep::group_records::record_group`:
--- the two states after the group.
+-- The answer of `sweep::group_records::record_group`:
+-- the state after the group, by whether its records fitted.
+use mathlib.Core.Path.{◌∙◌}
 use Rattle.sweep.proofs.Recording.{recorded_fits, recorded_not}
+use Rattle.sweep.proofs.group_records.record_group.Goals.{then-fits, else-fits}
 use Rattle.sweep.proofs.group_records.record_group.Goals as goal
 
-pub returns-then-has_room : goal.returns-then-has_room
-returns-then-has_room c =
-    recorded_fits _ _ _ _ _ _ _ c.requires c.is_in_line-inside.ensures c.has_room.ensures c.if-has_room.true c.standing_of.ensures
-    c.write_items.ensures c.write_group.ensures c.after_group.ensures
-
 pub returns : goal.returns
-returns c = recorded_not _ _ _ _ _ _ _ c.requires c.is_in_line-inside.ensures c.has_room.ensures c.if-has_room.false c.after_group-2.ensures
+returns c = elim c.if-fits.branch [
+  | then-fits w ↦ recorded_fits _ _ _ _ _ _ _ c.requires c.is_in_line-inside.ensures c.has_room-fits.ensures w.if-fits.true
+      w.standing_of.ensures (w.items-is ∙ w.write_items.ensures) (w.groups-is ∙ w.write_group.ensures) c.after_group.ensures
+  | else-fits w ↦ recorded_not _ _ _ _ _ _ _ c.requires c.is_in_line-inside.ensures c.has_room-fits.ensures w.if-fits.false
+      w.items-is w.groups-is c.after_group.ensures
+]
