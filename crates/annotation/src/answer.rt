@@ -14,7 +14,8 @@ pub struct Counts {
 }
 
 // The answer of the annotation call; a definition (specs/Values) gives the paper's numbers for each case. `note` is a number:
-// C gives any byte, and one that is not 1 comes back as it was where no index is built.
+// C gives any byte, and one that is not 1 comes back as it was where no index is built. (No generic type for this and a look-up's answer: each has
+// its own definition of its numbers, and callers read `counts` and `group` by these names.)
 #[derive(Clone, Copy)]
 pub struct Annotation {
     pub counts: Result<Counts, Refusal>,

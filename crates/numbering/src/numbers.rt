@@ -8,7 +8,7 @@ ghost use Rattle.label.specs.Areas.{fitted, fitted_at};
 ghost use Rattle.definition.specs.Lines.{LinesBelow};
 ghost use Rattle.numbering.specs.Numbers.{key_defined, keys_defined, record_label, cite_in, cite_from, number_group};
 ghost use Rattle.numbering.specs.Progress.{room_of, Advances, Alike, Labelled};
-ghost use Rattle.records.specs.Bounds.{record_bound, source_bound};
+ghost use Rattle.records.specs.Bounds.{record_bound, half_source_bound, source_bound};
 
 use crate::{Numbering, Setting};
 use base::mode::Mode;
@@ -62,8 +62,8 @@ fn label_in(definitions: &Definitions, mode: Mode, k: usize, number: u16, out: &
     }
 }
 
-// An item record before `k` that has the label of record `k` with the number `number`, if one is known and looked for. None is in the mode
-// `Number`, whose labels are written as fast as they are copied, nor for the first use of a source.
+// An item record before `k` that has the label of record `k` with the number `number`, if one is known and looked for. In the mode `Number`,
+// whose labels are written as fast as they are copied, and for the first use of a source none is looked for.
 #[tactic(auto, using(crate::proofs::LabelLaws::before_laws))]
 fn labelled_before(
     text: &[u8],
@@ -183,7 +183,7 @@ impl<'a> Setting<'a> {
         groups: &[u16],
         labels: &mut [u8],
     ) -> Option<Numbering>
-        requires { (first < 65536) × (count < 65536) × (s.sources < 549755813888) × (s.label_bytes ≤ room_of labels.old)
+        requires { (first < 65536) × (count < 65536) × (s.sources < half_source_bound) × (s.label_bytes ≤ room_of labels.old)
             × LinesBelow self.now.text.now groups.now items.old self.now.n self.now.lines
             × Labelled self.now.text.now (mode_number self.now.mode) self.now.pool.bytes.now self.now.n self.now.m s items.old groups.now labels.old }
         ensures advances { Advances count (λ t. cite_from self.now.text.now (mode_number self.now.mode) self.now.pool.bytes.now self.now.n count t first)
@@ -209,7 +209,7 @@ impl<'a> Setting<'a> {
         groups: &mut [u16],
         labels: &mut [u8],
     ) -> Option<Numbering>
-        requires { (g < record_bound) × (s.sources < 549755813888) × (s.label_bytes ≤ room_of labels.old)
+        requires { (g < record_bound) × (s.sources < half_source_bound) × (s.label_bytes ≤ room_of labels.old)
             × LinesBelow self.now.text.now groups.old items.old self.now.n self.now.lines
             × Labelled self.now.text.now (mode_number self.now.mode) self.now.pool.bytes.now self.now.n self.now.m s items.old groups.old labels.old }
         ensures advances { Advances 65535 (λ t. number_group self.now.text.now (mode_number self.now.mode) self.now.pool.bytes.now self.now.n t g)
@@ -252,7 +252,7 @@ pub fn number_group<'a>(
     groups: &mut [u16],
     labels: &mut [u8],
 ) -> Option<Numbering>
-    requires { (n < record_bound) × (g < record_bound) × (s.sources < 549755813888) × (s.label_bytes ≤ room_of labels.old)
+    requires { (n < record_bound) × (g < record_bound) × (s.sources < half_source_bound) × (s.label_bytes ≤ room_of labels.old)
         × LinesBelow text.now groups.old items.old n lines
         × Labelled text.now mode pool.bytes.now n m s items.old groups.old labels.old }
     ensures advances { Advances 65535 (λ t. number_group text.now mode pool.entry.bytes.now n t g)
