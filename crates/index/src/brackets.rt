@@ -36,7 +36,7 @@ fn step(text: &[u8], c: Scan, index: &mut [u16], records: &mut [Bracket]) -> Sca
     let outer = record_at(records, c.depth.saturating_sub(1));
     let scanner = Scanner { text };
     let plan = scanner.scan_plan(c, outer);
-    // both stores stand before `skip`: by `decide`, after it, a text of `[` alone takes 329 µs, and so 238
+    // both stores stand before `skip`: 65,530 bytes `[` take 238 µs so, and 329 by `decide`, after which both would stand
     store(records, plan.slot, plan.top);
     index[plan.place] = plan.mark;
     scanner.skip(plan.next)
