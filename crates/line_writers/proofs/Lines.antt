@@ -67,13 +67,14 @@ line_adds text group item p q = adds_both refl p q
 -- the lines of a group ---------------------------------------------------------------------------------------------------------------
 
 -- the line of item `i`, before the `n - 1` lines after it
-lines_more : (n : ℕ) (text group items : List ℕ) (i j : ℕ) → 0 < n → j ≡ i + 1
-    → item_lines n text group (drop (item_width * i) items) ≡ item_line text group (drop (item_width * i) items) ++ item_lines (n - 1) text group (drop (item_width * j) items)
+lines_more : (n : ℕ) (text group items : List ℕ) (i : ℕ) → 0 < n
+    → item_lines n text group (drop (item_width * i) items)
+    ≡ item_line text group (drop (item_width * i) items) ++ item_lines (n - 1) text group (drop (item_width * (i + 1)) items)
 unfolding item_lines
-lines_more zero text group items i j h e = absurd (omega arith)
-lines_more (suc n) text group items i j h e =
+lines_more zero text group items i h = absurd (omega arith)
+lines_more (suc n) text group items i h =
     let p : suc n - 1 ≡ n = omega arith in
-    let q : item_width * i + item_width ≡ item_width * j = omega arith in
+    let q : item_width * i + item_width ≡ item_width * (i + 1) = omega arith in
     rw (p, drop-drop item_width (item_width * i) items, q) refl
 
 module _ (text groups items : List ℕ) (g first count : ℕ) where
@@ -81,31 +82,30 @@ module _ (text groups items : List ℕ) (g first count : ℕ) where
   whole = lines_of text (drop (group_width * g) groups) items
 
   abbrev left : ℕ → List ℕ
-  left j = item_lines (count - j) text (drop (group_width * g) groups) (drop (item_width * (first + j)) items)
+  left i = item_lines (first + count - i) text (drop (group_width * g) groups) (drop (item_width * i) items)
 
   abbrev line : ℕ → List ℕ
-  line j = item_line text (drop (group_width * g) groups) (drop (item_width * (first + j)) items)
+  line i = item_line text (drop (group_width * g) groups) (drop (item_width * i) items)
 
-  pub lines_start : (t : Text) → first ≡ group_field groups g group_first → count ≡ group_field groups g group_count → Along whole (left 0) t t
+  pub lines_start : (t : Text) → first ≡ group_field groups g group_first → count ≡ group_field groups g group_count → Along whole (left first) t t
   unfolding lines_of
   lines_start t e₁ e₂ =
-      let p : count - 0 ≡ count = omega arith in
-      let q : first + 0 ≡ first = omega arith in
-      along_start whole (left 0) t (rw (group_at groups g 2, group_at groups g 3, ← e₁, ← e₂, p, q) refl)
+      let p : first + count - first ≡ count = omega arith in
+      along_start whole (left first) t (rw (group_at groups g 2, group_at groups g 3, ← e₁, ← e₂, p) refl)
 
-  left_is : (j : ℕ) → j < count → left j ≡ line j ++ left (j + 1)
-  left_is j h =
-      let p : count - j - 1 ≡ count - (j + 1) = omega arith in
-      lines_more (count - j) text (drop (group_width * g) groups) items (first + j) (first + (j + 1)) (omega arith) (omega arith)
-      ∙ ap (λ (n : ℕ). line j ++ item_lines n text (drop (group_width * g) groups) (drop (item_width * (first + (j + 1))) items)) p
+  left_is : (i : ℕ) → i < first + count → left i ≡ line i ++ left (i + 1)
+  left_is i h =
+      let p : first + count - i - 1 ≡ first + count - (i + 1) = omega arith in
+      lines_more (first + count - i) text (drop (group_width * g) groups) items i (omega arith)
+      ∙ ap (λ (n : ℕ). line i ++ item_lines n text (drop (group_width * g) groups) (drop (item_width * (i + 1)) items)) p
 
-  module _ {a b : Text} (j : ℕ) (l : Along whole (left j) a b) where
-    pub lines_next : {c : Text} → j < count → Adds (line j) b c → Along whole (left (j + 1)) a c
-    lines_next h p = along_next l (line j) (left (j + 1)) (left_is j h) p
+  module _ {a b : Text} (i : ℕ) (l : Along whole (left i) a b) where
+    pub lines_next : {c : Text} → i < first + count → Adds (line i) b c → Along whole (left (i + 1)) a c
+    lines_next h p = along_next l (line i) (left (i + 1)) (left_is i h) p
 
-    pub lines_end : count ≤ j → Adds whole a b
+    pub lines_end : first + count ≤ i → Adds whole a b
     unfolding item_lines
-    lines_end h = along_end l (let p : count - j ≡ 0 = omega arith in rw p refl)
+    lines_end h = along_end l (let p : first + count - i ≡ 0 = omega arith in rw p refl)
 
 pub ruleset lines_laws = (lines_start, lines_next, lines_end)
 

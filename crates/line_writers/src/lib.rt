@@ -87,8 +87,8 @@ fn put_lines(out: &mut Text<'_>, answer: Answer<'_>, g: usize)
 {
     let first = field::<GROUP_WIDTH>(answer.groups, g, GROUP_FIRST);
     let count = field::<GROUP_WIDTH>(answer.groups, g, GROUP_COUNT);
-    for j in 0..count {
-        put_line(out, answer, g, first + j);
+    for i in first..first + count {
+        put_line(out, answer, g, i);
     }
 }
 
@@ -120,7 +120,8 @@ fn put_counts(out: &mut Text<'_>, c: Counts)
     put_count(out, b"sources ", c.sources, b'\n');
 }
 
-// The line of a refusal by its number, at the front of `area`. How many bytes. (A number and no `Refusal`: it writes any number, as before.)
+// The line of a refusal by its number, at the front of `area`. How many bytes. (A number and no `Refusal`, for callers that have a
+// number alone; the listing itself calls `put_refusal`.)
 pub fn put_refused(number: usize, area: &mut [u8]) -> usize
     requires { length (refused_line number) ≤ length area.old }
     ensures { Wrote (refused_line number) area.old area.new result }
