@@ -42,6 +42,7 @@ fn put<const N: usize>(answer: &mut [u32], numbers: [u32; N])
 }
 
 // A refused answer of `N` numbers, by the number of its refusal: zeros after that, and `last` at the end, which is the note where the answer has one.
+// (A number and no `Refusal`, since a caller may have any; the writers give it those of a `Refusal`.)
 #[tactic(auto, using(crate::proofs::Refused::refused))]
 pub fn write_refused<const N: usize>(number: u8, last: u8, answer: &mut [u32])
     requires { (2 ≤ N) × (N ≤ length answer.old) }

@@ -9,7 +9,6 @@ use replay_body::areas::Lent;
 use replay_body::body::Body;
 use std::fs::File;
 use std::io::{Read, Write};
-use std::num::wrapping_add_u64;
 use std::rt::Files;
 use std::{fmt, io};
 
@@ -104,9 +103,9 @@ struct Tally {
 impl Tally {
     // One record more.
     fn count(&mut self, agrees: bool) {
-        self.all = wrapping_add_u64(self.all, 1);
+        self.all = self.all.wrapping_add(1);
         if agrees {
-            self.same = wrapping_add_u64(self.same, 1);
+            self.same = self.same.wrapping_add(1);
         } else {
             self.first = self.first.or(Some(self.all));
         }

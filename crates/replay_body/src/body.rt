@@ -25,7 +25,7 @@ impl<'a> Body<'a> {
     pub fn byte(self, at: usize) -> u8
         ensures { result ≡ get_or self.entry.0.now at 0 }
     {
-        self.0.get(at).copied().unwrap_or(0)
+        base::slices::byte_at(self.0, at)
     }
 
     // The two bytes at `at`, the lower one first; 0 past the end.
