@@ -5,12 +5,14 @@
 ghost use Rattle.std.specs.Prelude.{[], ◌∷◌, ◌++◌, ◌≡◌, ◌≤◌, ◌-◌, leb, length, replicate};
 ghost use Rattle.annotation.specs.Values.{annotation_values};
 ghost use Rattle.base.specs.Lists.{written};
+ghost use Rattle.base.specs.Spans.{pair_of};
 ghost use Rattle.lookup.specs.Values.{look_up_values, locator_values, size_values};
 ghost use Rattle.source_text.specs.Values.{source_text_values};
 ghost use Rattle.answers.specs.Words.{Words};
 ghost use Rattle.answers.specs.Lengths.{look_up_answer_length, annotation_answer_length, size_answer_length, locator_answer_length};
 
 use annotation::answer::Annotation;
+use base::Span;
 use base::refusal::Refusal;
 use locator::{Locator, code_of, suffix_of, value_of};
 use lookup::LookUp;
@@ -54,7 +56,8 @@ pub fn write_refused<const N: usize>(number: u8, last: u8, answer: &mut [u32])
     put(answer, numbers);
 }
 
-// Number, close, item count, note.
+// Number, close, item count, note. (A writer for each answer and no trait: what an accepted answer gives is a row of its own, and an impl would say
+// the row and its numbers once more.)
 #[tactic(auto, unfolding(lookup::specs::Values::look_up_values, crate::specs::Words::Words))]
 pub fn write_look_up(a: LookUp, answer: &mut [u32])
     requires { (look_up_answer_length ≤ length answer.old) × Words (look_up_values a) }
@@ -104,6 +107,26 @@ pub fn write_count(a: Result<usize, Refusal>, answer: &mut [u32])
     }
 }
 
+// The accepted answer of a locator: label code, value pair, suffix pair. (A code and no `Term`, since a caller may have any; `write_locator` gives
+// it that of a `Locator`.)
+#[tactic(auto, unfolding(crate::specs::Words::Words))]
+pub fn write_located(code: u16, value: Span, suffix: Span, answer: &mut [u32])
+    requires { (locator_answer_length ≤ length answer.old) × Words (pair_of value ++ pair_of suffix) }
+    ensures { answer.new ≡ written (0 ∷ code ∷ (pair_of value ++ pair_of suffix)) answer.old }
+{
+    put(
+        answer,
+        [
+            0,
+            u32::from(code),
+            value.at as u32,
+            value.len as u32,
+            suffix.at as u32,
+            suffix.len as u32,
+        ],
+    )
+}
+
 // Number, label code, value pair, suffix pair.
 #[tactic(auto, unfolding(lookup::specs::Values::locator_values, crate::specs::Words::Words))]
 pub fn write_locator(a: Result<Locator, Refusal>, answer: &mut [u32])
@@ -113,19 +136,7 @@ pub fn write_locator(a: Result<Locator, Refusal>, answer: &mut [u32])
     match a {
         Ok(locator) => {
             let code = code_of(locator);
-            let value = value_of(locator);
-            let suffix = suffix_of(locator);
-            put(
-                answer,
-                [
-                    0,
-                    u32::from(code),
-                    value.at as u32,
-                    value.len as u32,
-                    suffix.at as u32,
-                    suffix.len as u32,
-                ],
-            )
+            write_located(code, value_of(locator), suffix_of(locator), answer)
         }
         Err(refusal) => write_refused::<LOCATOR_ANSWER>(u8::from(refusal), 0, answer),
     }

@@ -73,7 +73,8 @@ impl fmt::Display for Kind {
 }
 
 impl Kind {
-    // Whether the proved function of this kind gives the answer that the record's body holds.
+    // Whether the proved function of this kind gives the answer that the record's body holds. (A `match` and no table of functions: two of them take
+    // the areas, too, and the check sees that no kind is left out.)
     fn agrees(self, body: Body<'_>, lent: &mut Lent) -> bool {
         match self {
             Kind::Utf8 => replay_calls::texts::utf8_agrees(body),

@@ -12,7 +12,7 @@ pub const BLANK: u8 = 170;
 // The longest text for which short areas are lent.
 const SHORT: usize = 1000;
 
-// The note and the areas that the calls of a session are lent.
+// The note and the areas that the calls of a session are lent. The note is a number, since the list may have any byte there.
 #[derive(Drop)]
 pub struct Areas {
     pub note: u8,
@@ -81,7 +81,8 @@ pub fn is_all<T: Copy + PartialEq>(area: &[T], value: T) -> bool {
     area.iter().all(|x| *x == value)
 }
 
-// Whether an area holds the `n` numbers that `body` begins with, and `rest` behind them.
+// Whether an area holds the `n` numbers that `body` begins with, and `rest` behind them. `n` is a count that the list has, and no length of the area.
+// (Beside `holds_bytes`: numbers are compared one by one, bytes as they lie.)
 pub fn holds_numbers(area: &[u16], n: usize, body: Body<'_>, rest: u16) -> bool {
     area.split_at_checked(n).is_some_and(|(numbers, after)| {
         numbers
@@ -92,7 +93,7 @@ pub fn holds_numbers(area: &[u16], n: usize, body: Body<'_>, rest: u16) -> bool 
     })
 }
 
-// Whether an area holds the first `n` bytes of `body`, and `rest` behind them.
+// Whether an area holds the first `n` bytes of `body`, and `rest` behind them. `n` is a count that the list has, and no length of the area.
 pub fn holds_bytes(area: &[u8], n: usize, body: Body<'_>, rest: u8) -> bool {
     area.split_at_checked(n).is_some_and(|(bytes, after)| body.0.starts_with(bytes)
         && is_all(after, rest))

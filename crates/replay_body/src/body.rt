@@ -14,14 +14,14 @@ impl<'a> Body<'a> {
         Body(self.0.get(n..).unwrap_or(&[]))
     }
 
-    // The first `n` bytes, or all where there are fewer.
+    // The first `n` bytes, or all where there are fewer. (A method for its contract, which says `take`.)
     pub fn before(self, n: usize) -> &'a [u8]
         ensures { result.now ≡ take n self.entry.0.now }
     {
         self.0.get(..n).unwrap_or(self.0)
     }
 
-    // The byte at `at`; 0 past the end.
+    // The byte at `at`; 0 past the end. (A method for its contract, which says `get_or`.)
     pub fn byte(self, at: usize) -> u8
         ensures { result ≡ get_or self.entry.0.now at 0 }
     {

@@ -9,7 +9,8 @@ pub fn pool_agrees(body: Body<'_>) -> bool {
     usize::from(pool::is_well_formed(body.after(2).0)) == body.number(0)
 }
 
-// The text of an entry, at the front of an area that is as it was behind it.
+// The text of an entry, at the front of an area that is as it was behind it. (An array: a pool has at most 32,768 bytes, and the text of its entries
+// in the list is never as long as 40,000.)
 pub fn source_agrees(body: Body<'_>) -> bool {
     let mut area = [BLANK; 40000];
     let n = body.number(4);

@@ -93,7 +93,8 @@ impl<'a> Part<'a> {
     }
 }
 
-// A text that is put together at the front of an area, and how many bytes it has, which are counted also where it has no room there.
+// A text that is put together at the front of an area, and how many bytes it has, which are counted also where it has no room there. (No `Vec`:
+// the area is lent, and the library has no heap.)
 #[derive(Drop)]
 pub struct Text<'a> {
     pub area: &'a mut [u8],
