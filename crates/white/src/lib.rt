@@ -16,8 +16,7 @@ pub fn is_ascii_graphic(b: u8) -> bool
 }
 
 // How many bytes the White_Space character has that begins at `at`; 0 where none does. (A number and no Option: `is_white_byte` compares the widths,
-// and a 0 is less than each. Inlined: with its three calls in one function `is_white_byte` takes 30 % less time.)
-#[inline(always)]
+// and a 0 is less than each. Not inlined by force: that takes 30 % off `is_white_byte`, and adds 10 to 50 % to the build of an index.)
 #[tactic(auto, unfolding(crate::specs::White::space_width))]
 fn space_width(text: &[u8], at: usize) -> usize
     ensures { result ≡ space_width text.now at }
