@@ -4,11 +4,14 @@ use Prim.Native.Nat.{ℕ, ◌+◌, ◌≤◌, ◌<◌}
 use native.Mathlib.Omega.{arith}
 use mathlib.Core.Path.{◌≡◌, refl, sym, ◌∙◌, subst}
 use mathlib.Core.List.{List, [], ◌∷◌}
-use mathlib.Core.Bool.{Bool, true, false, cond}
+use mathlib.Core.Bool.{Bool, true, false, cond, true≢false}
 use lib.Dec.{leb, ltb}
 use lib.Utf8.{scalar, scalars, encode, encodes}
 use borrow.Author.Tests.{lt-ltb, le-ltb, le-leb, lt-leb, leb-true, leb-false, ltb-true, ltb-false}
 use Rattle.std.specs.Str.{IsUtf8}
+use Rattle.std.proofs.Common.{◌-◌, length, take, drop}
+use Rattle.std.proofs.lemmas.List.{take_rest}
+use Rattle.simdutf8.proofs.Parts.{front_and_rest, rest_of_whole}
 use Rattle.base.specs.Pick.{pick}
 use Rattle.base.proofs.Bools.{and_left, and_right}
 use Rattle.utf8.specs.Utf8.{utf8}
@@ -88,3 +91,11 @@ standard_no s n = go (utf8 s) refl
     go false q = refl
 
 pub ruleset standard_laws = (standard_yes, standard_no)
+
+-- where a front is known to be UTF-8, the rest tells whether all is
+pub rest_tells : (s : List ℕ) (at : ℕ) → at ≤ length s → IsUtf8 (take at s) → utf8 (take (length s - at) (drop at s)) ≡ utf8 s
+rest_tells s at within front = rw take_rest (go (utf8 (drop at s)) refl)
+  where
+    go : (t : Bool) → utf8 (drop at s) ≡ t → t ≡ utf8 s
+    go true q = standard_yes s (front_and_rest s at within front (accepted_standard (drop at s) q))
+    go false q = standard_no s (λ whole. absurd (true≢false (sym (standard_accepted (drop at s) (rest_of_whole s at within front whole)) ∙ q)))
