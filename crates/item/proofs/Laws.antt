@@ -13,13 +13,14 @@ use Rattle.std.specs.Prelude.{Some, None}
 use Rattle.base.specs.Pick.{pick}
 use Rattle.base.specs.Lists.{byte_at}
 use Rattle.base.proofs.Bools.{and_left, split}
-use Rattle.base.proofs.Searches.{first_out}
+use Rattle.base.specs.First.{first, first_of}
+use Rattle.base.proofs.Searches.{first_from, first_by, first_fails, first_pass, first_out}
 use Rattle.text.specs.Trim.{trim_start, trim_end}
 use Rattle.text.proofs.Trims.{end_by}
 use Rattle.key.specs.Keys.{is_mark, run_end, key_end}
 use Rattle.key.proofs.Laws.{key_ends}
 use Rattle.item.specs.declared.Item.{Item}
-use Rattle.item.specs.Items.{key_serves, wins, winner, suppresses, item_at, item_in, item_of, is_good}
+use Rattle.item.specs.Items.{at_sign, key_serves, wins, winner, suppresses, item_at, item_in, item_of, is_good}
 use Rattle.item.specs.Facts.{MarkServesNot}
 
 -- the `@` that wins ----------------------------------------------------------------------------------------------------------------
@@ -51,6 +52,27 @@ mark_serves_not s i x h g =
   where
     mark_after : (s : List ℕ) (i : ℕ) → i < key_end s i → key_end s i < run_end s (i + 1) → is_mark (byte_at s (key_end s i)) ≡ true
     mark_after s i l k = (key_ends s i l).after (key_end s i) (omega arith) k
+
+-- no place without an `@` wins, so none before the next `@` does
+wins_not : (s : List ℕ) (e k : ℕ) → eqb (byte_at s k) 64 ≡ false → wins s e k ≡ false
+unfolding wins at_sign
+wins_not s e k h = rw h refl
+
+pub winner_at : (s : List ℕ) (e i : ℕ) {j : ℕ} → j ≡ first_of 64 s i e → winner s i e ≡ winner s j e
+unfolding winner
+winner_at s e i {j} p = rw p (go (ltb e i) refl)
+  where
+    f : ℕ → Bool
+    f k = eqb (byte_at s k) 64
+
+    w : ℕ
+    w = first f (e - i) i
+
+    go : (t : Bool) → ltb e i ≡ t → first (wins s e) (e - i) i ≡ first (wins s e) (e - w) w
+    go true q = let h = ltb-true e i q in ap (λ x. first (wins s e) (e - x) x) (first_out f i e {w = w} refl (omega arith))
+    go false q =
+        let h = ltb-false e i q in
+        first_pass (wins s e) i w e (first_from f (e - i) i) (omega (arith, first_by f (e - i) i)) (λ k l g. wins_not s e k (first_fails f (e - i) i k l g))
 
 winner_out : (s : List ℕ) (e i : ℕ) → e ≤ i → i ≡ winner s i e
 unfolding winner

@@ -72,13 +72,16 @@ fn wins_at(text: &[u8], e: usize, i: usize) -> bool
         && parse_key(text, i + 1).is_some_and(|m| m == e || m < e && text[m] == b',')
 }
 
-// The place of the first `@` with a key in the trimmed item from `a` to `e` (`wins_at`).
-#[tactic(auto, unfolding(crate::specs::Items::winner))]
+// The place of the first `@` with a key in the trimmed item from `a` to `e` (`wins_at`). (By two searches: the bytes before the first `@` are passed in
+// a loop that holds nothing of `wins_at`. Not inlined, so that the second one holds nothing of its callers.)
+#[inline(never)]
+#[tactic(auto, using(crate::proofs::Laws::winner_at), unfolding(crate::specs::Items::winner))]
 fn find_winner(text: &[u8], a: usize, e: usize) -> Option<usize>
     requires { e ≤ length text.now }
     ensures { MatchOption result (e ≤ winner text.now a e) (λ i. (i ≡ winner text.now a e) × (i < e)) }
 {
-    let i = first_place(a, e, |i| wins_at(text, e, i));
+    let at = find_byte(text, b'@', a, e);
+    let i = first_place(at, e, |i| wins_at(text, e, i));
     (i < e).then_some(i)
 }
 

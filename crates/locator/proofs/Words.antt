@@ -6,7 +6,7 @@ use native.Mathlib.Omega.{arith}
 use mathlib.Core.Path.{◌≡◌, refl, ap}
 use mathlib.Core.List.{List, [], ◌∷◌}
 use mathlib.Core.Bool.{Bool, true, false, ◌&&◌}
-use lib.ListN.{length, take, drop, length-drop}
+use lib.ListN.{length, get_or, take, drop, length-drop}
 use lib.Seq.{drop-cons, take_all}
 use lib.Dec.{eqb}
 use borrow.Author.Tests.{lt-ltb}
@@ -44,3 +44,9 @@ fits_by (x ∷ xs) s i e h t = grind (arith, nat_tests, fits_by xs s (i + 1) e)
 -- a longer word than the rest of the text does not fit
 pub fits_no : (w s : List ℕ) (i : ℕ) → i ≤ length s → length s - i < length w → fits w s i (length s) ≡ false
 fits_no w s i l h = grind (arith, fits_by w s i (length s) l)
+
+-- nor one that begins with another byte than the small form of the one there
+pub fits_other : (w s : List ℕ) (i e : ℕ) → 0 < length w → eqb (get_or w 0 0) (lower (byte_at s i)) ≡ false → fits w s i e ≡ false
+unfolding fits
+fits_other [] s i e h t = absurd (omega arith)
+fits_other (x ∷ xs) s i e h t = grind (arith, nat_tests)
