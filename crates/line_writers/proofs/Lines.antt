@@ -38,13 +38,16 @@ item_at items i c = get_or-drop (item_width * i) items c 0
 
 -- what a line says of its group ------------------------------------------------------------------------------------------------------
 
+pub group_is : (groups : List ℕ) (g : ℕ) → group_part (drop (group_width * g) groups)
+    ≡ field (group_field groups g group_place) 32 ++ (field (group_field groups g group_length) 32 ++ field (group_field groups g group_standing) 32)
+unfolding group_part ascii
+group_is groups g = rw (group_at groups g 0, group_at groups g 1, group_at groups g 4) (simp append_assoc refl)
+
 pub group_part_adds : (groups : List ℕ) (g : ℕ) {o l s : ℕ} {a b c d : Text} → o ≡ group_field groups g group_place
     → l ≡ group_field groups g group_length → s ≡ group_field groups g group_standing
     → Adds (field o 32) a b → Adds (field l 32) b c → Adds (field s 32) c d → Adds (group_part (drop (group_width * g) groups)) a d
-unfolding group_part ascii
 group_part_adds groups g {o} {l} {s} eo el es p q r =
-    let whole : group_part (drop (group_width * g) groups) ≡ field o 32 ++ (field l 32 ++ field s 32) =
-    rw (group_at groups g 0, group_at groups g 1, group_at groups g 4, eo, el, es) (simp append_assoc refl) in
+    let whole : group_part (drop (group_width * g) groups) ≡ field o 32 ++ (field l 32 ++ field s 32) = rw (eo, el, es) (group_is groups g) in
     adds_both whole p (adds_both refl q r)
 
 -- what it says of its item -----------------------------------------------------------------------------------------------------------

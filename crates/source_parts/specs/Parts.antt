@@ -1,14 +1,17 @@
--- Follows the code; nothing to believe: a part of a text in pieces,
+-- Follows the code; nothing to believe: the bytes of a part of a text,
 -- and a text in an area that may have no room for it.
-use Rattle.std.specs.Prelude.{ℕ, ◌≤◌, ◌≡◌, List, ◌++◌, length, min}
+use Rattle.std.specs.Prelude.{ℕ, ◌≤◌, ◌≡◌, List, [], ◌∷◌, ◌++◌, length, min}
 use Rattle.base.specs.Lists.{written}
 use Rattle.source.specs.Years.{year_bytes}
 use Rattle.source_parts.specs.declared.Part.{Part}
+use Rattle.source_parts.specs.declared.Part.TheVariants.{Plain, Given, InParens}
 use Rattle.source_parts.specs.declared.Text.{Text}
 
--- the pieces of a part, one after the other
+-- the bytes of a part: those of a name are the family, `, ` and the given name
 abbrev pub part_text : Part → List ℕ
-part_text p = p.opening.now ++ (year_bytes p.inner ++ p.closing.now)
+part_text (Plain bytes) = bytes.now
+part_text (Given family given) = family.now ++ (44 ∷ 32 ∷ given.now)
+part_text (InParens year) = 40 ∷ (year_bytes year ++ (41 ∷ []))
 
 -- a text stands at the front of an area that was `before`, if it has room there; its bytes are counted up to the largest number
 pub record Holds (text before : List ℕ) (t : Text) : Type 0 where

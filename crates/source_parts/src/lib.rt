@@ -14,12 +14,12 @@ ghost use Rattle.source_parts.specs.Parts.{part_text, Adds, Edits};
 use pool::names::NameParts;
 use source::Year;
 
-// A part of a text, in three pieces. The middle one is of the type of a year: a number, or bytes.
+// A part of a text: bytes, a name with its given name, or a year in parentheses.
 #[derive(Clone, Copy)]
-pub struct Part<'a> {
-    opening: &'a [u8],
-    inner: Year<'a>,
-    closing: &'a [u8],
+pub enum Part<'a> {
+    Plain(&'a [u8]),
+    Given { family: &'a [u8], given: &'a [u8] },
+    InParens(Year<'a>),
 }
 
 impl<'a> Part<'a> {
@@ -27,11 +27,7 @@ impl<'a> Part<'a> {
     pub fn plain(bytes: &'a [u8]) -> Part<'a>
         ensures { part_text result ≡ bytes.now }
     {
-        Part {
-            opening: &[],
-            inner: Year::Text(bytes),
-            closing: &[],
-        }
+        Part::Plain(bytes)
     }
 
     // A name (`format_name`).
@@ -48,11 +44,7 @@ impl<'a> Part<'a> {
         let Some(given) = name.given else {
             return Part::plain(family);
         };
-        Part {
-            opening: family,
-            inner: Year::Text(b", "),
-            closing: given,
-        }
+        Part::Given { family, given }
     }
 
     // A year in parentheses; no bytes where there is none.
@@ -63,21 +55,18 @@ impl<'a> Part<'a> {
         let Some(year) = year else {
             return Part::plain(&[]);
         };
-        Part {
-            opening: b"(",
-            inner: year,
-            closing: b")",
-        }
+        Part::InParens(year)
     }
 
     // How many bytes the part is, up to the largest number.
     pub fn len(self) -> usize
         ensures { result ≡ min (length (part_text self.entry)) usize.MAX }
     {
-        self.opening
-            .len()
-            .saturating_add(self.inner.len())
-            .saturating_add(self.closing.len())
+        match self {
+            Part::Plain(piece) => piece.len(),
+            Part::Given { family, given } => (family.len() + 2).saturating_add(given.len()),
+            Part::InParens(year) => 1 + year.len() + 1,
+        }
     }
 
     // The part at the front of `out`.
@@ -85,11 +74,21 @@ impl<'a> Part<'a> {
         requires { length (part_text self) ≤ length out.old }
         ensures { out.new ≡ written (part_text self.entry) out.old }
     {
-        let start = self.opening.len();
-        let end = start + self.inner.len();
-        source::write_bytes(self.opening, out);
-        self.inner.write(&mut out[start..]);
-        source::write_bytes(self.closing, &mut out[end..]);
+        match self {
+            Part::Plain(piece) => source::write_bytes(piece, out),
+            Part::Given { family, given } => {
+                let start = family.len();
+                source::write_bytes(family, out);
+                source::write_bytes(b", ", &mut out[start..]);
+                source::write_bytes(given, &mut out[start + 2..]);
+            }
+            Part::InParens(year) => {
+                let end = 1 + year.len();
+                source::write_bytes(b"(", out);
+                year.write(&mut out[1..]);
+                source::write_bytes(b")", &mut out[end..]);
+            }
+        }
     }
 }
 
@@ -106,30 +105,46 @@ impl Text<'_> {
     pub fn push(&mut self, bytes: &[u8])
         ensures { Adds bytes.now self.old self.new }
     {
-        self.push_part(Part::plain(bytes));
+        let start = self.len;
+        self.len = start.saturating_add(bytes.len());
+        if self.len <= self.area.len() {
+            source::write_bytes(bytes, &mut self.area[start..]);
+        }
     }
 
     // Adds a part.
     pub fn push_part(&mut self, part: Part)
         ensures { Adds (part_text part.entry) self.old self.new }
     {
+        self.push_counted(part, part.len());
+    }
+
+    // Adds a part of `count` bytes. (Inlined, as `join` is.)
+    #[inline(always)]
+    fn push_counted(&mut self, part: Part, count: usize)
+        requires { count ≡ min (length (part_text part)) usize.MAX }
+        ensures { Adds (part_text part.entry) self.old self.new }
+    {
         let start = self.len;
-        self.len = start.saturating_add(part.len());
+        self.len = start.saturating_add(count);
         if self.len <= self.area.len() {
             part.write(&mut self.area[start..]);
         }
     }
 
-    // Adds a part with `separator` before it; an empty one falls out together with that.
+    // Adds a part with `separator` before it; an empty one falls out together with that. (Inlined, since a caller knows its separator and what kind
+    // its part is.)
+    #[inline(always)]
     pub fn join(&mut self, separator: &[u8], part: Part)
         ensures { Edits (λ text. beside separator.now text (part_text part.entry)) self.old self.new }
     {
-        if part.len() == 0 {
+        let count = part.len();
+        if count == 0 {
             return;
         }
         if self.len != 0 {
             self.push(separator);
         }
-        self.push_part(part);
+        self.push_counted(part, count);
     }
 }

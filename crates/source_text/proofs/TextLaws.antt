@@ -4,13 +4,9 @@ use Prim.Native.Nat.{ℕ, ◌≤◌}
 use native.Mathlib.Omega.{arith}
 use mathlib.Core.Path.{◌≡◌, refl, sym, ◌∙◌}
 use mathlib.Core.List.{List, [], ◌∷◌, ◌++◌}
-use mathlib.Core.Option.{Option}
+use mathlib.Core.Option.{Option, get_or}
 use lib.ListN.{length}
-use Rattle.std.specs.Prelude.{Option as Answer, Some, None}
-use Rattle.std.specs.Option.{unwrap_or}
-use Rattle.std.specs.Borrow.{Bor}
 use Rattle.base.specs.Pick.{pick}
-use Rattle.base.specs.Lent.{lent}
 use Rattle.base.specs.Fold.{fold}
 use Rattle.base.specs.Lists.{written}
 use Rattle.base.proofs.Areas.{written_none}
@@ -64,11 +60,9 @@ unfolding fold
 names_end t e = rw e record { held = λ text area h. h; same_area = refl }
 
 -- the title beside the head
-pub body_title : (fs : List Field) (o : Answer (Bor (List ℕ))) (d t : Bor (List ℕ)) {x : List ℕ} → d.now ≡ [] → t ≡ unwrap_or o d → lent o ≡ field_with 8 fs
-    → x ≡ t.now → beside (46 ∷ 32 ∷ []) (head_of (entry_of fs)) x ≡ body_of (entry_of fs)
+pub body_title : (fs : List Field) {x : List ℕ} → x ≡ get_or (field_with 8 fs) [] → beside (46 ∷ 32 ∷ []) (head_of (entry_of fs)) x ≡ body_of (entry_of fs)
 unfolding body_of entry_of
-body_title fs None d t z e q p = rw (← q, p, e, z) refl
-body_title fs (Some b) d t z e q p = rw (← q, p, e) refl
+body_title fs p = rw p refl
 
 -- what the area holds at last, where the text has room in it
 pub held_area : (out before : List ℕ) (u : Text) {name : ℕ} {last : List ℕ} → Holds out before u → u.area.ghost_name ≡ name

@@ -13,9 +13,9 @@ pub returns-then-text-eq0 : goal.returns-then-text-eq0
 returns-then-text-eq0 c =
     let e = entry_of (fields_left c.args.fields) in
     let h : Holds (body_of e) c.args.area.now c.join-2.new.self =
-    holds_as (body_title (fields_left c.args.fields) c.field.result _ c.unwrap_or.result refl c.unwrap_or.ensures c.field.ensures c.plain.ensures)
+    holds_as (body_title (fields_left c.args.fields) c.requires.1)
     (c.join-2.ensures.held _ _
-    (holds_as (head_year e c.csl_year.ensures c.in_parens.ensures) (c.join.ensures.held _ _ (c.add_names.ensures.held _ _ (nothing_held _ refl))))) in
+    (holds_as (head_year e refl c.requires.0) (c.join.ensures.held _ _ (c.add_names.ensures.held _ _ (nothing_held _ refl))))) in
     let k = text_none e h c.if-text-eq0.true in
     let n = c.join-2.ensures.same_area ∙ c.join.ensures.same_area ∙ c.add_names.ensures.same_area in
     record {
@@ -27,9 +27,9 @@ pub returns : goal.returns
 returns c =
     let e = entry_of (fields_left c.args.fields) in
     let h : Holds (body_of e) c.args.area.now c.join-2.new.self =
-    holds_as (body_title (fields_left c.args.fields) c.field.result _ c.unwrap_or.result refl c.unwrap_or.ensures c.field.ensures c.plain.ensures)
+    holds_as (body_title (fields_left c.args.fields) c.requires.1)
     (c.join-2.ensures.held _ _
-    (holds_as (head_year e c.csl_year.ensures c.in_parens.ensures) (c.join.ensures.held _ _ (c.add_names.ensures.held _ _ (nothing_held _ refl))))) in
+    (holds_as (head_year e refl c.requires.0) (c.join.ensures.held _ _ (c.add_names.ensures.held _ _ (nothing_held _ refl))))) in
     let k = holds_as (text_stop e h c.if-text-eq0.false) (c.push.ensures.held _ _ h) in
     let n = c.push.ensures.same_area ∙ c.join-2.ensures.same_area ∙ c.join.ensures.same_area ∙ c.add_names.ensures.same_area in
     record {
