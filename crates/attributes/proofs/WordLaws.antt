@@ -19,6 +19,8 @@ use Rattle.base.proofs.Lasts.{last_end_from, last_end_by}
 use Rattle.base.proofs.Sames.{same_pointwise}
 use Rattle.base.proofs.Parts.{part_is}
 use Rattle.white.specs.White.{is_white}
+use Rattle.white.specs.Bytes.{is_ascii_graphic}
+use Rattle.white.proofs.Whites.{graphic_plain}
 use Rattle.text.proofs.Trims.{start_from, start_plain}
 use Rattle.attributes.specs.Attributes.{word_start, word_end, words_in, equals_at, end_without, stripped, bare, value_in}
 
@@ -40,6 +42,12 @@ module _ (b : ℕ) (s : List ℕ) {x : ℕ} (p : x ≡ first_other b s 0 (length
     stripped_is = sym (part_is s x y start_end end_le) ∙ rw (q, p) refl
 
 pub ruleset strip_laws = (start_le, start_end, end_le, stripped_is)
+
+-- where a word ends --------------------------------------------------------------------------------------------------------------
+
+-- an ASCII graphic character does not end a word
+pub graphic_goes_on : (s : List ℕ) (i : ℕ) {b : Bool} → b ≡ is_ascii_graphic (byte_at s i) → b ≡ true → false ≡ is_white s i
+graphic_goes_on s i p t = sym (graphic_plain s i (sym p ∙ t))
 
 -- the words that are left --------------------------------------------------------------------------------------------------------
 

@@ -2,7 +2,8 @@
 // A word is told by its places, since whether a byte is white depends on the bytes before it; a name and a value are slices.
 #![tactic(auto)]
 
-ghost use Rattle.std.specs.Prelude.{◌≡◌, length};
+ghost use Rattle.std.specs.Prelude.{◌≡◌, ◌<◌, length};
+ghost use Rattle.white.specs.White.{is_white};
 ghost use Rattle.base.specs.Lent.{lent};
 ghost use Rattle.attributes.specs.Attributes.{word_start, word_end, end_without, stripped, bare, attr_value};
 
@@ -16,12 +17,24 @@ fn word_start(attributes: &[u8], from: usize) -> usize
     text::trim_start(attributes, from, attributes.len())
 }
 
-// Where the word that goes on at `from` ends: at white space, or at the end.
-#[tactic(auto, unfolding(crate::specs::Attributes::word_end))]
+// Whether a byte that is no graphic character is white. (Not inlined: the loop over the bytes of a word stays as short as its test for a graphic one.)
+#[inline(never)]
+fn is_white_here(attributes: &[u8], i: usize) -> bool
+    requires { i < length attributes.now }
+    ensures { result ≡ is_white attributes.now i }
+{
+    text::is_white_at(attributes, i)
+}
+
+// Where the word that goes on at `from` ends: at white space, or at the end. (An ASCII graphic character is no white space, and is told by itself:
+// most bytes of a word are such, and `is_white_at` reads those before its place too.)
+#[tactic(auto, using(crate::proofs::WordLaws::graphic_goes_on), unfolding(crate::specs::Attributes::word_end))]
 fn word_end(attributes: &[u8], from: usize) -> usize
     ensures { result ≡ word_end attributes.now from }
 {
-    first_place(from, attributes.len(), |i| text::is_white_at(attributes, i))
+    first_place(from, attributes.len(), |i| {
+        !white::is_ascii_graphic(attributes[i]) && is_white_here(attributes, i)
+    })
 }
 
 // The words of the attributes that are left: those that begin at `from` or after it.

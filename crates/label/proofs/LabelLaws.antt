@@ -25,6 +25,29 @@ some_left : (s : List ℕ) → 0 < length s → is_empty s ≡ false
 some_left [] h = absurd (omega arith)
 some_left (x ∷ xs) h = refl
 
+-- the trimmed part
+module _ (s : List ℕ) {a b : ℕ} (p : a ≡ trim_start s 0 (length s)) (q : b ≡ trim_end s (trim_start s 0 (length s)) (length s)) where
+  pub trim_order : a ≤ b
+  trim_order =
+      let h = start_by s 0 (length s) in
+      let f = end_from s (trim_start s 0 (length s)) (length s) in
+      omega arith
+
+  pub trim_inside : b ≤ length s
+  trim_inside =
+      let h = start_by s 0 (length s) in
+      let g = end_by s (trim_start s 0 (length s)) (length s) in
+      omega arith
+
+  pub trim_is : take (b - a) (drop a s) ≡ trim s
+  unfolding trim
+  trim_is =
+      let m = trim_order in
+      let k = trim_inside in
+      rw (q, p) (sym (part_is s (trim_start s 0 (length s)) (trim_end s (trim_start s 0 (length s)) (length s)) (omega arith) (omega arith)))
+
+pub ruleset trim_laws = (trim_order, trim_inside, trim_is)
+
 -- bytes that are not all white, trimmed
 trimmed_some : (s : List ℕ) → trim_start s 0 (length s) < length s → 0 < length (trim s)
 unfolding trim
@@ -47,9 +70,22 @@ module _ (n : ℕ) (A Y : List ℕ) where
         let d : take (length A - k) (drop k A) ≡ drop k A = take_all (length A - k) (drop k A) (rw length-drop (omega arith)) in
         rw d (left_is (trim_both A Y (rw p at h) g ∙ rw (← p, ← e) refl) (rw length-append (omega arith)))
 
-    pub author_left : k < length A → trim_end Y 0 (length Y) ≡ 0 → trim A ≡ author_year n A Y
+    author_whole : k < length A → trim_end Y 0 (length Y) ≡ 0 → trim A ≡ author_year n A Y
     unfolding trim
-    author_left h g = left_is (trim_first A Y (rw p at h) (omega arith)) (trimmed_some A (rw p at h))
+    author_whole h g = left_is (trim_first A Y (rw p at h) (omega arith)) (trimmed_some A (rw p at h))
+
+    module _ {e : ℕ} (q : e ≡ trim_end A k (length A)) where
+      end : e ≡ trim_end A (trim_start A 0 (length A)) (length A)
+      end = q ∙ rw p refl
+
+      pub author_order : k ≤ e
+      author_order = trim_order A p end
+
+      pub author_inside : e ≤ length A
+      author_inside = trim_inside A p end
+
+      pub author_left : k < length A → trim_end Y 0 (length Y) ≡ 0 → take (e - k) (drop k A) ≡ author_year n A Y
+      author_left h g = trim_is A p end ∙ author_whole h g
 
     pub year_left : length A ≤ k → or_number (trim Y) n ≡ author_year n A Y
     unfolding author_year trim
@@ -86,33 +122,10 @@ pub nothing_ends : trim_end [] 0 0 ≡ 0
 unfolding trim_end last_end
 nothing_ends = refl
 
--- the trimmed part
-module _ (s : List ℕ) {a b : ℕ} (p : a ≡ trim_start s 0 (length s)) (q : b ≡ trim_end s (trim_start s 0 (length s)) (length s)) where
-  pub trim_order : a ≤ b
-  trim_order =
-      let h = start_by s 0 (length s) in
-      let f = end_from s (trim_start s 0 (length s)) (length s) in
-      omega arith
-
-  pub trim_inside : b ≤ length s
-  trim_inside =
-      let h = start_by s 0 (length s) in
-      let g = end_by s (trim_start s 0 (length s)) (length s) in
-      omega arith
-
-  pub trim_is : take (b - a) (drop a s) ≡ trim s
-  unfolding trim
-  trim_is =
-      let m = trim_order in
-      let k = trim_inside in
-      rw (q, p) (sym (part_is s (trim_start s 0 (length s)) (trim_end s (trim_start s 0 (length s)) (length s)) (omega arith) (omega arith)))
-
-pub ruleset trim_laws = (trim_order, trim_inside, trim_is)
-
 -- a year without the white space at its end
 pub end_part : (s : List ℕ) {e : ℕ} → e ≡ trim_end s 0 (length s) → e ≡ length (take e s)
 end_part s {e} p = sym (length-take-le e s (omega (arith, end_by s 0 (length s))))
 
 pub ruleset end_laws = (end_part, number_ends, number_whole, nothing_ends)
 
-pub ruleset named_laws = (both_left, author_left, year_left, number_left, nothing_left)
+pub ruleset named_laws = (both_left, author_order, author_inside, author_left, year_left, number_left, nothing_left)

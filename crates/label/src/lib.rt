@@ -100,7 +100,8 @@ fn bytes_label<'a>(bytes: &'a [u8], number: u16) -> Label<'a>
 fn trimmed<'a>(bytes: &'a [u8]) -> &'a [u8]
     ensures { result.now ≡ trim bytes.now }
 {
-    &bytes[text::trim(bytes, 0, bytes.len())]
+    let part = text::trim(bytes, 0, bytes.len());
+    &bytes[part.start..part.end]
 }
 
 // A year without the white space at its end, if something is left of it. A number has none.
@@ -118,7 +119,7 @@ fn end_trimmed<'a>(year: Option<Year<'a>>) -> Option<Year<'a>>
     }
 }
 
-// "author, space, year, trimmed, or the number if nothing is left"
+// "author, space, year, trimmed, or the number if nothing is left" (The white space at the author's start is read once, for each label: no `trimmed`.)
 #[tactic(auto, using(crate::proofs::LabelLaws::named_laws))]
 fn named_label<'a>(author: &'a [u8], year: Option<Year<'a>>, number: u16) -> Label<'a>
     ensures { label_bytes result ≡ author_year number author.now (get_or (written_year year.entry) []) }
@@ -127,7 +128,9 @@ fn named_label<'a>(author: &'a [u8], year: Option<Year<'a>>, number: u16) -> Lab
     if start < author.len() {
         return match end_trimmed(year) {
             Some(year) => Label::Named(&author[start..], year),
-            None => Label::Piece(Year::Text(trimmed(author))),
+            None => Label::Piece(Year::Text(
+                &author[start..text::trim_end(author, start, author.len())],
+            )),
         };
     }
     match year {

@@ -5,9 +5,10 @@
 pub mod ranks;
 
 ghost use Rattle.std.specs.Prelude.{◌≡◌, ◌<◌, ◌≤◌, length, take};
+ghost use Rattle.base.specs.First.{first};
 ghost use Rattle.base.specs.Lists.{written, up_from};
 ghost use Rattle.order.specs.Order.{insert_by};
-ghost use Rattle.order.specs.Ordered.{SortedBy};
+ghost use Rattle.order.specs.Ordered.{greater_at, Rising, SortedBy};
 ghost use Rattle.order.specs.ByDefinitions.{rank_of, Known, references_of};
 
 use base::mode::Mode;
@@ -27,15 +28,34 @@ pub struct Sources<'a> {
     pub ghost known: { Known definitions m sources },
 }
 
+// The first of the numbers in order whose definition has a greater rank than `rank`; their count where none has. (By halves that test a place once at
+// most, and no `partition_point`: the library's search ends with one more test, of a place that was mostly tested before, and a test reads a whole
+// definition, which may be a line of 30 KB.)
+fn place_of(definitions: &Definitions, rank: &[u8], ordered: &[u16]) -> usize
+    requires { Rising (greater_at (rank_of definitions.now) rank.now ordered.now) (length ordered.now) }
+    ensures place { result ≡ first (greater_at (rank_of definitions.now) rank.now ordered.now) (length ordered.now) 0 }
+    ensures within { result ≤ length ordered.now }
+{
+    let mut low = 0;
+    let mut high = ordered.len();
+    while low < high {
+        let middle = low + (high - low) / 2;
+        if rank_by(definitions, usize::from(ordered[middle])) <= rank {
+            low = middle + 1;
+        } else {
+            high = middle;
+        }
+    }
+    low
+}
+
 // The definition number `d`, into the `count` definition numbers in order at the front of `references`.
 fn insert_definition(definitions: &Definitions, count: usize, d: u16, references: &mut [u16])
     requires { (count < 65535) × (count < length references.old) × SortedBy (rank_of definitions.now) (take count references.old) }
     ensures { references.new ≡ written (insert_by (rank_of definitions.now) (take count references.old) d) references.old }
 {
     let rank = rank_by(definitions, usize::from(d));
-    let place = references[..count].partition_point(|&other| {
-        rank_by(definitions, usize::from(other)) <= rank
-    });
+    let place = place_of(definitions, rank, &references[..count]);
     references[place..=count].rotate_right(1);
     references[place] = d;
 }
