@@ -63,6 +63,8 @@ fn turn(indexed: Indexed, s: SweepState, items: &mut [u16], groups: &mut [u16]) 
     }
     match step_at(indexed, at) {
         Look::Build => move_to(s, at, true),
+        // most brackets of a text without groups: no call for them
+        Look::Known(None) => move_to(s, at + 1, false),
         Look::Known(close) => match match_citation(indexed.text, at, close) {
             Some(group) => record_group(indexed.text, s, at, group, items, groups),
             None => move_to(s, at + 1, false),

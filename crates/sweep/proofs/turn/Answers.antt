@@ -1,5 +1,8 @@
 -- The answers of `sweep::turn`:
 -- a bracket that wants a build, a group, or none.
+use mathlib.Core.Path.{refl}
+use Rattle.resolve.specs.Groups.{judge}
+use Rattle.resolve.specs.Looks.{matched}
 use Rattle.sweep.proofs.Turns.{turned_next, turned_build, turn_recordable, turned_group}
 use Rattle.sweep.proofs.turn.Goals as goal
 
@@ -18,3 +21,9 @@ returns-in-Some c =
 pub returns-in-None : goal.returns-in-None
 returns-in-None c =
     turned_next _ _ _ _ _ _ c.find_byte-at.ensures c.requires.1 c.requires.2 c.if-indexed-at.false c.in-Known.ensures c.in-None.ensures c.move_to-in-None.ensures
+
+-- no close, so no group
+pub returns-in-Known-None : goal.returns-in-Known-None
+unfolding matched judge
+returns-in-Known-None c =
+    turned_next _ _ _ _ _ _ c.find_byte-at.ensures c.requires.1 c.requires.2 c.if-indexed-at.false c.in-Known-None.ensures (rw c.in-Known-None.field-0-is refl) c.move_to-in-Known-None.ensures
