@@ -5,7 +5,7 @@ use native.Mathlib.Omega.{arith}
 use mathlib.Core.Path.{◌≡◌, refl, sym, ◌∙◌, ap}
 use mathlib.Core.List.{List}
 use Rattle.std.specs.Prelude.{Option, Some, None, IfSome}
-use lib.ListN.{length, set, length-append}
+use lib.ListN.{length, set, length-append, length-set}
 use borrow.Author.Tests.{le-leb, lt-leb, leb-false}
 use Rattle.base.specs.Lists.{written}
 use Rattle.pool.specs.Layout.{has_pool}
@@ -19,7 +19,7 @@ use Rattle.uses.specs.Uses.{set_last, Counts}
 use Rattle.numbering.specs.Progress.{room_of, numbering_of, Agrees, Holds, Advances}
 use Rattle.uses.proofs.Fields.{set_last_same, set_standing_same}
 use Rattle.numbering.proofs.ByLines.{lines_same}
-use Rattle.records.specs.Widths.{group_width, group_standing}
+use Rattle.records.specs.Widths.{item_width, group_width, group_standing}
 
 -- labels that do not fit still do not with more of them
 pub full_more : (t u : Numbered) (room : ℕ) {before before' items groups labels items' groups' labels' : List ℕ}
@@ -42,6 +42,12 @@ module _ (text groups items : List ℕ) {n lines : ℕ} (b : LinesBelow text gro
 
   pub lines_stood : (g standing : ℕ) {groups' : List ℕ} → groups' ≡ set groups (group_width * g + group_standing) standing → LinesBelow text groups' items n lines
   lines_stood g standing e = rw e (lines_same text _ groups items items (set_standing_same groups g standing) (λ k c l. refl) b)
+
+-- nor takes room from the records
+pub room_cited : (m : ℕ) (items : List ℕ) (k number use_as at len : ℕ) {items' : List ℕ} → item_width * m ≤ length items
+    → items' ≡ set_last items k number use_as at len → item_width * m ≤ length items'
+unfolding set_last
+room_cited m items k number use_as at len h e = rw e (simp length-set h)
 
 -- steps one after the other --------------------------------------------------------------------------------------------------------
 

@@ -14,7 +14,7 @@ use Rattle.numbering.specs.declared.Numbering.{Numbering}
 use Rattle.records.specs.Fields.{group_field}
 use Rattle.numbering.specs.Numbers.{Numbered, start, cite_in, cite_from, stands_numbered, is_numbered, number_group, number_from, number_all, keys_defined}
 use Rattle.numbering.specs.Progress.{room_of, numbering_of, Agrees, Holds, Advances}
-use Rattle.numbering.proofs.CiteLaws.{kept, some_so, then, as_step, over_more, cite_grows}
+use Rattle.numbering.proofs.CiteLaws.{full_more, kept, some_so, then, as_step, over_more, cite_grows}
 use Rattle.records.specs.Widths.{group_count, group_first, group_standing, group_width}
 
 module _ (text : List ℕ) (mode : ℕ) (pool : List ℕ) (n : ℕ) where
@@ -66,7 +66,7 @@ module _ (text : List ℕ) (mode : ℕ) (pool : List ℕ) (n : ℕ) where
 
   -- a group -----------------------------------------------------------------------------------------------------------------------
 
-  group_grows : (t : Numbered) (g : ℕ) → length t.labels ≤ length (number_group text mode pool n t g).labels
+  pub group_grows : (t : Numbered) (g : ℕ) → length t.labels ≤ length (number_group text mode pool n t g).labels
   unfolding number_group stands_numbered
   group_grows t g = go (is_numbered text mode pool n t g)
     where

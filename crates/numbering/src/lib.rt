@@ -3,6 +3,7 @@
 #![tactic(auto)]
 
 pub mod numbers;
+pub mod wide;
 
 ghost use Rattle.std.specs.Prelude.{◌≤◌, ◌<◌};
 ghost use Rattle.definition.specs.Lines.{LinesBelow};

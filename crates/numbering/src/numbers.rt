@@ -2,13 +2,14 @@
 // `as` narrows a number, since the check proves that it fits; `try_from` would answer a refusal that cannot come.
 // `k < record_bound` is a clause: with a `u32` in place of `k` each call would cast the counter of a loop. The counts `s` and the areas are
 // parameters of their own, and no struct with the facts that tie them: groups are lent only for reading while items are written.
-ghost use Rattle.std.specs.Prelude.{◌≡◌, ◌<◌, ◌≤◌, length, IfSome};
+ghost use Rattle.std.specs.Prelude.{◌≡◌, ◌*◌, ◌<◌, ◌≤◌, length, IfSome};
 ghost use Rattle.base.specs.Modes.{mode_number};
 ghost use Rattle.label.specs.Areas.{fitted, fitted_at};
 ghost use Rattle.definition.specs.Lines.{LinesBelow};
 ghost use Rattle.numbering.specs.Numbers.{key_defined, keys_defined, record_label, cite_in, cite_from, number_group};
 ghost use Rattle.numbering.specs.Progress.{room_of, Advances, Alike, Labelled};
 ghost use Rattle.records.specs.Bounds.{record_bound, half_source_bound, source_bound};
+ghost use Rattle.records.specs.Widths.{item_width};
 
 use crate::{Numbering, Setting};
 use base::mode::Mode;
@@ -155,6 +156,7 @@ impl<'a> Setting<'a> {
         ensures advances { Advances 1 (λ t. cite_in self.now.text.now (mode_number self.now.mode) self.now.pool.bytes.now self.now.n t k)
             s result items.old groups.now labels.old items.new groups.now labels.new }
         ensures lines { LinesBelow self.now.text.now groups.now items.new self.now.n self.now.lines }
+        ensures room { item_width * self.now.m ≤ length items.new }
         ensures labelled { IfSome result (λ r. Labelled self.now.text.now (mode_number self.now.mode) self.now.pool.bytes.now self.now.n
             self.now.m r items.new groups.now labels.new) }
     {
@@ -189,6 +191,7 @@ impl<'a> Setting<'a> {
         ensures advances { Advances count (λ t. cite_from self.now.text.now (mode_number self.now.mode) self.now.pool.bytes.now self.now.n count t first)
             s result items.old groups.now labels.old items.new groups.now labels.new }
         ensures lines { LinesBelow self.now.text.now groups.now items.new self.now.n self.now.lines }
+        ensures room { item_width * self.now.m ≤ length items.new }
         ensures labelled { IfSome result (λ r. Labelled self.now.text.now (mode_number self.now.mode) self.now.pool.bytes.now self.now.n
             self.now.m r items.new groups.now labels.new) }
     {
@@ -215,6 +218,7 @@ impl<'a> Setting<'a> {
         ensures advances { Advances 65535 (λ t. number_group self.now.text.now (mode_number self.now.mode) self.now.pool.bytes.now self.now.n t g)
             s result items.old groups.old labels.old items.new groups.new labels.new }
         ensures lines { LinesBelow self.now.text.now groups.new items.new self.now.n self.now.lines }
+        ensures room { item_width * self.now.m ≤ length items.new }
         ensures labelled { IfSome result (λ r. Labelled self.now.text.now (mode_number self.now.mode) self.now.pool.bytes.now self.now.n
             self.now.m r items.new groups.new labels.new) }
     {
@@ -258,6 +262,7 @@ pub fn number_group<'a>(
     ensures advances { Advances 65535 (λ t. number_group text.now mode pool.entry.bytes.now n t g)
         s result items.old groups.old labels.old items.new groups.new labels.new }
     ensures lines { LinesBelow text.now groups.new items.new n lines }
+    ensures room { item_width * m ≤ length items.new }
     ensures labelled { IfSome result (λ r. Labelled text.now mode pool.entry.bytes.now n m r items.new groups.new labels.new) }
 {
     let mode = Mode::clamped(mode);

@@ -2,7 +2,7 @@
 -- written from are those of the setting.
 use Rattle.std.proofs.Common.{arith}
 use Rattle.std.proofs.Math.Bool.{not-not}
-use Rattle.numbering.proofs.CiteLaws.{cite_over, cite_done, lines_cited}
+use Rattle.numbering.proofs.CiteLaws.{cite_over, cite_done, lines_cited, room_cited}
 use Rattle.numbering.proofs.LabelledLaws.{labelled_done}
 use Rattle.numbering.proofs.Setting.cite.Goals as goal
 
@@ -22,6 +22,9 @@ returns-clause-advances c =
 
 pub returns-clause-lines : goal.returns-clause-lines
 returns-clause-lines c = lines_cited _ _ _ c.requires.3 _ _ _ _ _ c.set_last.ensures
+
+pub returns-clause-room : goal.returns-clause-room
+returns-clause-room c = room_cited _ _ _ _ _ _ _ c.requires.4.room c.set_last.ensures
 
 pub returns-clause-labelled : goal.returns-clause-labelled
 returns-clause-labelled c =
