@@ -5,7 +5,6 @@
 ghost use Rattle.std.specs.Prelude.{length};
 ghost use Rattle.std.specs.Iterator.{at_most};
 
-use replay_body::areas::Lent;
 use replay_body::body::Body;
 use std::fs::File;
 use std::io::{Read, Write};
@@ -73,9 +72,9 @@ impl fmt::Display for Kind {
 }
 
 impl Kind {
-    // Whether the proved function of this kind gives the answer that the record's body holds. (A `match` and no table of functions: two of them take
-    // the areas, too, and the check sees that no kind is left out.)
-    fn agrees(self, body: Body<'_>, lent: &mut Lent) -> bool {
+    // Whether the proved function of this kind gives the answer that the record's body holds. (A `match` and no table of functions: the check sees
+    // that no kind is left out.)
+    fn agrees(self, body: Body<'_>) -> bool {
         match self {
             Kind::Utf8 => replay_calls::texts::utf8_agrees(body),
             Kind::Escaped => replay_calls::texts::escaped_agrees(body),
@@ -87,8 +86,8 @@ impl Kind {
             Kind::Item => replay_calls::parts::item_agrees(body),
             Kind::Pool => replay_calls::pools::pool_agrees(body),
             Kind::Source => replay_calls::pools::source_agrees(body),
-            Kind::LookUp => replay_calls::sessions::look_ups_agree(body, lent),
-            Kind::Annotate => replay_calls::sessions::annotations_agree(body, lent),
+            Kind::LookUp => replay_calls::sessions::look_ups_agree(body),
+            Kind::Annotate => replay_calls::sessions::annotations_agree(body),
         }
     }
 }
@@ -136,12 +135,12 @@ impl<'a> Iterator for Records<'a> {
 
 // Counts the records of this kind in a block. One cut off does not agree. The block's unused rest is zeros, which read as empty records of no
 // kind.
-fn count_block(tally: &mut Tally, kind: Kind, block: &[u8], lent: &mut Lent) {
+fn count_block(tally: &mut Tally, kind: Kind, block: &[u8]) {
     for record in Records(block) {
         if record.len() >= 4 && record[0] == u8::from(kind) {
             let body = Body(&record[4..]);
             let is_whole = Body(record).length(1) == body.0.len();
-            tally.count(is_whole && kind.agrees(body, lent));
+            tally.count(is_whole && kind.agrees(body));
         }
     }
 }
@@ -151,20 +150,16 @@ const BLOCK: usize = 1048576;
 
 const BLOCKS: u32 = 1000000;
 
-// The tally of a kind over the whole list, read by blocks.
-fn count_all<R: Read>(
-    kind: Kind,
-    list: &mut R,
-    block: &mut [u8],
-    lent: &mut Lent,
-) -> io::Result<Tally> {
+// The tally of a kind over the whole list, read by blocks. (An array and no `Vec`, which may have no memory.)
+fn count_all<R: Read>(kind: Kind, list: &mut R) -> io::Result<Tally> {
+    let mut block = [0u8; BLOCK];
     let mut tally = Tally::default();
     for _ in 0..BLOCKS {
-        let n = reading::read_full(list, block)?;
+        let n = reading::read_full(list, &mut block)?;
         if n == 0 {
             break;
         }
-        count_block(&mut tally, kind, &block[..n], lent);
+        count_block(&mut tally, kind, &block[..n]);
     }
     Ok(tally)
 }
@@ -179,29 +174,18 @@ fn say<W: Write>(out: &mut W, kind: Kind, tally: Tally) -> io::Result<()> {
 }
 
 // Replays a kind, and writes what became of it; where the list cannot be opened, why, to standard error.
-fn replay<R: Files + Print + Eprint>(
-    rt: &R,
-    kind: Kind,
-    block: &mut [u8],
-    lent: &mut Lent,
-) -> io::Result<()> {
+fn replay<R: Files + Print + Eprint>(rt: &R, kind: Kind) -> io::Result<()> {
     let path = "answers";
     match File::open(rt, path) {
-        Ok(mut list) => say(
-            &mut io::writer(rt),
-            kind,
-            count_all(kind, &mut list, block, lent)?,
-        ),
+        Ok(mut list) => say(&mut io::writer(rt), kind, count_all(kind, &mut list)?),
         Err(error) => eprintln!(rt; "{path}: {error}"),
     }
 }
 
 // Replays each kind.
 fn main(rt: HostRuntime) -> io::Result<()> {
-    let mut block = vec![in rt.alloc(); 0u8; BLOCK]?;
-    let mut lent = Lent::new(rt.alloc())?;
     for kind in KINDS {
-        replay(&rt, kind, &mut block, &mut lent)?;
+        replay(&rt, kind)?;
     }
     Ok(())
 }

@@ -1,46 +1,76 @@
 // A look-up in a body: place, number, close, item count, note and twelve numbers an item.
 // Whether the item area holds what is stored.
-use crate::areas::{UNUSED, holds_numbers, is_all};
+ghost use Rattle.std.specs.Prelude.{◌≤◌};
+
+use crate::areas::{Areas, UNUSED, holds_numbers, is_all, refill};
 use crate::body::Body;
 
-// What a body holds from a look-up on.
+// What a body holds from a look-up on, and at which of its bytes that begins.
 #[derive(Clone, Copy)]
-pub struct StoredLookUp<'a>(pub Body<'a>);
+pub struct StoredLookUp<'a> {
+    pub part: Body<'a>,
+    pub at: usize,
+}
+
+// The last byte of a body behind which no other look-up is read.
+const LAST: usize = 1000000;
 
 impl<'a> StoredLookUp<'a> {
     // The place that is asked about.
-    pub fn place(self) -> usize {
-        self.0.number(0)
+    pub fn place(self) -> usize
+        ensures { result ≤ 65535 }
+    {
+        self.part.number(0)
     }
 
     // The numbers of the answer: 0 or a refusal's number, then the place of the close and the item count. (Numbers in place of a `Result`: the
     // list has them so.)
     pub fn numbers(self) -> (usize, [usize; 2]) {
-        (self.0.number(2), [self.0.number(4), self.0.number(6)])
+        (
+            self.part.number(2),
+            [self.part.number(4), self.part.number(6)],
+        )
     }
 
-    // The note of the answer.
-    pub fn note(self) -> u8 {
-        self.0.byte(8)
+    // The note of the answer. (A number of two bytes in the list, of which a note is the lower one.)
+    pub fn note(self) -> u16 {
+        self.part.word(8)
     }
 
     // Whether the item area holds the records, each with the stored twelve numbers and zeros behind them, and nothing after them.
     pub fn has_items(self, items: &[u16]) -> bool {
-        let count = self.0.number(6);
+        let count = self.part.number(6);
         let Some((records, rest)) = items.split_at_checked(records::ITEM_WIDTH * count) else {
             return false;
         };
-        let rows = self.0.after(10).before(24 * count);
-        rows.len() == 24 * count
-            && records
-                .chunks_exact(records::ITEM_WIDTH)
-                .zip(rows.chunks_exact(24))
-                .all(|(record, row)| holds_numbers(record, 12, Body(row), 0))
-            && is_all(rest, UNUSED)
+        let mut row = self.part.after(10);
+        for record in records.chunks_exact(records::ITEM_WIDTH) {
+            if !holds_numbers(record, 12, row, 0) {
+                return false;
+            }
+            row = row.after(24);
+        }
+        is_all(rest, UNUSED)
     }
 
-    // The look-up after this one.
+    // Makes the item area what it was before the call.
+    pub fn clear(self, areas: &mut Areas<'_>) {
+        refill(
+            areas.items,
+            records::ITEM_WIDTH * self.part.number(6),
+            UNUSED,
+        );
+    }
+
+    // The look-up after this one; this one again behind `LAST`.
     pub fn next(self) -> StoredLookUp<'a> {
-        StoredLookUp(self.0.after(10 + 24 * self.0.number(6)))
+        if LAST < self.at {
+            return self;
+        }
+        let n = 10 + 24 * self.part.number(6);
+        StoredLookUp {
+            part: self.part.after(n),
+            at: self.at + n,
+        }
     }
 }

@@ -10,11 +10,6 @@ use resolve::BUILT;
 #[derive(Clone, Copy)]
 pub struct Session<'a>(pub Body<'a>);
 
-// An entry of the stored index: a place, and its close.
-fn entry_of(bytes: &[u8]) -> (usize, u16) {
-    (Body(bytes).number(0), Body(bytes).word(2))
-}
-
 impl<'a> Session<'a> {
     // The text: the body's end.
     pub fn text(self) -> &'a [u8] {
@@ -32,29 +27,37 @@ impl<'a> Session<'a> {
     }
 
     // How many calls there are.
-    pub fn count(self) -> usize {
+    pub fn count(self) -> usize
+        ensures { result ≤ 65535 }
+    {
         self.0.number(6)
     }
 
-    // How many bytes the stored index has: four for each entry.
-    fn index_length(self) -> usize
-        ensures { result ≤ 262140 }
+    // How many entries the stored index has.
+    fn entry_count(self) -> usize
+        ensures { result ≤ 65535 }
     {
-        4 * self.0.number(8)
+        self.0.number(8)
     }
 
-    // The entries of the stored index.
-    fn entries(self) -> &'a [u8] {
-        self.0.after(10).before(self.index_length())
+    // An entry of the stored index: a place, and its close.
+    fn entry(self, k: usize) -> (usize, u16)
+        requires { k ≤ 65535 }
+    {
+        let entry = self.0.after(10 + 4 * k);
+        (entry.number(0), entry.word(2))
     }
 
-    // The first call, and what follows it.
-    pub fn calls(self) -> Body<'a> {
-        self.0.after(10 + self.index_length())
+    // Where the first call begins.
+    pub fn calls(self) -> usize
+        ensures { result ≤ 262150 }
+    {
+        10 + 4 * self.entry_count()
     }
 
     // Makes note and index area what the first call is lent: the stored index where the note says that it is built, and what is left over.
-    pub fn start(self, areas: &mut Areas) {
+    // Of two entries with one place the first stays.
+    pub fn start(self, areas: &mut Areas<'_>) {
         areas.note = self.first_note();
         areas.index.fill(self.left_over());
         if areas.note != BUILT {
@@ -62,33 +65,39 @@ impl<'a> Session<'a> {
         }
         let n = self.text().len().min(areas.index.len());
         areas.index[..n].fill(0);
-        for entry in self.entries().chunks_exact(4) {
-            let (place, close) = entry_of(entry);
+        for k in (0..self.entry_count()).rev() {
+            let (place, close) = self.entry(k);
             if let Some(value) = areas.index.get_mut(place) {
                 *value = close;
             }
         }
     }
 
-    // Whether the places of the text hold the stored index: where an entry is not 0, place and close are the stored ones.
+    // Whether the places of the text hold the stored index: its entries in their order, each with its close at its place, and zeros elsewhere.
     fn has_entries(self, index: &[u16]) -> bool {
-        index
-            .iter()
-            .enumerate()
-            .filter(|(_, close)| **close != 0)
-            .map(|(place, close)| (place, *close))
-            .eq(self.entries().chunks_exact(4).map(entry_of))
+        let mut entries = (0..self.entry_count()).map(|k| self.entry(k)).peekable();
+        for (place, close) in index.iter().enumerate() {
+            let stored = entries
+                .next_if(|entry| entry.0 == place)
+                .map_or(0, |entry| entry.1);
+            if *close != stored {
+                return false;
+            }
+        }
+        entries.next().is_none()
     }
 
     // Whether the index area is as it should be after the calls: built where the note says so, else as it was.
-    pub fn has_index(self, areas: &Areas) -> bool {
+    // (A text as long as the area is refused whatever the index, which isn't compared then.)
+    pub fn has_index(self, areas: &Areas<'_>) -> bool {
         let n = if areas.note == BUILT {
             self.text().len()
         } else {
             0
         };
         areas.index.split_at_checked(n).is_some_and(|(built, rest)| {
-            (areas.note != BUILT || self.has_entries(built)) && is_all(rest, self.left_over())
+            (areas.note != BUILT || rest.is_empty() || self.has_entries(built))
+                && is_all(rest, self.left_over())
         })
     }
 }
