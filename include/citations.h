@@ -5,7 +5,7 @@
  *
  *     cc -std=c99 -Iinclude program.c target/staticlib/libexports.a
  *
- * The archive has no data that changes, allocates nothing, and needs only the C library's memory functions (memcpy, memmove, memset).
+ * The archive has no data that changes, allocates nothing, and needs only the C library's memory functions (memset, memmove).
  *
  * A text is UTF-8 bytes. A group is a bracket such as `[see @ant, p. 3; -@bee]`: items with a key each, parted by `;`. The rules are under
  * THE INPUT.
