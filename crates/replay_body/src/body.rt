@@ -29,7 +29,7 @@ impl<'a> Body<'a> {
     }
 
     // The two bytes at `at`, the lower one first; 0 past the end.
-    pub(crate) fn word(self, at: usize) -> u16 {
+    pub fn word(self, at: usize) -> u16 {
         match self.after(at).0 {
             [low, high, ..] => u16::from_le_bytes([*low, *high]),
             _ => 0,

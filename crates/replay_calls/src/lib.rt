@@ -2,7 +2,7 @@
 // docs/DIFFERENCES.md has the body of each kind.
 #![tactic(auto)]
 
-mod numbers;
+pub mod numbers;
 pub mod parts;
 pub mod pools;
 pub mod sessions;
