@@ -70,9 +70,9 @@ module _ (n : ℕ) (A Y : List ℕ) where
         let d : take (length A - k) (drop k A) ≡ drop k A = take_all (length A - k) (drop k A) (rw length-drop (omega arith)) in
         rw d (left_is (trim_both A Y (rw p at h) g ∙ rw (← p, ← e) refl) (rw length-append (omega arith)))
 
-    author_whole : k < length A → trim_end Y 0 (length Y) ≡ 0 → trim A ≡ author_year n A Y
+    pub author_left : k < length A → trim_end Y 0 (length Y) ≡ 0 → trim A ≡ author_year n A Y
     unfolding trim
-    author_whole h g = left_is (trim_first A Y (rw p at h) (omega arith)) (trimmed_some A (rw p at h))
+    author_left h g = left_is (trim_first A Y (rw p at h) (omega arith)) (trimmed_some A (rw p at h))
 
     module _ {e : ℕ} (q : e ≡ trim_end A k (length A)) where
       end : e ≡ trim_end A (trim_start A 0 (length A)) (length A)
@@ -84,8 +84,8 @@ module _ (n : ℕ) (A Y : List ℕ) where
       pub author_inside : e ≤ length A
       author_inside = trim_inside A p end
 
-      pub author_left : k < length A → trim_end Y 0 (length Y) ≡ 0 → take (e - k) (drop k A) ≡ author_year n A Y
-      author_left h g = trim_is A p end ∙ author_whole h g
+      pub author_slice : k < length A → trim_end Y 0 (length Y) ≡ 0 → take (e - k) (drop k A) ≡ author_year n A Y
+      author_slice h g = trim_is A p end ∙ author_left h g
 
     pub year_left : length A ≤ k → or_number (trim Y) n ≡ author_year n A Y
     unfolding author_year trim
@@ -128,4 +128,4 @@ end_part s {e} p = sym (length-take-le e s (omega (arith, end_by s 0 (length s))
 
 pub ruleset end_laws = (end_part, number_ends, number_whole, nothing_ends)
 
-pub ruleset named_laws = (both_left, author_order, author_inside, author_left, year_left, number_left, nothing_left)
+pub ruleset named_laws = (both_left, author_left, author_order, author_inside, author_slice, year_left, number_left, nothing_left)
