@@ -86,8 +86,8 @@ impl Kind {
             Kind::Item => replay_calls::parts::item_agrees(body),
             Kind::Pool => replay_calls::pools::pool_agrees(body),
             Kind::Source => replay_calls::pools::source_agrees(body),
-            Kind::LookUp => replay_calls::sessions::look_ups_agree(body),
-            Kind::Annotate => replay_calls::sessions::annotations_agree(body),
+            Kind::LookUp => replay_calls::look_ups::look_ups_agree(body),
+            Kind::Annotate => replay_calls::annotations::annotations_agree(body),
         }
     }
 }

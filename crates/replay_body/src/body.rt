@@ -1,6 +1,7 @@
 // A record's body: the request's numbers, the answer's numbers, two bytes each, then bytes.
 // Each is read at its place, and is 0 past the end.
 ghost use Rattle.std.specs.Prelude.{◌≡◌, ◌≤◌, take, drop, get_or};
+ghost use Rattle.replay_body.specs.Bodies.{number_at, length_at};
 
 // The bytes of a body, or of its rest.
 #[derive(Clone, Copy)]
@@ -29,7 +30,9 @@ impl<'a> Body<'a> {
     }
 
     // The two bytes at `at`, the lower one first; 0 past the end.
-    pub fn word(self, at: usize) -> u16 {
+    pub fn word(self, at: usize) -> u16
+        ensures { result ≡ number_at self.entry.0.now at }
+    {
         match self.after(at).0 {
             [low, high, ..] => u16::from_le_bytes([*low, *high]),
             _ => 0,
@@ -38,14 +41,16 @@ impl<'a> Body<'a> {
 
     // The number in the two bytes at `at`.
     pub fn number(self, at: usize) -> usize
-        ensures { result ≤ 65535 }
+        ensures number { result ≡ number_at self.entry.0.now at }
+        ensures within { result ≤ 65535 }
     {
         usize::from(self.word(at))
     }
 
     // The number in the three bytes at `at`, the lowest first; 0 past the end.
     pub fn length(self, at: usize) -> usize
-        ensures { result ≤ 16777215 }
+        ensures number { result ≡ length_at self.entry.0.now at }
+        ensures within { result ≤ 16777215 }
     {
         match self.after(at).0 {
             [low, middle, high, ..] => usize::from(u16::from_le_bytes([*low, *middle]))

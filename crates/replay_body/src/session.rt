@@ -1,8 +1,9 @@
 // A session: a text, and calls on it one after the other, with index and note kept between them.
 // What the index area holds before the first call, and whether it holds the stored index after the last.
-ghost use Rattle.std.specs.Prelude.{◌≤◌};
+ghost use Rattle.std.specs.Prelude.{◌≡◌, ◌≤◌, ◌+◌, ◌*◌, IsTrue, drop, get_or, length, vec_len};
+ghost use Rattle.replay_body.specs.Bodies.{number_at, text_of};
 
-use crate::areas::{Areas, is_all};
+use crate::areas::{AreaSlices, Areas, is_all};
 use crate::body::Body;
 use resolve::BUILT;
 
@@ -12,12 +13,16 @@ pub struct Session<'a>(pub Body<'a>);
 
 impl<'a> Session<'a> {
     // The text: the body's end.
-    pub fn text(self) -> &'a [u8] {
+    pub fn text(self) -> &'a [u8]
+        ensures { result.now ≡ text_of self.entry.0.0.now }
+    {
         self.0.after(self.0.length(0)).0
     }
 
     // The note that the first call is given.
-    fn first_note(self) -> u8 {
+    fn first_note(self) -> u8
+        ensures { result ≡ get_or self.entry.0.0.now 3 0 }
+    {
         self.0.byte(3)
     }
 
@@ -35,7 +40,7 @@ impl<'a> Session<'a> {
 
     // How many entries the stored index has.
     fn entry_count(self) -> usize
-        ensures { result ≤ 65535 }
+        ensures { (result ≡ number_at self.entry.0.0.now 8) × (result ≤ 65535) }
     {
         self.0.number(8)
     }
@@ -49,15 +54,23 @@ impl<'a> Session<'a> {
     }
 
     // Where the first call begins.
-    pub fn calls(self) -> usize
-        ensures { result ≤ 262150 }
+    pub fn calls_at(self) -> usize
+        ensures place { result ≡ 10 + 4 * number_at self.entry.0.0.now 8 }
+        ensures within { result ≤ 262150 }
     {
         10 + 4 * self.entry_count()
     }
 
+    // The first call, and what follows it.
+    pub fn calls(self) -> Body<'a>
+        ensures { result.0.now ≡ drop (10 + 4 * number_at self.entry.0.0.now 8) self.entry.0.0.now }
+    {
+        self.0.after(self.calls_at())
+    }
+
     // Makes note and index area what the first call is lent: the stored index where the note says that it is built, and what is left over.
     // Of two entries with one place the first stays.
-    pub fn start(self, areas: &mut Areas<'_>) {
+    pub fn start_in(self, areas: &mut AreaSlices<'_>) {
         areas.note = self.first_note();
         areas.index.fill(self.left_over());
         if areas.note != BUILT {
@@ -71,6 +84,25 @@ impl<'a> Session<'a> {
                 *value = close;
             }
         }
+    }
+
+    // Makes note and index area of the heap what the first call is lent, as `start_in` does. The areas of an answer stay as they are.
+    pub fn start(self, areas: &mut Areas)
+        ensures note { areas.new.note ≡ get_or self.entry.0.0.now 3 0 }
+        ensures kept { (areas.new.items ≡ areas.old.items) × (areas.new.groups ≡ areas.old.groups)
+            × (areas.new.references ≡ areas.old.references) × (areas.new.labels ≡ areas.old.labels) }
+    {
+        let mut slices = AreaSlices {
+            note: areas.note,
+            index: &mut areas.index,
+            items: &mut [],
+            groups: &mut [],
+            references: &mut [],
+            labels: &mut [],
+        };
+        self.start_in(&mut slices);
+        let note = self.first_note();
+        areas.note = note;
     }
 
     // Whether the places of the text hold the stored index: its entries in their order, each with its close at its place, and zeros elsewhere.
@@ -89,7 +121,7 @@ impl<'a> Session<'a> {
 
     // Whether the index area is as it should be after the calls: built where the note says so, else as it was.
     // (A text as long as the area is refused whatever the index, which isn't compared then.)
-    pub fn has_index(self, areas: &Areas<'_>) -> bool {
+    pub fn has_index_in(self, areas: &AreaSlices<'_>) -> bool {
         let n = if areas.note == BUILT {
             self.text().len()
         } else {
@@ -98,6 +130,18 @@ impl<'a> Session<'a> {
         areas.index.split_at_checked(n).is_some_and(|(built, rest)| {
             (areas.note != BUILT || rest.is_empty() || self.has_entries(built))
                 && is_all(rest, self.left_over())
+        })
+    }
+
+    // Whether the index area of the heap is as it should be after the calls, also of a text as long as the area.
+    // (Beside `has_index_in`: an area that is lent for reading gives no `AreaSlices`.)
+    pub fn has_index(self, areas: &Areas) -> bool
+        ensures { IsTrue result → areas.now.note ≡ 1 → length (text_of self.entry.0.0.now) ≤ vec_len areas.now.index }
+    {
+        let is_built = areas.note == BUILT;
+        let places = if is_built { self.text().len() } else { 0 };
+        areas.index.split_at_checked(places).is_some_and(|(built, rest)| {
+            (!is_built || self.has_entries(built)) && is_all(rest, self.left_over())
         })
     }
 }
